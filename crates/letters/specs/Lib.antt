@@ -1,0 +1,4 @@
+pub mod Code
+pub mod Place
+pub mod Entry
+pub mod Gc
