@@ -1,0 +1,5 @@
+pub mod Setup
+pub mod Counts
+pub mod Scans
+pub mod Score
+pub mod Queue

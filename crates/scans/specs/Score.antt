@@ -1,0 +1,40 @@
+-- The paper, 'Letters and places': the exact score of a stretch, in whole multiples of 2^-1074, and the letters it gives evidence for.
+use Prim.Native.Nat.{ℕ, zero, suc, _+_, _*_, _≤_, _<_}
+use mathlib.Core.List.{List}
+use lib.ListN.{length, take, drop}
+use lib.IntN.{ℤ, pos, negℤ, _+ℤ_, _-ℤ_, _*ℤ_}
+use lib.Signed.{_≤ℤ_}
+use Rattle.floats.specs.Binary64.{one, value64}
+use Rattle.letters.specs.Place.{Place}
+use Rattle.scans.specs.Setup.{Setup, lnAt, fAt, kmers}
+use Rattle.scans.specs.Counts.{count}
+
+-- ln entries 1..m.
+unfoldable pub lnSum : Setup → ℕ → ℤ
+lnSum S zero = pos 0
+lnSum S (suc m) = lnSum S m +ℤ value64 (lnAt S (suc m))
+
+-- For each k-mer below b, found m times: ln entries 1..m.
+unfoldable pub lnSums : Setup → ℕ → List Place → ℤ
+lnSums S zero q = pos 0
+lnSums S (suc b) q = lnSums S b q +ℤ lnSum S (count b q)
+
+-- Minus L times T, minus f entry L.
+unfoldable pub score : Setup → List Place → ℤ
+score S q = lnSums S (kmers S) q -ℤ pos (length q) *ℤ value64 (S .threshold) -ℤ value64 (fAt S (length q))
+
+-- Places first .. first + size - 1.
+abbrev pub stretch : List Place → ℕ → ℕ → List Place
+stretch ps first size = take size (drop first ps)
+
+-- The letter x lies in the letters max(0, first - k + 1) .. first + size - 1 of a stretch of 1 to w places of the strand `ps`
+-- whose exact score is at least -(n + w + 4) / 2^32, n being the number of the strand's letters.
+pub record Evidence (S : Setup) (ps : List Place) (x : ℕ) : Type 0 where
+  pub first : ℕ
+  pub size : ℕ
+  pub nonempty : 0 < size
+  pub short : size ≤ S .window-size
+  pub within : first + size ≤ length ps
+  pub from : first + 1 ≤ x + S .kmer
+  pub to : x < first + size
+  pub high : negℤ (pos ((length ps + S .window-size + 4) * one)) ≤ℤ (score S (stretch ps first size) *ℤ pos 4294967296)
