@@ -7,8 +7,7 @@ use lib.ListN.{length, getD, drop}
 use lib.Dec.{eqb, ltb, leb}
 use lib.IntN.{ℤ, pos, negsuc}
 use lib.Ieee.{Float, nan, binary64, add, sub, neg, le, lt, ofBits}
-use Rattle.floats.specs.Binary64.{zero64}
-use Rattle.floats.specs.Tests.{slack, nearZero}
+use Rattle.floats.specs.Binary64.{zero64, slack, nearZero}
 use Rattle.letters.specs.Place.{Place, ambiguous, plain}
 use Rattle.scans.specs.Setup.{Setup, lnAt, fAt, dropLimit, maxTest}
 use Rattle.scans.specs.Counts.{count, raise, cleared}

@@ -3,16 +3,9 @@ use Prim.Native.Nat.{ℕ, zero, suc}
 use mathlib.Core.Bool.{Bool, true, _&&_}
 use mathlib.Core.List.{List}
 use lib.ListN.{getD}
-use lib.Ieee.{Float, nan, binary64, ofBits, le}
-use Rattle.floats.specs.Binary64.{zero64}
+use lib.Ieee.{Float, nan, le}
+use Rattle.floats.specs.Binary64.{zero64, sixteen, twoTo20}
 use Rattle.scans.specs.Setup.{Setup}
-
-abbrev pub sixteen : Float
-sixteen = ofBits binary64 0x4030_0000_0000_0000
-
--- 1,048,576
-abbrev pub million : Float
-million = ofBits binary64 0x4130_0000_0000_0000
 
 abbrev pub between : Float → Float → Bool
 between high x = le zero64 x && le x high
@@ -24,4 +17,4 @@ tableInRange high table (suc m) = tableInRange high table m && between high (get
 
 unfoldable pub inRange : Setup → Bool
 inRange S =
-    le (S .threshold) sixteen && (tableInRange sixteen (S .ln) (S .window-size) && tableInRange million (S .f) (S .window-size))
+    le (S .threshold) sixteen && (tableInRange sixteen (S .ln) (S .window-size) && tableInRange twoTo20 (S .f) (S .window-size))
