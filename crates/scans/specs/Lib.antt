@@ -2,4 +2,4 @@ pub mod Setup
 pub mod Counts
 pub mod Scans
 pub mod Score
-pub mod Queue
+pub mod Window

@@ -9,7 +9,7 @@ use lib.IntN.{ℤ, pos, negsuc}
 use lib.Ieee.{Float, nan, binary64, add, sub, neg, le, lt, ofBits}
 use Rattle.floats.specs.Binary64.{zero64, slack, nearZero}
 use Rattle.letters.specs.Place.{Place, ambiguous, plain}
-use Rattle.scans.specs.Setup.{Setup, lnAt, fAt, dropLimit, maxTest}
+use Rattle.scans.specs.Setup.{Setup, lnAt, fAt}
 use Rattle.scans.specs.Counts.{count, raise, cleared}
 
 -- A find is an index of the window.
@@ -47,7 +47,7 @@ maxSteps (pos m) len = min m len
 maxSteps (negsuc m) len = len
 
 unfoldable pub ifBackward : Setup → List Place → Bool
-ifBackward S q = ifBackwardFrom S q (maxSteps (maxTest S) (length q)) (length q) zero64
+ifBackward S q = ifBackwardFrom S q (maxSteps (S .max-test) (length q)) (length q) zero64
 
 -- ---- The forward scan.
 -- What a place adds: the ln entry of its raised scan count, 0 if ambiguous.
@@ -121,9 +121,9 @@ isNoted a sl = lt sl (a .last) && (lt zero64 (a .last) && nearZero (sub binary64
 abbrev pub noted : BackwardSums → Float → ℕ → List Candidate → List Candidate
 noted a sl i cs = cond (isNoted a sl) (cs ++ candidate (i + 1) (a .best) ∷ []) cs
 
--- Once there is a best place, best less score is above xdrop times T.
+-- Once there is a best place, best less score is above the drop limit, xdrop times T (none: w times T).
 abbrev pub isDropped : Setup → BackwardSums → Float → Bool
-isDropped S a sl = not (le (a .best) sl) && (not (eqb (a .found) 0) && lt (dropLimit S) (sub binary64 (a .best) sl))
+isDropped S a sl = not (le (a .best) sl) && (not (eqb (a .found) 0) && lt (S .drop-limit) (sub binary64 (a .best) sl))
 
 -- An equal score is the new best.
 abbrev pub backwardJudged : BackwardSums → Float → Float → Float → ℕ → BackwardSums

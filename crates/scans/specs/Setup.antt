@@ -1,4 +1,4 @@
--- The paper, 'Records' and 'Step and scans': the options and the two tables that a run goes by, and the numbers that follow from them.
+-- The paper, 'Records' and 'Step and scans': the numbers and the two tables that a run goes by.
 use Prim.Native.Nat.{ℕ, zero, suc, _^_}
 use mathlib.Core.Bool.{Bool, cond}
 use mathlib.Core.List.{List}
@@ -8,14 +8,16 @@ use lib.Ieee.{Float, nan, binary64, add, sub, mul, div, lt, toSigned}
 use Rattle.floats.specs.Binary64.{zero64, number}
 use Rattle.scans.specs.declared.Xdrop.{Xdrop}
 use Rattle.scans.specs.declared.Xdrop.the-variants.{Off, Length}
+use Rattle.scans.specs.declared.Params.{Params}
 
 pub record Setup : Type 0 where
   pub kmer : ℕ  -- k
   pub window-size : ℕ  -- w
   pub threshold : Float  -- T
-  pub xdrop : Xdrop
   pub min-start-cnt : ℕ
+  pub drop-limit : Float
   pub approx : Bool
+  pub max-test : ℤ
   pub ln : List Float
   pub f : List Float
 
@@ -29,22 +31,37 @@ fAt S l = getD (S .f) l nan
 abbrev pub kmers : Setup → ℕ
 kmers S = 4 ^ (S .kmer)
 
--- xdrop times T; none: w times T.
+-- The drop limit is xdrop times T; none: w times T.
 abbrev pub dropPlaces : Xdrop → ℕ → ℕ
 dropPlaces Off w = w
 dropPlaces (Length l) w = l
 
-abbrev pub dropLimit : Setup → Float
-dropLimit S = mul binary64 (S .threshold) (number (dropPlaces (S .xdrop) (S .window-size)))
+unfoldable pub dropLimit : Xdrop → ℕ → Float → Float
+dropLimit xdrop w t = mul binary64 t (number (dropPlaces xdrop w))
 
 -- max_test: the first i in 1..w with sum(ln - T) - f[i] > 0 gives (i times ln[i]) / T, cut towards zero to a signed 32-bit number; none gives 0.
 -- `m` entries are left, the next is i, and s is the sum so far.
-unfoldable pub maxTestFrom : Setup → ℕ → ℕ → Float → ℤ
-maxTestFrom S zero i s = pos 0
-maxTestFrom S (suc m) i s =
-    let s′ : Float = add binary64 s (sub binary64 (lnAt S i) (S .threshold)) in
-    let later : ℤ = maxTestFrom S m (suc i) s′ in
-    cond (lt zero64 (sub binary64 s′ (fAt S i))) (toSigned 31 (div binary64 (mul binary64 (number i) (lnAt S i)) (S .threshold))) later
+unfoldable pub maxTestFrom : Float → List Float → List Float → ℕ → ℕ → Float → ℤ
+maxTestFrom t ln f zero i s = pos 0
+maxTestFrom t ln f (suc m) i s =
+    let s′ : Float = add binary64 s (sub binary64 (getD ln i nan) t) in
+    let later : ℤ = maxTestFrom t ln f m (suc i) s′ in
+    cond (lt zero64 (sub binary64 s′ (getD f i nan))) (toSigned 31 (div binary64 (mul binary64 (number i) (getD ln i nan)) t)) later
 
-unfoldable pub maxTest : Setup → ℤ
-maxTest S = maxTestFrom S (S .window-size) 1 zero64
+unfoldable pub maxTest : ℕ → Float → List Float → List Float → ℤ
+maxTest w t ln f = maxTestFrom t ln f w 1 zero64
+
+-- The setup of the code's numbers and its two tables.
+abbrev pub setupOf : Params → List Float → List Float → Setup
+setupOf p ln f =
+    record {
+      kmer = p .kmer;
+      window-size = p .window;
+      threshold = p .threshold;
+      min-start-cnt = p .least;
+      drop-limit = p .limit;
+      approx = p .approx;
+      max-test = p .test;
+      ln = ln;
+      f = f;
+    }

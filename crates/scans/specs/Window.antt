@@ -1,0 +1,46 @@
+-- The window in a ring of w numbers: `len` entries, the oldest at `head`; what the scans ask of it and how they answer.
+use mathlib.Core.Path.{_≡_}
+use Prim.Native.Nat.{ℕ, zero, suc, _/_, _^_, _<_, _≤_}
+use mathlib.Core.List.{List, _++_}
+use lib.ListN.{length, getD, take, drop}
+use Rattle.letters.specs.Place.{Place}
+use Rattle.letters.specs.Entry.{decoded}
+use Rattle.scans.specs.Counts.{count}
+use Rattle.scans.specs.Scans.{Find, none, at, Outcome}
+use Rattle.scans.specs.declared.Params.{Params}
+
+unfoldable pub queue : List ℕ → ℕ → ℕ → List ℕ
+queue ring head len = take len (drop head ring ++ take head ring)
+
+-- The places of the window, the oldest first.
+abbrev pub window : List ℕ → ℕ → ℕ → List Place
+window ring head len = decoded (queue ring head len)
+
+-- A ring of w numbers holds a window, the window counts are its counts, and the ln table reaches to w.
+pub record Windowed (p : Params) (ring : List ℕ) (head len : ℕ) (window-counts : List ℕ) (ln-length : ℕ) : Type 0 where
+  pub ring-is : length ring ≡ p .window
+  pub wide : 1 < p .window
+  pub small : p .window ≤ 65535
+  pub head-in : head < p .window
+  pub len-in : len ≤ p .window
+  pub ln-long : p .window < ln-length
+  pub counts-long : length window-counts ≡ 4 ^ p .kmer
+  pub below : (j : ℕ) → j < len → getD (queue ring head len) j 0 / 2 < 4 ^ p .kmer
+  pub counted : (x : ℕ) → getD window-counts x 0 ≡ count x (window ring head len)
+
+-- The f table, the scan counts and the candidates are long enough.
+pub record Roomy (p : Params) (f-length counts-length places-length scores-length : ℕ) : Type 0 where
+  pub f-long : p .window < f-length
+  pub counts-is : counts-length ≡ 4 ^ p .kmer
+  pub places-long : p .window ≤ places-length
+  pub scores-long : p .window ≤ scores-length
+
+-- A number as a find: one past its index, 0 for none.
+abbrev pub findOf : ℕ → Find
+findOf zero = none
+findOf (suc j) = at j
+
+-- The answer r and the scan counts left are those of an outcome.
+pub record Tells (o : Outcome) (r : ℕ) (counts : List ℕ) : Type 0 where
+  pub find-is : findOf r ≡ o .find
+  pub counts-are : counts ≡ o .counts
