@@ -1,0 +1,11 @@
+pub mod Value
+pub mod Rounding
+pub mod Arithmetic
+pub mod Compare
+pub mod Binary64
+pub mod Tests
+pub mod Constants
+pub mod Range
+pub mod Sums
+pub mod Whole
+pub mod Cut

@@ -1,0 +1,58 @@
+-- The paper's 64-bit floats: their values in units of 2^-1074, its numbers 0, 1e-9, 1e-6, 16 and 1,048,576 as floats, its ranges, and the scans' test 'within 1e-9'.
+use mathlib.Core.Path.{_≡_}
+use mathlib.Core.Bool.{Bool, _&&_}
+use Prim.Native.Nat.{ℕ, _*_, _^_, _≤_}
+use lib.IntN.{ℤ, pos}
+use lib.Ieee.{Float, binary64, ofBits, ofInt, lt, neg}
+use Rattle.floats.specs.Value.{posPart, negPart, value, Finite}
+
+-- ---- units of 2 ^ -1074
+-- the number 1
+unfoldable pub one : ℕ
+one = 2 ^ 1074
+
+-- 2 ^ -54: a rounding of a number of size at most 2 ^ M is off by at most 2 ^ M of these
+unfoldable pub eps : ℕ
+eps = 2 ^ 1020
+
+abbrev pub pos64 : Float → ℕ
+pos64 x = posPart binary64 x
+
+abbrev pub neg64 : Float → ℕ
+neg64 x = negPart binary64 x
+
+abbrev pub value64 : Float → ℤ
+value64 x = value binary64 x
+
+-- a number from 0 to B, -0 included
+pub record Ranged (B : ℕ) (x : Float) : Type 0 where
+  pub ok : Finite binary64 x
+  pub high : pos64 x ≤ B * one
+  pub low : neg64 x ≡ 0
+
+-- ---- numbers as floats
+abbrev pub number : ℕ → Float
+number n = ofInt binary64 (pos n)
+
+abbrev pub zero64 : Float
+zero64 = ofBits binary64 0
+
+-- 1e-9
+abbrev pub tiny : Float
+tiny = ofBits binary64 0x3e11_2e0b_e826_d695
+
+-- 1e-6
+abbrev pub slack : Float
+slack = ofBits binary64 0x3eb0_c6f7_a0b5_ed8d
+
+-- 16, the most that T and an ln entry may be
+abbrev pub sixteen : Float
+sixteen = ofBits binary64 0x4030_0000_0000_0000
+
+-- 1,048,576, the most that an f entry may be
+abbrev pub twoTo20 : Float
+twoTo20 = ofBits binary64 0x4130_0000_0000_0000
+
+-- ---- |x| < 1e-9, no for a NaN
+abbrev pub nearZero : Float → Bool
+nearZero x = lt x tiny && lt (neg tiny) x
