@@ -3,6 +3,7 @@
 use mathlib.Core.Path.{_≡_, refl, sym, ap, _∙_}
 use mathlib.Core.Logic.{_↔_, Iff·trans}
 use Prim.Native.Nat.{ℕ, _+_, _*_, _^_, _≤_, _<_}
+use lib.IntN.{ℤ}
 use native.Mathlib.Nat.{le-of-eq, le-antisymm, lt-of-not-le, not-le-of-lt, mul-pos, mul-comm}
 use native.Mathlib.Omega.{arith}
 use mathlib.Core.Bool.{Bool, true, false, _||_}
@@ -16,7 +17,7 @@ use Rattle.floats.proofs.Value.{ifPos, ifNeg, magnitude-whole}
 use Rattle.floats.proofs.Arithmetic.{order, widen}
 
 -- ---- ±a against ±b
-pub below-is : (s t : Bool) (a b : ℕ) → T (below s a t b) ↔ (ifPos s a + ifNeg t b < ifPos t b + ifNeg s a)
+below-is : (s t : Bool) (a b : ℕ) → T (below s a t b) ↔ (ifPos s a + ifNeg t b < ifPos t b + ifNeg s a)
 below-is true true a b = (λ u. let h = ltb→lt b a u in omega arith, λ h. lt→ltb b a (omega arith))
 below-is true false a b = (λ u. let h = ltb→lt 0 (a + b) u in omega arith, λ h. lt→ltb 0 (a + b) (omega arith))
 below-is false true a b = (λ u. absurd u, λ h. absurd (never h))
@@ -34,17 +35,31 @@ other-sign a b = (
   λ h. let e : a ≡ b = omega arith in let z : a ≡ 0 = omega arith in and-i (eqb a b) (eqb a 0) (eq→eqb e) (eq→eqb z),
 )
 
-pub level-is : (s t : Bool) (a b : ℕ) → T (level s a t b) ↔ (ifPos s a + ifNeg t b ≡ ifPos t b + ifNeg s a)
+level-is : (s t : Bool) (a b : ℕ) → T (level s a t b) ↔ (ifPos s a + ifNeg t b ≡ ifPos t b + ifNeg s a)
 level-is true true a b = let r = same-sign a b in (λ u. let h = r .0 u in omega arith, λ h. r .1 (omega arith))
 level-is true false a b = let r = other-sign a b in (λ u. let h = r .0 u in omega arith, λ h. r .1 (omega arith))
 level-is false true a b = let r = other-sign a b in (λ u. let h = r .0 u in omega arith, λ h. r .1 (omega arith))
 level-is false false a b = let r = same-sign a b in (λ u. let h = r .0 u in omega arith, λ h. r .1 (omega arith))
 
 -- `le` is `lt` or `eq`
-pub or-is : (u v : Bool) (m n : ℕ) → (T u ↔ (m < n)) → (T v ↔ (m ≡ n)) → T (u || v) ↔ (m ≤ n)
-or-is true v m n a b = (λ t. let h = a .0 tt in omega arith, λ h. tt)
-or-is false true m n a b = (λ t. let h = b .0 tt in omega arith, λ h. tt)
-or-is false false m n a b = (λ t. absurd t, λ h. a .1 (lt-of-not-le (λ g. b .1 (le-antisymm h g))))
+or-is : (u v : Bool) {m n : ℕ} → (T u ↔ (m < n)) → (T v ↔ (m ≡ n)) → T (u || v) ↔ (m ≤ n)
+or-is true v a b = (λ t. let h = a .0 tt in omega arith, λ h. tt)
+or-is false true a b = (λ t. let h = b .0 tt in omega arith, λ h. tt)
+or-is false false a b = (λ t. absurd t, λ h. a .1 (lt-of-not-le (λ g. b .1 (le-antisymm h g))))
+
+-- two finite floats, also such as fit no format, by their sizes over one divisor
+module _ (s t : Bool) (m n : ℕ) (e d : ℤ) where
+  pub lt-fin : T (lt (fin s m e) (fin t n d)) ↔ (ifPos s (m * up e * down d) + ifNeg t (n * up d * down e) < ifPos t (n * up d * down e) + ifNeg s (m * up e * down d))
+  unfolding lt
+  lt-fin = below-is s t (m * up e * down d) (n * up d * down e)
+
+  eq-fin : T (eq (fin s m e) (fin t n d)) ↔ (ifPos s (m * up e * down d) + ifNeg t (n * up d * down e) ≡ ifPos t (n * up d * down e) + ifNeg s (m * up e * down d))
+  unfolding eq
+  eq-fin = level-is s t (m * up e * down d) (n * up d * down e)
+
+  pub le-fin : T (le (fin s m e) (fin t n d)) ↔ (ifPos s (m * up e * down d) + ifNeg t (n * up d * down e) ≤ ifPos t (n * up d * down e) + ifNeg s (m * up e * down d))
+  unfolding le
+  le-fin = or-is (lt (fin s m e) (fin t n d)) (eq (fin s m e) (fin t n d)) lt-fin eq-fin
 
 -- ---- ±a / c against ±b / c, of ±X and ±Y units
 side : (s t : Bool) (a b l X Y c : ℕ) → a * l ≡ X * c → b * l ≡ Y * c → (ifPos s a + ifNeg t b) * l ≡ (ifPos s X + ifNeg t Y) * c
@@ -66,7 +81,7 @@ module _ {u v l U W c : ℕ} (C : 0 < c) (L : 0 < l) (p : u * l ≡ U * c) (q : 
 -- ---- two finite floats
 compared : (f : Format) (x y : Float) → Finite f x → Finite f y
     → (T (lt x y) ↔ (posPart f x + negPart f y < posPart f y + negPart f x)) × (T (eq x y) ↔ (posPart f x + negPart f y ≡ posPart f y + negPart f x))
-unfolding lt eq posPart negPart
+unfolding posPart negPart
 compared f nan y A B = absurd (A .finite)
 compared f (inf s) y A B = absurd (A .finite)
 compared f (fin s m e) nan A B = absurd (B .finite)
@@ -83,7 +98,7 @@ compared f (fin s m e) (fin t n d) A B =
     let C : 0 < c = mul-pos (down-pos e) (down-pos d) in
     let left = side s t a b l X Y c p q in
     let right = side t s b a l Y X c q p in
-    (Iff·trans (below-is s t a b) (lt-units C (pow-pos (low f)) left right), Iff·trans (level-is s t a b) (eq-units C (pow-pos (low f)) left right))
+    (Iff·trans (lt-fin s t m n e d) (lt-units C (pow-pos (low f)) left right), Iff·trans (eq-fin s t m n e d) (eq-units C (pow-pos (low f)) left right))
 
 module _ {f : Format} {x y : Float} (A : Finite f x) (B : Finite f y) where
   pub lt-value : T (lt x y) ↔ (posPart f x + negPart f y < posPart f y + negPart f x)
@@ -94,7 +109,7 @@ module _ {f : Format} {x y : Float} (A : Finite f x) (B : Finite f y) where
 
   pub le-value : T (le x y) ↔ (posPart f x + negPart f y ≤ posPart f y + negPart f x)
   unfolding le
-  le-value = or-is (lt x y) (eq x y) (posPart f x + negPart f y) (posPart f y + negPart f x) lt-value eq-value
+  le-value = or-is (lt x y) (eq x y) lt-value eq-value
 
 -- what lies between two finite floats is finite
 pub finite-between : (lo x hi : Float) → T (finite lo) → T (finite hi) → T (le lo x) → T (le x hi) → T (finite x)
