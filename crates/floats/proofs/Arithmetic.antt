@@ -1,51 +1,58 @@
--- The sum, the difference and the product of two numbers of a format, each within half a unit of the last place of the exact one.
+-- The sum, the difference and the product of two finite floats of a format: where the exact one is at most 2 ^ (prec + 1 + h) units, the float is within 2 ^ h units of it,
+-- half a unit of its last place (`add-near`, `sub-near`, `mul-near`). A sum that the format holds is exact (`add-exact`).
 use mathlib.Core.Path.{_≡_, refl, sym, ap, ap₂, _∙_, subst}
-use Prim.Native.Nat.{ℕ, zero, suc, _+_, _-_, _*_, _/_, _%_, _^_, _≤_, _<_}
-use native.Mathlib.Nat.{le-trans, le-of-eq, lt-of-lt-of-le, lt-of-le-of-lt, mul-pos, mul-one, one-mul, mul-assoc, mul-comm, mul-left-comm, mul-right-comm, mul-sub, add-mul, mul-mul-mul-comm, mul-le-mul-right, mul-lt-mul-of-pos-right, le-of-mul-le-mul-right, lt-of-mul-lt-mul-right}
+use Prim.Native.Nat.{ℕ, suc, _+_, _-_, _*_, _^_, _≤_, _<_}
+use native.Mathlib.Nat.{le-trans, le-of-eq, lt-of-le-of-lt, mul-pos, mul-one, mul-assoc, mul-comm, mul-right-comm, mul-sub, add-mul, mul-mul-mul-comm, mul-le-mul-right, le-of-mul-le-mul-right}
 use native.Mathlib.Omega.{arith}
-use mathlib.Core.Bool.{Bool, true, false, not, _&&_, Bool·beq, cond}
-use lib.IntN.{ℤ}
+use mathlib.Core.Bool.{Bool, true, false, not, cond}
 use lib.Dec.{T, ltb, ltb→lt, nltb→le}
-use lib.Pow.{pow-add, pow-pos, pow-mono, pow-lt}
+use lib.Pow.{pow-pos}
 use lib.Ieee.{Float, nan, inf, fin, Format, prec, emax, low, up, down, unlike, round, sum, add, sub, neg, mul}
-use lib.Ieee.Fits.{round-fits, down-pos, neg-fits, add-fits, mul-fits}
+use lib.Ieee.Fits.{round-fits, down-pos, neg-fits}
 use lib.Ieee.Scale.{grid, overflow}
-use Rattle.floats.specs.Value.{magnitude, sign, posPart, negPart, Finite, Near}
+use Rattle.floats.specs.Value.{magnitude, posPart, negPart, Finite, Near}
 use Rattle.floats.proofs.Value.{ifPos, ifNeg, magnitude-whole, magnitude-of-value, pos-of-value, neg-of-value, near-intro}
 use Rattle.floats.proofs.Rounding.{grid-near, grid-small, grid-exact, round-value, no-overflow}
 
 -- ---- a number of W units, however it is written as a fraction and whatever its sign, rounds to one that is within E of it
-abbrev pub Rounds : Format → ℕ → ℕ → Type 0
+abbrev Rounds : Format → ℕ → ℕ → Type 0
 Rounds f W E = (s : Bool) (num den P N : ℕ) → 0 < den → num * 2 ^ low f ≡ W * den → ifPos s W + N ≡ P + ifNeg s W → Near f (round f s num den) P N E
 
 -- up to 2 ^ (prec + 1 + h): within 2 ^ h
-pub rounds-near : (f : Format) (h W : ℕ) → prec f + suc h ≤ low f + emax f → W ≤ 2 ^ (prec f + suc h) → Rounds f W (2 ^ h)
+rounds-near : (f : Format) (h W : ℕ) → prec f + suc h ≤ low f + emax f → W ≤ 2 ^ (prec f + suc h) → Rounds f W (2 ^ h)
 rounds-near f h W top small s num den P N D e eq =
     let g = grid f num den in
     let e1 : num * 2 ^ low f * 1 ≡ W * den = mul-one (num * 2 ^ low f) ∙ e in
     let small1 : W ≤ 2 ^ (prec f + suc h) * 1 = le-trans small (le-of-eq (sym (mul-one (2 ^ (prec f + suc h))))) in
     let near = grid-near f num den h 1 W D (pow-pos 0) e1 small1 in
-    near-intro f (round f s num den) s g W P N (2 ^ h) (round-fits f s num den) (round-value f s num den (no-overflow f h g top (grid-small f num den h 1 W D (pow-pos 0) e1 small1))) (omega (arith, near .0)) (omega (arith, near .1)) eq
+    near-intro f (round f s num den) s g W P N (2 ^ h) (round-fits f s num den) (round-value f s num den (no-overflow f h g top (grid-small f num den h 1 W D (pow-pos 0) e1 small1)))
+    (omega (arith, near .0)) (omega (arith, near .1)) eq
 
 -- q * 2 ^ j with q of no more digits than the format keeps: exact
-pub rounds-exact : (f : Format) (q j W : ℕ) → W ≡ q * 2 ^ j → q < 2 ^ prec f → W < overflow f → Rounds f W 0
+rounds-exact : (f : Format) (q j W : ℕ) → W ≡ q * 2 ^ j → q < 2 ^ prec f → W < overflow f → Rounds f W 0
 rounds-exact f q j W w small o s num den P N D e eq =
     let g : grid f num den ≡ W = grid-exact f num den q j D small (e ∙ ap (λ (z : ℕ). z * den) w) ∙ sym w in
     near-intro f (round f s num den) s (grid f num den) W P N 0 (round-fits f s num den) (round-value f s num den (lt-of-le-of-lt (le-of-eq g) o)) (omega arith) (omega arith) eq
 
--- ---- the sum ±a / c + ±b / c, of ±X and ±Y units
+-- ---- a / c and b / c, of X and Y units
+pub order : (a b l X Y c : ℕ) → 0 < c → a * l ≡ X * c → b * l ≡ Y * c → a ≤ b → X ≤ Y
+order a b l X Y c C p q h = le-of-mul-le-mul-right (le-trans (le-of-eq (sym p)) (le-trans (mul-le-mul-right l h) (le-of-eq q))) C
+
 diff : (a b l X Y c : ℕ) → a * l ≡ X * c → b * l ≡ Y * c → (b - a) * l ≡ (Y - X) * c
 diff a b l X Y c p q =
     mul-comm (b - a) l ∙ mul-sub l b a ∙ ap₂ (λ (x y : ℕ). x - y) (mul-comm l b ∙ q ∙ mul-comm Y c) (mul-comm l a ∙ p ∙ mul-comm X c) ∙ sym (mul-sub c Y X) ∙ mul-comm c (Y - X)
 
-pub order : (a b l X Y c : ℕ) → 0 < c → a * l ≡ X * c → b * l ≡ Y * c → a ≤ b → X ≤ Y
-order a b l X Y c C p q h = le-of-mul-le-mul-right (le-trans (le-of-eq (sym p)) (le-trans (mul-le-mul-right l h) (le-of-eq q))) C
+-- m * up e * down d / (down e * down d) is as many units as m * up e / down e
+pub widen : (m u d c l x : ℕ) → x * d ≡ m * u * l → m * u * c * l ≡ x * (d * c)
+widen m u d c l x e = mul-right-comm (m * u) c l ∙ ap (λ (z : ℕ). z * c) (sym e) ∙ mul-assoc x d c
 
+-- ---- the sum ±a / c + ±b / c, of ±X and ±Y units
 -- |P - N|
 abbrev pub dist : ℕ → ℕ → ℕ
 dist P N = (P - N) + (N - P)
 
 module _ (f : Format) (a b c X Y E : ℕ) (C : 0 < c) (p : a * 2 ^ low f ≡ X * c) (q : b * 2 ^ low f ≡ Y * c) where
+  -- a + b
   both : (s : Bool) (P N : ℕ) → Rounds f (X + Y) E → ifPos s (X + Y) + N ≡ P + ifNeg s (X + Y) → Near f (round f s (a + b) c) P N E
   both s P N r e = r s (a + b) c P N C (add-mul a b (2 ^ low f) ∙ ap₂ (λ (x y : ℕ). x + y) p q ∙ sym (add-mul X Y c)) e
 
@@ -74,69 +81,69 @@ module _ (f : Format) (a b c X Y E : ℕ) (C : 0 < c) (p : a * 2 ^ low f ≡ X *
           let w : X ≤ Y = order a b (2 ^ low f) X Y c C p q (z tt) in
           more f b a c Y X E C q p false (0 + Y) (X + 0) (dist (0 + Y) (X + 0)) (y tt) r (λ (o : Y ≤ X). omega arith) (λ (o : Y ≤ X). omega arith)
 
--- m * up e * down d / (down e * down d) is as many units as m * up e / down e
-pub widen : (m u d c l x : ℕ) → x * d ≡ m * u * l → m * u * c * l ≡ x * (d * c)
-widen m u d c l x e = mul-right-comm (m * u) c l ∙ ap (λ (z : ℕ). z * c) (sym e) ∙ mul-assoc x d c
-
-pub add-rounds : (f : Format) (E : ℕ) (x y : Float) → Finite f x → Finite f y → Rounds f (dist (posPart f x + posPart f y) (negPart f x + negPart f y)) E → Near f (add f x y) (posPart f x + posPart f y) (negPart f x + negPart f y) E
+add-rounds : (f : Format) (E : ℕ) (x y : Float) → Finite f x → Finite f y → Rounds f (dist (posPart f x + posPart f y) (negPart f x + negPart f y)) E
+    → Near f (add f x y) (posPart f x + posPart f y) (negPart f x + negPart f y) E
 unfolding add posPart negPart
 add-rounds f E nan y a b r = absurd (a .finite)
 add-rounds f E (inf s) y a b r = absurd (a .finite)
 add-rounds f E (fin s m e) nan a b r = absurd (b .finite)
 add-rounds f E (fin s m e) (inf t) a b r = absurd (b .finite)
 add-rounds f E (fin s m e) (fin t n d) a b r =
-    sum-near f (m * up e * down d) (n * up d * down e) (down e * down d) (magnitude f (fin s m e)) (magnitude f (fin t n d)) E (mul-pos (down-pos e) (down-pos d))
-    (widen m (up e) (down e) (down d) (2 ^ low f) (magnitude f (fin s m e)) (magnitude-whole f s m e (a .fits)))
-    (widen n (up d) (down d) (down e) (2 ^ low f) (magnitude f (fin t n d)) (magnitude-whole f t n d (b .fits)) ∙ ap (λ (z : ℕ). magnitude f (fin t n d) * z) (mul-comm (down d) (down e)))
+    let X = magnitude f (fin s m e) in
+    let Y = magnitude f (fin t n d) in
+    sum-near f (m * up e * down d) (n * up d * down e) (down e * down d) X Y E (mul-pos (down-pos e) (down-pos d))
+    (widen m (up e) (down e) (down d) (2 ^ low f) X (magnitude-whole f s m e (a .fits)))
+    (widen n (up d) (down d) (down e) (2 ^ low f) Y (magnitude-whole f t n d (b .fits)) ∙ ap (λ (z : ℕ). Y * z) (mul-comm (down d) (down e)))
     s t r
 
 within : (P N B : ℕ) → P ≤ N + B → N ≤ P + B → dist P N ≤ B
 within P N B u v = omega arith
 
-pub add-near : (f : Format) (h : ℕ) (x y : Float) → prec f + suc h ≤ low f + emax f → Finite f x → Finite f y
+pub add-near : {f : Format} (h : ℕ) {x y : Float} → prec f + suc h ≤ low f + emax f → Finite f x → Finite f y
     → posPart f x + posPart f y ≤ negPart f x + negPart f y + 2 ^ (prec f + suc h) → negPart f x + negPart f y ≤ posPart f x + posPart f y + 2 ^ (prec f + suc h)
     → Near f (add f x y) (posPart f x + posPart f y) (negPart f x + negPart f y) (2 ^ h)
-add-near f h x y top a b u v =
+add-near {f} h {x} {y} top a b u v =
     let P = posPart f x + posPart f y in
     let N = negPart f x + negPart f y in
     add-rounds f (2 ^ h) x y a b (rounds-near f h (dist P N) top (within P N (2 ^ (prec f + suc h)) u v))
 
--- a sum that the format holds is exact
-pub add-exact : (f : Format) (q j : ℕ) (x y : Float) → Finite f x → Finite f y → dist (posPart f x + posPart f y) (negPart f x + negPart f y) ≡ q * 2 ^ j → q < 2 ^ prec f → dist (posPart f x + posPart f y) (negPart f x + negPart f y) < overflow f
-    → Near f (add f x y) (posPart f x + posPart f y) (negPart f x + negPart f y) 0
-add-exact f q j x y a b w small o = add-rounds f 0 x y a b (rounds-exact f q j (dist (posPart f x + posPart f y) (negPart f x + negPart f y)) w small o)
+-- a sum of q * 2 ^ j units with q of no more digits than the format keeps
+pub add-exact : {f : Format} (q j : ℕ) {x y : Float} → Finite f x → Finite f y → dist (posPart f x + posPart f y) (negPart f x + negPart f y) ≡ q * 2 ^ j → q < 2 ^ prec f
+    → dist (posPart f x + posPart f y) (negPart f x + negPart f y) < overflow f → Near f (add f x y) (posPart f x + posPart f y) (negPart f x + negPart f y) 0
+add-exact {f} q j {x} {y} a b w small o = add-rounds f 0 x y a b (rounds-exact f q j (dist (posPart f x + posPart f y) (negPart f x + negPart f y)) w small o)
 
 -- ---- the difference
-pub neg-ok : (f : Format) (x : Float) → Finite f x → Finite f (neg x)
+neg-finite : (f : Format) (x : Float) → Finite f x → Finite f (neg x)
 unfolding neg
-neg-ok f nan a = a
-neg-ok f (inf s) a = absurd (a .finite)
-neg-ok f (fin s m e) a = record { finite = tt; fits = neg-fits f (fin s m e) (a .fits) }
+neg-finite f nan a = a
+neg-finite f (inf s) a = absurd (a .finite)
+neg-finite f (fin s m e) a = record { finite = tt; fits = neg-fits f (fin s m e) (a .fits) }
 
-pub neg-value : (f : Format) (x : Float) → Finite f x → (posPart f (neg x) ≡ negPart f x) × (negPart f (neg x) ≡ posPart f x)
+neg-value : (f : Format) (x : Float) → Finite f x → (posPart f (neg x) ≡ negPart f x) × (negPart f (neg x) ≡ posPart f x)
 unfolding neg posPart negPart magnitude
 neg-value f nan a = absurd (a .finite)
 neg-value f (inf s) a = absurd (a .finite)
 neg-value f (fin true m e) a = (refl, refl)
 neg-value f (fin false m e) a = (refl, refl)
 
-pub sub-near : (f : Format) (h : ℕ) (x y : Float) → prec f + suc h ≤ low f + emax f → Finite f x → Finite f y
+pub sub-near : {f : Format} (h : ℕ) {x y : Float} → prec f + suc h ≤ low f + emax f → Finite f x → Finite f y
     → posPart f x + negPart f y ≤ negPart f x + posPart f y + 2 ^ (prec f + suc h) → negPart f x + posPart f y ≤ posPart f x + negPart f y + 2 ^ (prec f + suc h)
     → Near f (sub f x y) (posPart f x + negPart f y) (negPart f x + posPart f y) (2 ^ h)
 unfolding sub
-sub-near f h x y top a b u v =
+sub-near {f} h {x} {y} top a b u v =
     let n = neg-value f y b in
-    let r = add-near f h x (neg y) top a (neg-ok f y b) (omega (arith, n .0, n .1)) (omega (arith, n .0, n .1)) in
+    let r = add-near h top a (neg-finite f y b) (omega (arith, n .0, n .1)) (omega (arith, n .0, n .1)) in
     record { ok = r .ok; upper = omega (arith, n .0, n .1, r .upper); lower = omega (arith, n .0, n .1, r .lower) }
 
--- ---- the product, in units of the square of the smallest value: |r * 2 ^ low - x * y| ≤ 2 ^ h * 2 ^ low
+-- ---- the product. Its exact value is in units of the square of the smallest value, so r is taken times c, the number of units in 1: |r * c - (P - N)| ≤ E
 pub record NearProduct (f : Format) (r : Float) (c P N E : ℕ) : Type 0 where
   pub ok : Finite f r
   pub upper : posPart f r * c + N ≤ P + negPart f r * c + E
   pub lower : P + negPart f r * c ≤ posPart f r * c + N + E
 
 signs : (s t : Bool) (X Y g p m c E : ℕ) → p ≡ ifPos (unlike s t) g → m ≡ ifNeg (unlike s t) g → g * c ≤ X * Y + E → X * Y ≤ g * c + E
-    → (p * c + (ifPos s X * ifNeg t Y + ifNeg s X * ifPos t Y) ≤ ifPos s X * ifPos t Y + ifNeg s X * ifNeg t Y + m * c + E) × (ifPos s X * ifPos t Y + ifNeg s X * ifNeg t Y + m * c ≤ p * c + (ifPos s X * ifNeg t Y + ifNeg s X * ifPos t Y) + E)
+    → (p * c + (ifPos s X * ifNeg t Y + ifNeg s X * ifPos t Y) ≤ ifPos s X * ifPos t Y + ifNeg s X * ifNeg t Y + m * c + E)
+    × (ifPos s X * ifPos t Y + ifNeg s X * ifNeg t Y + m * c ≤ p * c + (ifPos s X * ifNeg t Y + ifNeg s X * ifPos t Y) + E)
 signs true true X Y g p m c E a b u v = omega (arith, ap (λ (z : ℕ). z * c) a, ap (λ (z : ℕ). z * c) b)
 signs true false X Y g p m c E a b u v = omega (arith, ap (λ (z : ℕ). z * c) a, ap (λ (z : ℕ). z * c) b)
 signs false true X Y g p m c E a b u v = omega (arith, ap (λ (z : ℕ). z * c) a, ap (λ (z : ℕ). z * c) b)
@@ -147,6 +154,9 @@ sizes true true X Y B h = omega arith
 sizes true false X Y B h = omega arith
 sizes false true X Y B h = omega arith
 sizes false false X Y B h = omega arith
+
+crossed : (a b l X Y c d : ℕ) → X * c ≡ a * l → Y * d ≡ b * l → a * b * l * l ≡ X * Y * (c * d)
+crossed a b l X Y c d p q = mul-assoc (a * b) l l ∙ mul-mul-mul-comm a b l l ∙ ap₂ (λ (x y : ℕ). x * y) (sym p) (sym q) ∙ mul-mul-mul-comm X c Y d
 
 pub mul-near : (f : Format) (h : ℕ) (x y : Float) → prec f + suc h ≤ low f + emax f → Finite f x → Finite f y
     → posPart f x * posPart f y + negPart f x * negPart f y + (posPart f x * negPart f y + negPart f x * posPart f y) ≤ 2 ^ (prec f + suc h) * 2 ^ low f
@@ -171,6 +181,3 @@ mul-near f h (fin s m e) (fin t n d) top a b u =
     let v = round-value f (unlike s t) num den (no-overflow f h g top (grid-small f num den h l (X * Y) D (pow-pos (low f)) eq small)) in
     let z = signs s t X Y g (posPart f r) (negPart f r) l (2 ^ h * l) (pos-of-value f r (unlike s t) g v) (neg-of-value f r (unlike s t) g v) (near .0) (near .1) in
     record { ok = record { finite = magnitude-of-value f r (unlike s t) g v .0; fits = round-fits f (unlike s t) num den }; upper = z .0; lower = z .1 }
-  where
-    crossed : (a b l X Y c d : ℕ) → X * c ≡ a * l → Y * d ≡ b * l → a * b * l * l ≡ X * Y * (c * d)
-    crossed a b l X Y c d p q = mul-assoc (a * b) l l ∙ mul-mul-mul-comm a b l l ∙ ap₂ (λ (x y : ℕ). x * y) (sym p) (sym q) ∙ mul-mul-mul-comm X c Y d

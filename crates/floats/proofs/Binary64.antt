@@ -1,22 +1,20 @@
--- The laws at binary64. `one` is 1.0 and `eps` is 2 ^ -54, both in units of 2 ^ -1074. They stay shut, so that no proof computes with numbers of 300 digits,
--- and `omega` takes them as unknowns with `one-eps` between them.
-use mathlib.Core.Path.{_≡_, refl, sym, ap, ap₂, _∙_, subst}
-use Prim.Native.Nat.{ℕ, zero, suc, _+_, _-_, _*_, _/_, _%_, _^_, _≤_, _<_}
-use native.Mathlib.Nat.{le-trans, le-of-eq, lt-of-lt-of-le, mul-one, mul-assoc, mul-comm, mul-right-comm, mul-le-mul-right, mul-lt-mul-of-pos-right, le-of-mul-le-mul-right, add-comm}
+-- The laws at binary64, in units of 2 ^ -1074: one rounding of a number of size at most 2 ^ M costs at most 2 ^ M * eps (`add64`, `sub64`, `mul64`, `mul-int64`), a whole number below
+-- 2 ^ 53 is exact (`int64`), and errors add up (`near-add`, `near-sub`, `count-add`, `count-sub`). `one` and `eps` stay shut, so that no proof computes with numbers of 300 digits:
+-- `omega` takes them as unknowns with `one-eps` between them.
+use mathlib.Core.Path.{_≡_, refl, sym, ap, _∙_}
+use Prim.Native.Nat.{ℕ, suc, _+_, _*_, _^_, _≤_, _<_}
+use native.Mathlib.Nat.{mul-one, mul-right-comm, mul-le-mul-right, le-of-mul-le-mul-right, add-comm}
 use native.Mathlib.Omega.{arith}
-use mathlib.Core.Bool.{Bool, true, false, not, _&&_, cond}
-use mathlib.Core.List.{List, [], _∷_}
-use lib.IntN.{ℤ, pos, negsuc}
-use lib.Dec.{T}
-use lib.Pow.{pow-add, pow-pos, pow-mono, shl-lt}
-use lib.Ieee.Fits.{reach, round-fits}
-use lib.Ieee.{Float, nan, inf, fin, Format, binary64, prec, emax, low, up, down, round, add, sub, mul, ofInt, fits, lt, le}
-use lib.Ieee.Exact.{HasValue, round-exact}
-use Rattle.floats.specs.Value.{posPart, negPart, Finite, Near}
+use mathlib.Core.Bool.{false}
+use lib.Pow.{pow-add, pow-pos}
+use lib.Ieee.{Float, nan, inf, fin, Format, binary64, low, up, down, round, add, sub, mul, ofInt}
+use lib.Ieee.Back.{round-whole}
+use lib.Ieee.Exact.{HasValue}
+use lib.Ieee.Fits.{round-fits}
+use Rattle.floats.specs.Value.{Finite, Near}
 use Rattle.floats.specs.Binary64.{one, eps, pos64, neg64, number}
 use Rattle.floats.proofs.Value.{pos-of-value, neg-of-value, magnitude-of-value}
 use Rattle.floats.proofs.Arithmetic.{add-near, sub-near, mul-near, NearProduct}
-use Rattle.floats.proofs.Compare.{lt-value, le-value}
 
 pub one-eps : one ≡ 18014398509481984 * eps
 unfolding one eps
@@ -44,26 +42,20 @@ small M = ap (λ (x : ℕ). 2 ^ x) (add-comm 1020 M) ∙ pow-add 2 M 1020
 top : (M : ℕ) → M ≤ 1023 → 53 + suc (1020 + M) ≤ 1074 + 1023
 top M h = omega arith
 
--- |x + y| ≤ 2 ^ M: the sum is within 2 ^ (M - 54)
-pub add64 : (M : ℕ) (x y : Float) → M ≤ 1023 → Finite binary64 x → Finite binary64 y
-    → pos64 x + pos64 y ≤ neg64 x + neg64 y + 2 ^ M * one → neg64 x + neg64 y ≤ pos64 x + pos64 y + 2 ^ M * one → Near binary64 (add binary64 x y) (pos64 x + pos64 y) (neg64 x + neg64 y) (2 ^ M * eps)
-add64 M x y t a b u v =
-    subst (λ (z : ℕ). Near binary64 (add binary64 x y) (pos64 x + pos64 y) (neg64 x + neg64 y) z) (small M)
-    (add-near binary64 (1020 + M) x y (top M t) a b (subst (λ (z : ℕ). pos64 x + pos64 y ≤ neg64 x + neg64 y + z) (sym (big M)) u) (subst (λ (z : ℕ). neg64 x + neg64 y ≤ pos64 x + pos64 y + z) (sym (big M)) v))
+-- |x + y| ≤ 2 ^ M: the sum is within 2 ^ (M - 54). So for x - y, and for x * y, where both sides are in units of 2 ^ -2148.
+module _ (M : ℕ) {x y : Float} (t : M ≤ 1023) (a : Finite binary64 x) (b : Finite binary64 y) where
+  pub add64 : pos64 x + pos64 y ≤ neg64 x + neg64 y + 2 ^ M * one → neg64 x + neg64 y ≤ pos64 x + pos64 y + 2 ^ M * one
+      → Near binary64 (add binary64 x y) (pos64 x + pos64 y) (neg64 x + neg64 y) (2 ^ M * eps)
+  add64 u v = rw (← small M) (add-near (1020 + M) (top M t) a b (rw (big M) u) (rw (big M) v))
 
-pub sub64 : (M : ℕ) (x y : Float) → M ≤ 1023 → Finite binary64 x → Finite binary64 y
-    → pos64 x + neg64 y ≤ neg64 x + pos64 y + 2 ^ M * one → neg64 x + pos64 y ≤ pos64 x + neg64 y + 2 ^ M * one → Near binary64 (sub binary64 x y) (pos64 x + neg64 y) (neg64 x + pos64 y) (2 ^ M * eps)
-sub64 M x y t a b u v =
-    subst (λ (z : ℕ). Near binary64 (sub binary64 x y) (pos64 x + neg64 y) (neg64 x + pos64 y) z) (small M)
-    (sub-near binary64 (1020 + M) x y (top M t) a b (subst (λ (z : ℕ). pos64 x + neg64 y ≤ neg64 x + pos64 y + z) (sym (big M)) u) (subst (λ (z : ℕ). neg64 x + pos64 y ≤ pos64 x + neg64 y + z) (sym (big M)) v))
+  pub sub64 : pos64 x + neg64 y ≤ neg64 x + pos64 y + 2 ^ M * one → neg64 x + pos64 y ≤ pos64 x + neg64 y + 2 ^ M * one
+      → Near binary64 (sub binary64 x y) (pos64 x + neg64 y) (neg64 x + pos64 y) (2 ^ M * eps)
+  sub64 u v = rw (← small M) (sub-near (1020 + M) (top M t) a b (rw (big M) u) (rw (big M) v))
 
--- |x * y| ≤ 2 ^ M: the product is within 2 ^ (M - 54). Both sides are in units of 2 ^ -2148.
-pub mul64 : (M : ℕ) (x y : Float) → M ≤ 1023 → Finite binary64 x → Finite binary64 y → pos64 x * pos64 y + neg64 x * neg64 y + (pos64 x * neg64 y + neg64 x * pos64 y) ≤ 2 ^ M * one * one
-    → NearProduct binary64 (mul binary64 x y) one (pos64 x * pos64 y + neg64 x * neg64 y) (pos64 x * neg64 y + neg64 x * pos64 y) (2 ^ M * eps * one)
-unfolding one
-mul64 M x y t a b u =
-    subst (λ (z : ℕ). NearProduct binary64 (mul binary64 x y) one (pos64 x * pos64 y + neg64 x * neg64 y) (pos64 x * neg64 y + neg64 x * pos64 y) (z * one)) (small M)
-    (mul-near binary64 (1020 + M) x y (top M t) a b (subst (λ (z : ℕ). pos64 x * pos64 y + neg64 x * neg64 y + (pos64 x * neg64 y + neg64 x * pos64 y) ≤ z * one) (sym (big M)) u))
+  pub mul64 : pos64 x * pos64 y + neg64 x * neg64 y + (pos64 x * neg64 y + neg64 x * pos64 y) ≤ 2 ^ M * one * one
+      → NearProduct binary64 (mul binary64 x y) one (pos64 x * pos64 y + neg64 x * neg64 y) (pos64 x * neg64 y + neg64 x * pos64 y) (2 ^ M * eps * one)
+  unfolding one
+  mul64 u = rw (← small M) (mul-near binary64 (1020 + M) x y (top M t) a b (rw (big M) u))
 
 -- x is the whole number w
 pub record IsNumber (w : ℕ) (x : Float) : Type 0 where
@@ -72,13 +64,6 @@ pub record IsNumber (w : ℕ) (x : Float) : Type 0 where
   pub low : neg64 x ≡ 0
 
 -- a whole number below 2 ^ prec is exact
-int-exact : (f : Format) (w : ℕ) → w < 2 ^ prec f → HasValue (round f false w 1) false w 1
-int-exact f w h =
-    round-exact f false w 1 w (low f) (pow-pos 0) h (lt-of-lt-of-le (shl-lt (prec f) (low f) h) (pow-mono (over (prec f) (low f) (emax f) (reach f)))) (sym (mul-one (w * 2 ^ low f)))
-  where
-    over : (a l m : ℕ) → a ≤ suc m → a + l ≤ l + suc m
-    over a l m t = omega arith
-
 whole-units : (f : Format) (w : ℕ) → HasValue (round f false w 1) false w 1 → HasValue (round f false w 1) false (w * 2 ^ low f) (2 ^ low f)
 whole-units f w = go (round f false w 1)
   where
@@ -90,7 +75,7 @@ whole-units f w = go (round f false w 1)
 pub int64 : (w : ℕ) → w < 9007199254740992 → IsNumber w (number w)
 unfolding one ofInt
 int64 w h =
-    let v = whole-units binary64 w (int-exact binary64 w h) in
+    let v = whole-units binary64 w (round-whole binary64 false w (omega arith)) in
     let x = round binary64 false w 1 in
     record {
       ok = record { finite = magnitude-of-value binary64 x false (w * one) v .0; fits = round-fits binary64 false w 1 };
@@ -107,7 +92,7 @@ mul-int64 M w x y t a b ny u =
     let f3 : pos64 x * neg64 y ≡ pos64 x * 0 = ap (λ (z : ℕ). pos64 x * z) ny in
     let f4 : neg64 x * neg64 y ≡ neg64 x * 0 = ap (λ (z : ℕ). neg64 x * z) ny in
     let u' : w * pos64 y * one ≤ 2 ^ M * one * one = mul-le-mul-right one u in
-    let r = mul64 M x y t (a .ok) b (omega arith) in
+    let r = mul64 M t (a .ok) b (omega arith) in
     let hi : pos64 (mul binary64 x y) * one + (pos64 x * neg64 y + neg64 x * pos64 y) ≤ pos64 x * pos64 y + neg64 x * neg64 y + neg64 (mul binary64 x y) * one + 2 ^ M * eps * one = r .upper in
     let lo : pos64 x * pos64 y + neg64 x * neg64 y + neg64 (mul binary64 x y) * one ≤ pos64 (mul binary64 x y) * one + (pos64 x * neg64 y + neg64 x * pos64 y) + 2 ^ M * eps * one = r .lower in
     let hi' : (pos64 (mul binary64 x y) + 0) * one ≤ (w * pos64 y + neg64 (mul binary64 x y) + 2 ^ M * eps) * one = omega arith in
@@ -133,7 +118,7 @@ module _ (M : ℕ) {x y : Float} {P N E Q R F : ℕ} (t : M ≤ 1023) (X : Near 
       let xl : P + neg64 x ≤ pos64 x + N + E = X .lower in
       let yu : pos64 y + R ≤ Q + neg64 y + F = Y .upper in
       let yl : Q + neg64 y ≤ pos64 y + R + F = Y .lower in
-      let r = add64 M x y t (X .ok) (Y .ok) (omega arith) (omega arith) in
+      let r = add64 M t (X .ok) (Y .ok) (omega arith) (omega arith) in
       let ru : pos64 (add binary64 x y) + (neg64 x + neg64 y) ≤ pos64 x + pos64 y + neg64 (add binary64 x y) + 2 ^ M * eps = r .upper in
       let rl : pos64 x + pos64 y + neg64 (add binary64 x y) ≤ pos64 (add binary64 x y) + (neg64 x + neg64 y) + 2 ^ M * eps = r .lower in
       record { ok = r .ok; upper = omega arith; lower = omega arith }
@@ -144,7 +129,7 @@ module _ (M : ℕ) {x y : Float} {P N E Q R F : ℕ} (t : M ≤ 1023) (X : Near 
       let xl : P + neg64 x ≤ pos64 x + N + E = X .lower in
       let yu : pos64 y + R ≤ Q + neg64 y + F = Y .upper in
       let yl : Q + neg64 y ≤ pos64 y + R + F = Y .lower in
-      let r = sub64 M x y t (X .ok) (Y .ok) (omega arith) (omega arith) in
+      let r = sub64 M t (X .ok) (Y .ok) (omega arith) (omega arith) in
       let ru : pos64 (sub binary64 x y) + (neg64 x + pos64 y) ≤ pos64 x + neg64 y + neg64 (sub binary64 x y) + 2 ^ M * eps = r .upper in
       let rl : pos64 x + neg64 y + neg64 (sub binary64 x y) ≤ pos64 (sub binary64 x y) + (neg64 x + pos64 y) + 2 ^ M * eps = r .lower in
       record { ok = r .ok; upper = omega arith; lower = omega arith }
