@@ -11,7 +11,7 @@ use lib.Ieee.{Float, nan, inf, fin, Format, prec, emax, low, up, down, unlike, r
 use lib.Ieee.Fits.{round-fits, down-pos, neg-fits}
 use lib.Ieee.Scale.{grid, overflow}
 use Rattle.floats.specs.Value.{magnitude, posPart, negPart, Finite, Near}
-use Rattle.floats.proofs.Value.{ifPos, ifNeg, magnitude-whole, magnitude-of-value, pos-of-value, neg-of-value, near-intro}
+use Rattle.floats.proofs.Value.{ifPos, ifNeg, magnitude-whole, parts-of-value, near-intro}
 use Rattle.floats.proofs.Rounding.{grid-near, grid-small, grid-exact, round-value, no-overflow}
 
 -- ---- a number of W units, however it is written as a fraction and whatever its sign, rounds to one that is within E of it
@@ -178,6 +178,6 @@ mul-near f h (fin s m e) (fin t n d) top a b u =
     let small : X * Y ≤ 2 ^ (prec f + suc h) * l = sizes s t X Y (2 ^ (prec f + suc h) * l) u in
     let g = grid f num den in
     let near = grid-near f num den h l (X * Y) D (pow-pos (low f)) eq small in
-    let v = round-value f (unlike s t) num den (no-overflow f h g top (grid-small f num den h l (X * Y) D (pow-pos (low f)) eq small)) in
-    let z = signs s t X Y g (posPart f r) (negPart f r) l (2 ^ h * l) (pos-of-value f r (unlike s t) g v) (neg-of-value f r (unlike s t) g v) (near .0) (near .1) in
-    record { ok = record { finite = magnitude-of-value f r (unlike s t) g v .0; fits = round-fits f (unlike s t) num den }; upper = z .0; lower = z .1 }
+    let v = parts-of-value f r (unlike s t) g (round-value f (unlike s t) num den (no-overflow f h g top (grid-small f num den h l (X * Y) D (pow-pos (low f)) eq small))) in
+    let z = signs s t X Y g (posPart f r) (negPart f r) l (2 ^ h * l) (v .1) (v .2) (near .0) (near .1) in
+    record { ok = record { finite = v .0; fits = round-fits f (unlike s t) num den }; upper = z .0; lower = z .1 }

@@ -13,7 +13,7 @@ use lib.Ieee.Exact.{HasValue}
 use lib.Ieee.Fits.{round-fits}
 use Rattle.floats.specs.Value.{Finite, Near}
 use Rattle.floats.specs.Binary64.{one, eps, pos64, neg64, number}
-use Rattle.floats.proofs.Value.{pos-of-value, neg-of-value, magnitude-of-value}
+use Rattle.floats.proofs.Value.{parts-of-value}
 use Rattle.floats.proofs.Arithmetic.{add-near, sub-near, mul-near, NearProduct}
 
 pub one-eps : one ≡ 18014398509481984 * eps
@@ -75,69 +75,43 @@ whole-units f w = go (round f false w 1)
 pub int64 : (w : ℕ) → w < 9007199254740992 → IsNumber w (number w)
 unfolding one ofInt
 int64 w h =
-    let v = whole-units binary64 w (round-whole binary64 false w (omega arith)) in
-    let x = round binary64 false w 1 in
-    record {
-      ok = record { finite = magnitude-of-value binary64 x false (w * one) v .0; fits = round-fits binary64 false w 1 };
-      units = pos-of-value binary64 x false (w * one) v;
-      low = neg-of-value binary64 x false (w * one) v;
-    }
+    let v = parts-of-value binary64 (round binary64 false w 1) false (w * one) (whole-units binary64 w (round-whole binary64 false w (omega arith))) in
+    record { ok = record { finite = v .0; fits = round-fits binary64 false w 1 }; units = v .1; low = v .2 }
 
 -- a whole number w times a y that is not negative
-pub mul-int64 : (M w : ℕ) (x y : Float) → M ≤ 1023 → IsNumber w x → Finite binary64 y → neg64 y ≡ 0 → w * pos64 y ≤ 2 ^ M * one
+pub mul-int64 : (M : ℕ) {w : ℕ} {x y : Float} → M ≤ 1023 → IsNumber w x → Finite binary64 y → neg64 y ≡ 0 → w * pos64 y ≤ 2 ^ M * one
     → Near binary64 (mul binary64 x y) (w * pos64 y) 0 (2 ^ M * eps)
-mul-int64 M w x y t a b ny u =
+mul-int64 M {w} {x} {y} t a b ny u =
     let f1 : pos64 x * pos64 y ≡ w * one * pos64 y = ap (λ (z : ℕ). z * pos64 y) (a .units) in
     let f2 : neg64 x * pos64 y ≡ 0 * pos64 y = ap (λ (z : ℕ). z * pos64 y) (a .low) in
     let f3 : pos64 x * neg64 y ≡ pos64 x * 0 = ap (λ (z : ℕ). pos64 x * z) ny in
     let f4 : neg64 x * neg64 y ≡ neg64 x * 0 = ap (λ (z : ℕ). neg64 x * z) ny in
     let u' : w * pos64 y * one ≤ 2 ^ M * one * one = mul-le-mul-right one u in
     let r = mul64 M t (a .ok) b (omega arith) in
-    let hi : pos64 (mul binary64 x y) * one + (pos64 x * neg64 y + neg64 x * pos64 y) ≤ pos64 x * pos64 y + neg64 x * neg64 y + neg64 (mul binary64 x y) * one + 2 ^ M * eps * one = r .upper in
-    let lo : pos64 x * pos64 y + neg64 x * neg64 y + neg64 (mul binary64 x y) * one ≤ pos64 (mul binary64 x y) * one + (pos64 x * neg64 y + neg64 x * pos64 y) + 2 ^ M * eps * one = r .lower in
     let hi' : (pos64 (mul binary64 x y) + 0) * one ≤ (w * pos64 y + neg64 (mul binary64 x y) + 2 ^ M * eps) * one = omega arith in
     let lo' : (w * pos64 y + neg64 (mul binary64 x y)) * one ≤ (pos64 (mul binary64 x y) + 0 + 2 ^ M * eps) * one = omega arith in
     record { ok = r .ok; upper = le-of-mul-le-mul-right hi' one-pos; lower = le-of-mul-le-mul-right lo' one-pos }
 
 -- ---- errors add up
-pub near-self : (x : Float) → Finite binary64 x → Near binary64 x (pos64 x) (neg64 x) 0
-near-self x a = record { ok = a; upper = omega arith; lower = omega arith }
+pub near-self : {x : Float} → Finite binary64 x → Near binary64 x (pos64 x) (neg64 x) 0
+near-self a = record { ok = a; upper = omega arith; lower = omega arith }
 
 -- P - N written otherwise, and a wider bound
 pub near-as : {x : Float} {P N E Q R F : ℕ} → Near binary64 x P N E → P + R ≡ Q + N → E ≤ F → Near binary64 x Q R F
-near-as {x} {P} {N} {E} h e l =
-    let u : pos64 x + N ≤ P + neg64 x + E = h .upper in
-    let v : P + neg64 x ≤ pos64 x + N + E = h .lower in
-    record { ok = h .ok; upper = omega arith; lower = omega arith }
+near-as h e l = record { ok = h .ok; upper = omega arith; lower = omega arith }
 
 -- x and y computed, and |x + y| or |x - y| at most 2 ^ M by what they are near to
 module _ (M : ℕ) {x y : Float} {P N E Q R F : ℕ} (t : M ≤ 1023) (X : Near binary64 x P N E) (Y : Near binary64 y Q R F) where
   pub near-add : P + Q + (E + F) ≤ N + R + 2 ^ M * one → N + R + (E + F) ≤ P + Q + 2 ^ M * one → Near binary64 (add binary64 x y) (P + Q) (N + R) (E + F + 2 ^ M * eps)
-  near-add u v =
-      let xu : pos64 x + N ≤ P + neg64 x + E = X .upper in
-      let xl : P + neg64 x ≤ pos64 x + N + E = X .lower in
-      let yu : pos64 y + R ≤ Q + neg64 y + F = Y .upper in
-      let yl : Q + neg64 y ≤ pos64 y + R + F = Y .lower in
-      let r = add64 M t (X .ok) (Y .ok) (omega arith) (omega arith) in
-      let ru : pos64 (add binary64 x y) + (neg64 x + neg64 y) ≤ pos64 x + pos64 y + neg64 (add binary64 x y) + 2 ^ M * eps = r .upper in
-      let rl : pos64 x + pos64 y + neg64 (add binary64 x y) ≤ pos64 (add binary64 x y) + (neg64 x + neg64 y) + 2 ^ M * eps = r .lower in
-      record { ok = r .ok; upper = omega arith; lower = omega arith }
+  near-add u v = let r = add64 M t (X .ok) (Y .ok) (omega arith) (omega arith) in record { ok = r .ok; upper = omega arith; lower = omega arith }
 
   pub near-sub : P + R + (E + F) ≤ N + Q + 2 ^ M * one → N + Q + (E + F) ≤ P + R + 2 ^ M * one → Near binary64 (sub binary64 x y) (P + R) (N + Q) (E + F + 2 ^ M * eps)
-  near-sub u v =
-      let xu : pos64 x + N ≤ P + neg64 x + E = X .upper in
-      let xl : P + neg64 x ≤ pos64 x + N + E = X .lower in
-      let yu : pos64 y + R ≤ Q + neg64 y + F = Y .upper in
-      let yl : Q + neg64 y ≤ pos64 y + R + F = Y .lower in
-      let r = sub64 M t (X .ok) (Y .ok) (omega arith) (omega arith) in
-      let ru : pos64 (sub binary64 x y) + (neg64 x + pos64 y) ≤ pos64 x + neg64 y + neg64 (sub binary64 x y) + 2 ^ M * eps = r .upper in
-      let rl : pos64 x + neg64 y + neg64 (sub binary64 x y) ≤ pos64 (sub binary64 x y) + (neg64 x + pos64 y) + 2 ^ M * eps = r .lower in
-      record { ok = r .ok; upper = omega arith; lower = omega arith }
+  near-sub u v = let r = sub64 M t (X .ok) (Y .ok) (omega arith) (omega arith) in record { ok = r .ok; upper = omega arith; lower = omega arith }
 
 -- one more rounding: a float joins or leaves a computed number
-module _ (M : ℕ) {s : Float} (x : Float) {P N E : ℕ} (t : M ≤ 1023) (S : Near binary64 s P N E) (X : Finite binary64 x) where
+module _ (M : ℕ) {s x : Float} {P N E : ℕ} (t : M ≤ 1023) (S : Near binary64 s P N E) (X : Finite binary64 x) where
   pub count-add : P + pos64 x + E ≤ N + neg64 x + 2 ^ M * one → N + neg64 x + E ≤ P + pos64 x + 2 ^ M * one → Near binary64 (add binary64 s x) (P + pos64 x) (N + neg64 x) (E + 2 ^ M * eps)
-  count-add u v = near-as (near-add M t S (near-self x X) (omega arith) (omega arith)) (omega arith) (omega arith)
+  count-add u v = near-as (near-add M t S (near-self X) (omega arith) (omega arith)) (omega arith) (omega arith)
 
   pub count-sub : P + neg64 x + E ≤ N + pos64 x + 2 ^ M * one → N + pos64 x + E ≤ P + neg64 x + 2 ^ M * one → Near binary64 (sub binary64 s x) (P + neg64 x) (N + pos64 x) (E + 2 ^ M * eps)
-  count-sub u v = near-as (near-sub M t S (near-self x X) (omega arith) (omega arith)) (omega arith) (omega arith)
+  count-sub u v = near-as (near-sub M t S (near-self X) (omega arith) (omega arith)) (omega arith) (omega arith)

@@ -19,8 +19,8 @@ ranged B limit x b f low high =
     let ok : Finite binary64 x = record { finite = finite-between zero64 x limit (z .ok .finite) (b .ok .finite) low high; fits = f } in
     let u : pos64 zero64 + neg64 x ≤ pos64 x + neg64 zero64 = le-value (z .ok) ok .0 low in
     let v : pos64 x + neg64 limit ≤ pos64 limit + neg64 x = le-value ok (b .ok) .0 high in
-    let n : neg64 x ≡ 0 = not-negative binary64 x (omega (arith, z .units, z .low)) in
-    record { ok = ok; high = omega (arith, b .units, b .low); low = n }
+    let n : neg64 x ≡ 0 = not-negative binary64 x (omega arith) in
+    record { ok = ok; high = omega arith; low = n }
 
 pub ranged-16 : (x : Float) → T (fits binary64 x) → T (le zero64 x) → T (le x sixteen) → Ranged 16 x
 ranged-16 x = ranged 16 sixteen x (subst (λ (b : Float). IsNumber 16 b) (sym sixteen-is) (int64 16 (lit< tt)))

@@ -1,15 +1,15 @@
 -- How far a running sum of floats strays from the exact one: the scans' sum of (value - T) over up to 65,535 places, and the window's sum, from which an entry leaves and which
 -- an entry joins at each of up to 2^31 letters; and the scores made of them by taking off f and, for the window, its length times T.
 -- Entries and T lie in 0..16 and f in 0..1,048,576, so that each sum stays below 2^20 and each score below 2^21.
-use mathlib.Core.Path.{_≡_, ap, subst}
-use Prim.Native.Nat.{ℕ, suc, _+_, _*_, _^_, _≤_, _<_}
+use mathlib.Core.Path.{_≡_, ap}
+use Prim.Native.Nat.{ℕ, suc, _+_, _*_, _≤_, _<_}
 use native.Mathlib.Nat.{mul-le-mul-left, mul-le-mul-right}
 use native.Mathlib.Omega.{arith}
 use lib.Dec.{lit≤}
 use lib.Ieee.{Float, binary64, add, sub, mul}
 use Rattle.floats.specs.Value.{Near}
-use Rattle.floats.specs.Binary64.{one, eps, pos64, neg64, Ranged, number, zero64}
-use Rattle.floats.proofs.Binary64.{one-eps, one-pos, eps-pos, IsNumber, int64, mul-int64, near-self, near-as, near-add, near-sub, count-add, count-sub}
+use Rattle.floats.specs.Binary64.{one, eps, pos64, Ranged, number, zero64}
+use Rattle.floats.proofs.Binary64.{one-eps, int64, mul-int64, near-self, near-as, near-add, near-sub, count-add, count-sub}
 use Rattle.floats.proofs.Range.{zero-number}
 
 -- ---- i * 2 ^ -33, and half of one step of it
@@ -27,10 +27,10 @@ err-units i = let e : i * one ≡ i * (18014398509481984 * eps) = ap (λ (z : �
 
 -- ---- 0, where the sums begin
 pub zero-near : Near binary64 zero64 0 0 0
-zero-near = let z = zero-number in near-as (near-self zero64 (z .ok)) (omega (arith, z .units, z .low)) (omega arith)
+zero-near = let z = zero-number in near-as (near-self (z .ok)) (omega arith) (omega arith)
 
 pub zero-ranged : (B : ℕ) → Ranged B zero64
-zero-ranged B = let z = zero-number in record { ok = z .ok; high = omega (arith, z .units); low = z .low }
+zero-ranged B = let z = zero-number in record { ok = z .ok; high = omega arith; low = z .low }
 
 -- ---- the scans: after i places s is within i * 2 ^ -33 of the exact sum P - N, which is at most i * 16 in size
 pub record After (i : ℕ) (s : Float) (P N : ℕ) : Type 0 where
@@ -39,66 +39,51 @@ pub record After (i : ℕ) (s : Float) (P N : ℕ) : Type 0 where
   pub low : N ≤ P + i * (16 * one)
 
 pub after-as : {s : Float} {i P N j Q R : ℕ} → After i s P N → i ≡ j → P ≡ Q → N ≡ R → After j s Q R
-after-as {s} {i} {P} {N} {j} {Q} {R} h a b c = subst (λ (z : ℕ). After z s Q R) a (subst (λ (z : ℕ). After i s z R) b (subst (λ (z : ℕ). After i s P z) c h))
+after-as h a b c = rw (← a, ← b, ← c) h
 
 pub after-start : After 0 zero64 0 0
 after-start = record { near = near-as zero-near (omega arith) (omega arith); high = omega arith; low = omega arith }
 
 -- a place adds a - t
 pub after-step : {i : ℕ} {s a t : Float} {P N : ℕ} → After i s P N → i < 65535 → Ranged 16 a → Ranged 16 t → After (suc i) (add binary64 s (sub binary64 a t)) (P + pos64 a) (N + pos64 t)
-after-step {i} {s} {a} {t} {P} {N} H l A B =
-    let ah : pos64 a ≤ 16 * one = A .high in
-    let al : neg64 a ≡ 0 = A .low in
-    let th : pos64 t ≤ 16 * one = B .high in
-    let tl : neg64 t ≡ 0 = B .low in
-    let hh : P ≤ N + i * (16 * one) = H .high in
-    let hl : N ≤ P + i * (16 * one) = H .low in
+after-step {i} H l A B =
     let io : i * one ≤ 65534 * one = mul-le-mul-right one (omega arith) in
     let ie : i * eps ≤ 65534 * eps = mul-le-mul-right eps (omega arith) in
     let oe = one-eps in
-    let ep = eps-pos in
-    let d = count-sub 5 t (lit≤ tt) (near-self a (A .ok)) (B .ok) (omega arith) (omega arith) in
+    let d = count-sub 5 (lit≤ tt) (near-self (A .ok)) (B .ok) (omega arith) (omega arith) in
     record { near = near-as (near-add 20 (lit≤ tt) (H .near) d (omega arith) (omega arith)) (omega arith) (omega arith); high = omega arith; low = omega arith }
 
 -- the score: the sum less an f entry
 pub after-score : {i : ℕ} {s f : Float} {P N : ℕ} → After i s P N → i ≤ 65535 → Ranged 1048576 f → Near binary64 (sub binary64 s f) P (N + pos64 f) (err (i + 1))
-after-score {i} {s} {f} {P} {N} H l F =
-    let fh : pos64 f ≤ 1048576 * one = F .high in
-    let fl : neg64 f ≡ 0 = F .low in
-    let hh : P ≤ N + i * (16 * one) = H .high in
-    let hl : N ≤ P + i * (16 * one) = H .low in
+after-score {i} H l F =
     let io : i * one ≤ 65535 * one = mul-le-mul-right one l in
     let ie : i * eps ≤ 65535 * eps = mul-le-mul-right eps l in
     let oe = one-eps in
-    let ep = eps-pos in
-    near-as (count-sub 21 f (lit≤ tt) (H .near) (F .ok) (omega arith) (omega arith)) (omega arith) (omega arith)
+    near-as (count-sub 21 (lit≤ tt) (H .near) (F .ok) (omega arith) (omega arith)) (omega arith) (omega arith)
 
 -- ---- the window: an entry x leaves a sum that is near G + x, or joins one that is near G
 module _ {s : Float} {x : Float} {G E B : ℕ} (X : Ranged B x) (g : G + pos64 x ≤ 1048575 * one) (e : E ≤ one) where
   pub sum-leave : Near binary64 s (G + pos64 x) 0 E → Near binary64 (sub binary64 s x) G 0 (E + half)
-  sum-leave N = let xl : neg64 x ≡ 0 = X .low in near-as (count-sub 20 x (lit≤ tt) N (X .ok) (omega arith) (omega arith)) (omega arith) (omega arith)
+  sum-leave N = near-as (count-sub 20 (lit≤ tt) N (X .ok) (omega arith) (omega arith)) (omega arith) (omega arith)
 
   pub sum-join : Near binary64 s G 0 E → Near binary64 (add binary64 s x) (G + pos64 x) 0 (E + half)
-  sum-join N = let xl : neg64 x ≡ 0 = X .low in near-as (count-add 20 x (lit≤ tt) N (X .ok) (omega arith) (omega arith)) (omega arith) (omega arith)
+  sum-join N = near-as (count-add 20 (lit≤ tt) N (X .ok) (omega arith) (omega arith)) (omega arith) (omega arith)
 
 -- one letter of up to 2 ^ 31: x leaves and y joins
 pub sum-exchange : {i : ℕ} {s x y : Float} {B C : ℕ} (G : ℕ) → Near binary64 s (G + pos64 x) 0 (err i) → i < 2147483648 → Ranged B x → Ranged C y → G + pos64 x ≤ 1048575 * one → G + pos64 y ≤ 1048575 * one
     → Near binary64 (add binary64 (sub binary64 s x) y) (G + pos64 y) 0 (err (suc i))
-sum-exchange {i} {s} {x} {y} G N l X Y gx gy =
+sum-exchange {i} G N l X Y gx gy =
     let h = err-small i (omega arith) in
     near-as (sum-join Y gy h (sum-leave X gx (omega arith) N)) (omega arith) (omega arith)
 
 -- the window score: the sum less an f entry, less the length of the window times T
 pub sum-score : {i : ℕ} {s f t : Float} {G : ℕ} (len : ℕ) → Near binary64 s G 0 (err i) → i ≤ 2147483648 → len ≤ 65535 → G ≤ len * (16 * one) → Ranged 1048576 f → Ranged 16 t
     → Near binary64 (sub binary64 (sub binary64 s f) (mul binary64 (number len) t)) G (len * pos64 t + pos64 f) (err (i + 3))
-sum-score {i} {s} {f} {t} {G} len N li ll g F B =
-    let fh : pos64 f ≤ 1048576 * one = F .high in
-    let fl : neg64 f ≡ 0 = F .low in
-    let th : len * pos64 t ≤ len * (16 * one) = mul-le-mul-left len (B .high) in
+sum-score {i} len N li ll g F B =
+    let th = mul-le-mul-left len (B .high) in
     let lo : len * one ≤ 65535 * one = mul-le-mul-right one ll in
     let oe = one-eps in
-    let ep = eps-pos in
     let es = err-small i li in
-    let m = mul-int64 20 len (number len) t (lit≤ tt) (int64 len (omega arith)) (B .ok) (B .low) (omega arith) in
-    let d = count-sub 21 f (lit≤ tt) N (F .ok) (omega arith) (omega arith) in
+    let m = mul-int64 20 (lit≤ tt) (int64 len (omega arith)) (B .ok) (B .low) (omega arith) in
+    let d = count-sub 21 (lit≤ tt) N (F .ok) (omega arith) (omega arith) in
     near-as (near-sub 21 (lit≤ tt) d m (omega arith) (omega arith)) (omega arith) (omega arith)

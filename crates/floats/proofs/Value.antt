@@ -1,7 +1,7 @@
 -- The two parts of a float, from `fits` (a float of a format is a whole number of units) and from `HasValue` (a float known as a fraction); and `near-intro`,
 -- by which the laws of arithmetic make a `Near` of a rounded result.
 use mathlib.Core.Path.{_≡_, sym, ap, _∙_}
-use Prim.Native.Nat.{ℕ, zero, suc, _+_, _-_, _*_, _/_, _%_, _^_, _≤_, _<_}
+use Prim.Native.Nat.{ℕ, zero, suc, _+_, _-_, _*_, _/_, _%_, _^_, _≤_}
 use native.Mathlib.Nat.{lt-of-not-le, not-le-of-lt, le-of-suc-le-suc, mul-one, mul-assoc, mul-div-cancel, div-one, zero-mul, zero-div}
 use native.Mathlib.Omega.{arith}
 use mathlib.Core.Bool.{Bool, true, false, _&&_, cond}
@@ -13,7 +13,7 @@ use lib.Ieee.Digits.{back}
 use lib.Ieee.Fits.{and-l, and-r, down-pos}
 use lib.Ieee.Exact.{HasValue}
 use lib.Ieee.Scale.{finite}
-use Rattle.floats.specs.Value.{sign, magnitude, posPart, negPart, Finite, Near}
+use Rattle.floats.specs.Value.{sign, magnitude, posPart, negPart, Near}
 
 -- the parts of a number of size g, by its sign
 abbrev pub ifPos : Bool → ℕ → ℕ
@@ -41,20 +41,16 @@ magnitude-whole f s zero e h =
 magnitude-whole f s (suc m) e h =
     whole (suc m) e (low f) (leb→le (down e) (2 ^ low f) (and-r (eqb (suc m % 2) 1 && ltb (suc m) (2 ^ prec f)) (leb (down e) (2 ^ low f)) (and-l (eqb (suc m % 2) 1 && ltb (suc m) (2 ^ prec f) && leb (down e) (2 ^ low f)) (ltb (suc m * up e) (2 ^ suc (emax f) * down e)) h)))
 
--- a float that is g units
-pub magnitude-of-value : (f : Format) (x : Float) (s : Bool) (g : ℕ) → HasValue x s g (2 ^ low f) → T (finite x) × (sign x ≡ s) × (magnitude f x ≡ g)
+-- a float that is known to be ±g units
+magnitude-of-value : (f : Format) (x : Float) (s : Bool) (g : ℕ) → HasValue x s g (2 ^ low f) → T (finite x) × (sign x ≡ s) × (magnitude f x ≡ g)
 unfolding magnitude
 magnitude-of-value f nan s g h = absurd h
 magnitude-of-value f (inf t) s g h = absurd h
 magnitude-of-value f (fin t m e) s g h = (tt, h .0, ap (λ (x : ℕ). x / down e) (h .1) ∙ mul-div-cancel g (down-pos e))
 
-pub pos-of-value : (f : Format) (x : Float) (s : Bool) (g : ℕ) → HasValue x s g (2 ^ low f) → posPart f x ≡ ifPos s g
-unfolding posPart
-pos-of-value f x s g h = let v = magnitude-of-value f x s g h in ap (λ (t : Bool). ifPos t (magnitude f x)) (v .1) ∙ ap (λ (n : ℕ). ifPos s n) (v .2)
-
-pub neg-of-value : (f : Format) (x : Float) (s : Bool) (g : ℕ) → HasValue x s g (2 ^ low f) → negPart f x ≡ ifNeg s g
-unfolding negPart
-neg-of-value f x s g h = let v = magnitude-of-value f x s g h in ap (λ (t : Bool). ifNeg t (magnitude f x)) (v .1) ∙ ap (λ (n : ℕ). ifNeg s n) (v .2)
+pub parts-of-value : (f : Format) (x : Float) (s : Bool) (g : ℕ) → HasValue x s g (2 ^ low f) → T (finite x) × (posPart f x ≡ ifPos s g) × (negPart f x ≡ ifNeg s g)
+unfolding posPart negPart
+parts-of-value f x s g h = let v = magnitude-of-value f x s g h in (v .0, rw (v .1, v .2), rw (v .1, v .2))
 
 -- r is ±g units, which is within E of ±W, which is P - N
 between : (s : Bool) (p m g W P N E : ℕ) → p ≡ ifPos s g → m ≡ ifNeg s g → g ≤ W + E → W ≤ g + E → ifPos s W + N ≡ P + ifNeg s W → (p + N ≤ P + m + E) × (P + m ≤ p + N + E)
@@ -63,5 +59,6 @@ between false p m g W P N E a b x y e = omega arith
 
 pub near-intro : (f : Format) (r : Float) (s : Bool) (g W P N E : ℕ) → T (fits f r) → HasValue r s g (2 ^ low f) → g ≤ W + E → W ≤ g + E → ifPos s W + N ≡ P + ifNeg s W → Near f r P N E
 near-intro f r s g W P N E t v x y e =
-    let b = between s (posPart f r) (negPart f r) g W P N E (pos-of-value f r s g v) (neg-of-value f r s g v) x y e in
-    record { ok = record { finite = magnitude-of-value f r s g v .0; fits = t }; upper = b .0; lower = b .1 }
+    let p = parts-of-value f r s g v in
+    let b = between s (posPart f r) (negPart f r) g W P N E (p .1) (p .2) x y e in
+    record { ok = record { finite = p .0; fits = t }; upper = b .0; lower = b .1 }
