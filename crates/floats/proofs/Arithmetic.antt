@@ -2,7 +2,7 @@
 -- half a unit of its last place (`add-near`, `sub-near`, `mul-near`). A sum that the format holds is exact (`add-exact`).
 use mathlib.Core.Path.{_≡_, refl, sym, ap, ap₂, _∙_, subst}
 use Prim.Native.Nat.{ℕ, suc, _+_, _-_, _*_, _^_, _≤_, _<_}
-use native.Mathlib.Nat.{le-trans, le-of-eq, lt-of-le-of-lt, mul-pos, mul-one, mul-assoc, mul-comm, mul-right-comm, mul-sub, add-mul, mul-mul-mul-comm, mul-le-mul-right, le-of-mul-le-mul-right}
+use native.Mathlib.Nat.{le-trans, le-of-eq, lt-of-le-of-lt, mul-pos, mul-one, mul-assoc, mul-comm, mul-sub, add-mul, mul-mul-mul-comm}
 use native.Mathlib.Omega.{arith}
 use mathlib.Core.Bool.{Bool, true, false, not, cond}
 use lib.Dec.{T, ltb, ltb→lt, nltb→le}
@@ -11,7 +11,7 @@ use lib.Ieee.{Float, nan, inf, fin, Format, prec, emax, low, up, down, unlike, r
 use lib.Ieee.Fits.{round-fits, down-pos, neg-fits}
 use lib.Ieee.Scale.{grid, overflow}
 use Rattle.floats.specs.Value.{magnitude, posPart, negPart, Finite, Near}
-use Rattle.floats.proofs.Value.{ifPos, ifNeg, magnitude-whole, parts-of-value, near-intro}
+use Rattle.floats.proofs.Value.{ifPos, ifNeg, magnitude-whole, over-one, order, parts-of-value, near-intro}
 use Rattle.floats.proofs.Rounding.{grid-near, grid-small, grid-exact, round-value, no-overflow}
 
 -- ---- a number of W units, however it is written as a fraction and whatever its sign, rounds to one that is within E of it
@@ -34,19 +34,11 @@ rounds-exact f q j W w small o s num den P N D e eq =
     let g : grid f num den ≡ W = grid-exact f num den q j D small (e ∙ ap (λ (z : ℕ). z * den) w) ∙ sym w in
     near-intro f (round f s num den) s (grid f num den) W P N 0 (round-fits f s num den) (round-value f s num den (lt-of-le-of-lt (le-of-eq g) o)) (omega arith) (omega arith) eq
 
--- ---- a / c and b / c, of X and Y units
-pub order : (a b l X Y c : ℕ) → 0 < c → a * l ≡ X * c → b * l ≡ Y * c → a ≤ b → X ≤ Y
-order a b l X Y c C p q h = le-of-mul-le-mul-right (le-trans (le-of-eq (sym p)) (le-trans (mul-le-mul-right l h) (le-of-eq q))) C
-
+-- ---- the sum ±a / c + ±b / c, of ±X and ±Y units
 diff : (a b l X Y c : ℕ) → a * l ≡ X * c → b * l ≡ Y * c → (b - a) * l ≡ (Y - X) * c
 diff a b l X Y c p q =
     mul-comm (b - a) l ∙ mul-sub l b a ∙ ap₂ (λ (x y : ℕ). x - y) (mul-comm l b ∙ q ∙ mul-comm Y c) (mul-comm l a ∙ p ∙ mul-comm X c) ∙ sym (mul-sub c Y X) ∙ mul-comm c (Y - X)
 
--- m * up e * down d / (down e * down d) is as many units as m * up e / down e
-pub widen : (m u d c l x : ℕ) → x * d ≡ m * u * l → m * u * c * l ≡ x * (d * c)
-widen m u d c l x e = mul-right-comm (m * u) c l ∙ ap (λ (z : ℕ). z * c) (sym e) ∙ mul-assoc x d c
-
--- ---- the sum ±a / c + ±b / c, of ±X and ±Y units
 -- |P - N|
 abbrev pub dist : ℕ → ℕ → ℕ
 dist P N = (P - N) + (N - P)
@@ -91,10 +83,8 @@ add-rounds f E (fin s m e) (inf t) a b r = absurd (b .finite)
 add-rounds f E (fin s m e) (fin t n d) a b r =
     let X = magnitude f (fin s m e) in
     let Y = magnitude f (fin t n d) in
-    sum-near f (m * up e * down d) (n * up d * down e) (down e * down d) X Y E (mul-pos (down-pos e) (down-pos d))
-    (widen m (up e) (down e) (down d) (2 ^ low f) X (magnitude-whole f s m e (a .fits)))
-    (widen n (up d) (down d) (down e) (2 ^ low f) Y (magnitude-whole f t n d (b .fits)) ∙ ap (λ (z : ℕ). Y * z) (mul-comm (down d) (down e)))
-    s t r
+    let o = over-one f s t m n e d (a .fits) (b .fits) in
+    sum-near f (m * up e * down d) (n * up d * down e) (down e * down d) X Y E (mul-pos (down-pos e) (down-pos d)) (o .0) (o .1) s t r
 
 within : (P N B : ℕ) → P ≤ N + B → N ≤ P + B → dist P N ≤ B
 within P N B u v = omega arith

@@ -1,20 +1,19 @@
 -- The comparisons of two finite floats are those of their values, -0 and 0 being one value: `lt-value`, `eq-value`, `le-value`.
--- Besides, what lies between two finite floats is finite, and a value that is not below 0 has no negative part.
-use mathlib.Core.Path.{_≡_, refl, sym, ap, _∙_}
+-- Besides, what lies between two finite floats is finite (`finite-between`), and a value that is not below 0 has no negative part (`not-negative`).
+use mathlib.Core.Path.{_≡_, refl, sym}
 use mathlib.Core.Logic.{_↔_, Iff·trans}
 use Prim.Native.Nat.{ℕ, _+_, _*_, _^_, _≤_, _<_}
-use lib.IntN.{ℤ}
-use native.Mathlib.Nat.{le-of-eq, le-antisymm, lt-of-not-le, not-le-of-lt, mul-pos, mul-comm}
+use native.Mathlib.Nat.{le-of-eq, le-antisymm, lt-of-not-le, not-le-of-lt, mul-pos}
 use native.Mathlib.Omega.{arith}
 use mathlib.Core.Bool.{Bool, true, false, _||_}
+use lib.IntN.{ℤ}
 use lib.Dec.{T, eqb, ltb→lt, lt→ltb, eqb→eq}
 use lib.Pow.{pow-pos}
 use lib.Ieee.{Float, nan, inf, fin, Format, low, up, down, below, level, lt, le, eq}
 use lib.Ieee.Scale.{finite}
 use lib.Ieee.Fits.{down-pos, and-i, and-l, and-r, eq→eqb}
 use Rattle.floats.specs.Value.{magnitude, sign, posPart, negPart, Finite}
-use Rattle.floats.proofs.Value.{ifPos, ifNeg, magnitude-whole}
-use Rattle.floats.proofs.Arithmetic.{order, widen}
+use Rattle.floats.proofs.Value.{ifPos, ifNeg, over-one, order}
 
 -- ---- ±a against ±b
 below-is : (s t : Bool) (a b : ℕ) → T (below s a t b) ↔ (ifPos s a + ifNeg t b < ifPos t b + ifNeg s a)
@@ -93,11 +92,10 @@ compared f (fin s m e) (fin t n d) A B =
     let l = 2 ^ low f in
     let X = magnitude f (fin s m e) in
     let Y = magnitude f (fin t n d) in
-    let p : a * l ≡ X * c = widen m (up e) (down e) (down d) l X (magnitude-whole f s m e (A .fits)) in
-    let q : b * l ≡ Y * c = widen n (up d) (down d) (down e) l Y (magnitude-whole f t n d (B .fits)) ∙ ap (λ (z : ℕ). Y * z) (mul-comm (down d) (down e)) in
+    let o = over-one f s t m n e d (A .fits) (B .fits) in
     let C : 0 < c = mul-pos (down-pos e) (down-pos d) in
-    let left = side s t a b l X Y c p q in
-    let right = side t s b a l Y X c q p in
+    let left = side s t a b l X Y c (o .0) (o .1) in
+    let right = side t s b a l Y X c (o .1) (o .0) in
     (Iff·trans (lt-fin s t m n e d) (lt-units C (pow-pos (low f)) left right), Iff·trans (eq-fin s t m n e d) (eq-units C (pow-pos (low f)) left right))
 
 module _ {f : Format} {x y : Float} (A : Finite f x) (B : Finite f y) where

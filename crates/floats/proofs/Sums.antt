@@ -12,7 +12,7 @@ use Rattle.floats.specs.Binary64.{one, eps, pos64, Ranged, number, zero6
 use Rattle.floats.proofs.Binary64.{one-eps, int64, mul-int64, near-self, near-as, near-add, near-sub, count-add, count-sub}
 use Rattle.floats.proofs.Range.{zero-number}
 
--- ---- i * 2 ^ -33, and half of one step of it
+-- ---- i * 2 ^ -33, for i steps of two roundings each, and 2 ^ -34, for one rounding
 abbrev pub err : ℕ → ℕ
 err i = i * (2097152 * eps)
 

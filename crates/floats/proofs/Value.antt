@@ -1,8 +1,8 @@
 -- The two parts of a float, from `fits` (a float of a format is a whole number of units) and from `HasValue` (a float known as a fraction); and `near-intro`,
 -- by which the laws of arithmetic make a `Near` of a rounded result.
 use mathlib.Core.Path.{_≡_, sym, ap, _∙_}
-use Prim.Native.Nat.{ℕ, zero, suc, _+_, _-_, _*_, _/_, _%_, _^_, _≤_}
-use native.Mathlib.Nat.{lt-of-not-le, not-le-of-lt, le-of-suc-le-suc, mul-one, mul-assoc, mul-div-cancel, div-one, zero-mul, zero-div}
+use Prim.Native.Nat.{ℕ, zero, suc, _+_, _-_, _*_, _/_, _%_, _^_, _≤_, _<_}
+use native.Mathlib.Nat.{le-trans, le-of-eq, lt-of-not-le, not-le-of-lt, le-of-suc-le-suc, mul-one, mul-comm, mul-assoc, mul-right-comm, mul-le-mul-right, le-of-mul-le-mul-right, mul-div-cancel, div-one, zero-mul, zero-div}
 use native.Mathlib.Omega.{arith}
 use mathlib.Core.Bool.{Bool, true, false, _&&_, cond}
 use lib.IntN.{ℤ, pos, negsuc}
@@ -40,6 +40,21 @@ magnitude-whole f s zero e h =
     ap (λ (x : ℕ). x / down e * down e) z ∙ ap (λ (x : ℕ). x * down e) (zero-div (down e)) ∙ zero-mul (down e) ∙ sym z
 magnitude-whole f s (suc m) e h =
     whole (suc m) e (low f) (leb→le (down e) (2 ^ low f) (and-r (eqb (suc m % 2) 1 && ltb (suc m) (2 ^ prec f)) (leb (down e) (2 ^ low f)) (and-l (eqb (suc m % 2) 1 && ltb (suc m) (2 ^ prec f) && leb (down e) (2 ^ low f)) (ltb (suc m * up e) (2 ^ suc (emax f) * down e)) h)))
+
+-- two floats over one divisor, each as many units as before
+widen : (m u d c l x : ℕ) → x * d ≡ m * u * l → m * u * c * l ≡ x * (d * c)
+widen m u d c l x e = mul-right-comm (m * u) c l ∙ ap (λ (z : ℕ). z * c) (sym e) ∙ mul-assoc x d c
+
+pub over-one : (f : Format) (s t : Bool) (m n : ℕ) (e d : ℤ) → T (fits f (fin s m e)) → T (fits f (fin t n d))
+    → (m * up e * down d * 2 ^ low f ≡ magnitude f (fin s m e) * (down e * down d)) × (n * up d * down e * 2 ^ low f ≡ magnitude f (fin t n d) * (down e * down d))
+over-one f s t m n e d a b =
+    let X = magnitude f (fin s m e) in
+    let Y = magnitude f (fin t n d) in
+    (widen m (up e) (down e) (down d) (2 ^ low f) X (magnitude-whole f s m e a), widen n (up d) (down d) (down e) (2 ^ low f) Y (magnitude-whole f t n d b) ∙ ap (λ (z : ℕ). Y * z) (mul-comm (down d) (down e)))
+
+-- a / c and b / c, of X and Y units, are in the order of their units
+pub order : (a b l X Y c : ℕ) → 0 < c → a * l ≡ X * c → b * l ≡ Y * c → a ≤ b → X ≤ Y
+order a b l X Y c C p q h = le-of-mul-le-mul-right (le-trans (le-of-eq (sym p)) (le-trans (mul-le-mul-right l h) (le-of-eq q))) C
 
 -- a float that is known to be ±g units
 magnitude-of-value : (f : Format) (x : Float) (s : Bool) (g : ℕ) → HasValue x s g (2 ^ low f) → T (finite x) × (sign x ≡ s) × (magnitude f x ≡ g)
