@@ -1,0 +1,4 @@
+pub mod At
+pub mod Filling
+pub mod Tabulate
+pub mod Lent

@@ -1,0 +1,15 @@
+// Lent buffers: what a loop that fills one leaves in it.
+
+ghost use mathlib.Core.Path.{_≡_};
+ghost use lib.ListN.{length, replicate};
+
+// All counts are 0.
+pub fn clear(counts: &mut [u16])
+    ensures { λ _. ⌜ now (counts .exit) ≡ replicate (length (now (counts .entry))) 0 ⌝ }
+{
+    let mut i = 0;
+    while i < counts.len() {
+        counts[i] = 0;
+        i += 1;
+    }
+}
