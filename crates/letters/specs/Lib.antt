@@ -1,4 +1,5 @@
 pub mod Code
 pub mod Place
 pub mod Entry
+pub mod Rolling
 pub mod Gc

@@ -1,5 +1,5 @@
 -- The paper, 'Letters and places': the places of a strand and their k-mers. `s` is the strand's list of codes.
-use Prim.Native.Nat.{ℕ, zero, suc, _+_, _*_}
+use Prim.Native.Nat.{ℕ, zero, suc, _+_, _*_, _<_}
 use mathlib.Core.Bool.{Bool, true, false, cond, _&&_}
 use mathlib.Core.List.{List, [], _∷_}
 use lib.ListN.{length, getD}
@@ -32,3 +32,12 @@ placesFrom k s p (suc m) = placeAt k s p ∷ placesFrom k s (suc p) m
 
 unfoldable pub places : ℕ → List ℕ → List Place
 places k s = placesFrom k s 0 (length s)
+
+-- The k-mer of a plain place lies below m.
+abbrev pub BelowAt : ℕ → Place → Type 0
+BelowAt m ambiguous = Unit {0}
+BelowAt m (plain x) = x < m
+
+abbrev pub Below : ℕ → List Place → Type 0
+Below m [] = Unit {0}
+Below m (p ∷ ps) = BelowAt m p × Below m ps

@@ -1,0 +1,34 @@
+-- `letters::Kmer::next` meets its contract. Assumes nothing.
+use mathlib.Core.Path.{ap, _∙_}
+use Prim.Native.Nat.{ℕ, _-_}
+use native.Mathlib.Omega.{arith}
+use borrow.Author.Needs.{needs}
+use lib.Bits.{bitAnd, bitOr}
+use Rattle.letters.proofs.Powers.{four-pos, four-small}
+use Rattle.letters.proofs.Rolling.{shifted-in, rolled-plain, rolled-other}
+use Rattle.letters.proofs.Kmer.next.Statement.{statement}
+use Rattle.letters.proofs.Kmer.next.Tie as tie
+
+n-kmers-requires : tie.Need-n-kmers-requires
+n-kmers-requires c κs = search needs
+
+sub-mask : tie.Need-sub-mask
+sub-mask c = let st = c .before .before in omega (arith, c .n-kmers .ensures, four-pos (st .args .k))
+
+cast-mask : tie.Need-cast-mask
+cast-mask c = let st = c .before .before in omega (arith, c .n-kmers .ensures, four-small (st .args .k) (st .pre .0))
+
+add-self : tie.Need-add-self
+add-self c = search needs
+
+returns : tie.Need-returns
+returns c =
+    let st = c .before .before .before .before in
+    let a = st .args in
+    rolled-plain (a .k) (a .self) (a .b) _ (c .before .before .before .if1 .taken) (rw (c .before .before .n-kmers .ensures) (shifted-in (a .k) (a .self .value) (a .b) (st .pre .0) (c .before .before .before .if1 .taken)))
+
+returns-2 : tie.Need-returns-2
+returns-2 c = let a = c .before .args in rolled-other (a .k) (a .self) (a .b) (c .if1 .left)
+
+pub next-spec : {M : Type 1} → statement M
+next-spec = tie.close (tie.spec n-kmers-requires sub-mask cast-mask add-self returns returns-2)

@@ -1,0 +1,7 @@
+pub mod Codes
+pub mod Powers
+pub mod Places
+pub mod Entries
+pub mod Rolling
+pub mod Gc
+pub mod Examples

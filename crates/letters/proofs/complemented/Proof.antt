@@ -1,0 +1,20 @@
+-- `letters::complemented` meets its contract. Assumes nothing.
+use borrow.Author.Needs.{needs}
+use borrow.Author.Tests.{lt-ltb, le-ltb}
+use Rattle.letters.specs.Code.{complement}
+use Rattle.letters.proofs.complemented.Statement.{statement}
+use Rattle.letters.proofs.complemented.Tie as tie
+
+sub-result : tie.Need-sub-result
+sub-result c = search needs
+
+returns : tie.Need-returns
+unfolding complement
+returns c = simp (lt-ltb _ _ (c .if1 .taken))
+
+returns-2 : tie.Need-returns-2
+unfolding complement
+returns-2 c = simp (le-ltb _ _ (c .if1 .left))
+
+pub complemented-spec : {M : Type 1} → statement M
+complemented-spec = tie.close (tie.spec sub-result returns returns-2)
