@@ -6,7 +6,7 @@ use Prim.Native.Nat.{ℕ, _-_, _≤_, _<_}
 use native.Mathlib.Omega.{arith}
 use lib.Dec.{eqb, ltb}
 use lib.ListN.{length, getD, length-map, length-reverse, List·getD-map}
-use borrow.Author.Tests.{ltb-true, lt-ltb}
+use borrow.Author.Tests.{ltb-true, lt-ltb, le-ltb}
 use Rattle.buffers.proofs.At.{default-free, getD-reverse}
 use Rattle.letters.specs.Code.{code, codes, complement, reverseComplement}
 
@@ -31,6 +31,10 @@ codes-at s i h = default-free (map code s) i 4 (code 0) (let e = length-map s co
 
 pub codes-below : (s : List ℕ) (i : ℕ) → i < length s → getD (codes s) i 4 < 5
 codes-below s i h = rw (codes-at s i h) (code-below (getD s i 0))
+
+pub complement-other : (c : ℕ) → 4 ≤ c → complement c ≡ c
+unfolding complement
+complement-other c h = rw (le-ltb c 4 h)
 
 pub complement-twice : (c : ℕ) → complement (complement c) ≡ c
 unfolding complement

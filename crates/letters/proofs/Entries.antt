@@ -5,7 +5,7 @@ use Prim.Native.Nat.{ℕ, zero, suc, _/_, _%_, _<_}
 use native.Mathlib.Omega.{arith}
 use lib.ListN.{length, getD, drop, length-map}
 use borrow.Author.Tests.{eq-eqb, ne-eqb}
-use Rattle.letters.specs.Place.{Place, ambiguous, plain}
+use Rattle.letters.specs.Place.{ambiguous, plain}
 use Rattle.letters.specs.Entry.{decode, decoded}
 
 pub decode-plain : (e : ℕ) → e % 2 ≡ 0 → decode e ≡ plain (e / 2)

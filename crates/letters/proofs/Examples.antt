@@ -1,11 +1,10 @@
 -- The paper's examples of 'Letters and places' and of GC content.
 use mathlib.Core.Path.{_≡_, refl}
-use mathlib.Core.List.{List, [], _∷_}
-use Prim.Native.Nat.{ℕ}
-use lib.Ieee.{Float, binary64, div, ofInt}
+use mathlib.Core.List.{[], _∷_}
+use lib.Ieee.{binary64, div, ofInt}
 use lib.IntN.{pos}
 use Rattle.letters.specs.Code.{code, codes, complement, reverseComplement}
-use Rattle.letters.specs.Place.{Place, ambiguous, plain, packed, allPlain, placeAt, placesFrom, places}
+use Rattle.letters.specs.Place.{ambiguous, plain, packed, allPlain, placeAt, placesFrom, places}
 use Rattle.letters.specs.Gc.{acgtCount, gcCount, gcOf}
 
 -- "AcgTN-"

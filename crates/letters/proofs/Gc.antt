@@ -11,9 +11,10 @@ use lib.IntN.{pos}
 use lib.ListN.{length, getD, take}
 use lib.Seq.{take-suc, take-length}
 use mir.Val.{boolByte}
-use borrow.Author.Tests.{eq-eqb, ne-eqb, le-ltb}
+use borrow.Author.Tests.{eq-eqb, ne-eqb}
 use Rattle.letters.specs.Code.{complement, reverseComplement}
 use Rattle.letters.specs.Gc.{acgtCount, gcCount, gcOf}
+use Rattle.letters.proofs.Codes.{complement-other}
 
 -- How many codes pass a test.
 unfoldable pub tally : (ℕ → Bool) → List ℕ → ℕ
@@ -93,7 +94,7 @@ module _ (t : ℕ → Bool) (at : t 3 ≡ t 0) (cg : t 2 ≡ t 1) where
   test-complement (suc zero) = cg
   test-complement (suc (suc zero)) = sym cg
   test-complement (suc (suc (suc zero))) = sym at
-  test-complement (suc (suc (suc (suc c)))) = rw (le-ltb (suc (suc (suc (suc c)))) 4 (omega arith))
+  test-complement (suc (suc (suc (suc c)))) = ap t (complement-other (suc (suc (suc (suc c)))) (omega arith))
 
   tally-map : (s : List ℕ) → tally t (map complement s) ≡ tally t s
   unfolding tally

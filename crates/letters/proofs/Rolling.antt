@@ -13,9 +13,9 @@ use mir.Val.{boolByte}
 use borrow.Author.Tests.{ltb-true, leb-true, leb-false, le-leb, lt-leb, lt-ltb, le-ltb}
 use Rattle.buffers.proofs.At.{default-free}
 use Rattle.letters.specs.declared.Kmer.{Kmer}
-use Rattle.letters.specs.Place.{Place, ambiguous, plain, packed, allPlain, placeAt}
+use Rattle.letters.specs.Place.{ambiguous, plain, packed, allPlain, placeAt}
 use Rattle.letters.specs.Entry.{decode}
-use Rattle.letters.specs.Rolling.{rolledOn, kmerAfter, entryOf}
+use Rattle.letters.specs.Rolling.{noLetter, rolledOn, kmerAfter, entryOf}
 use Rattle.letters.proofs.Powers.{four-pos, four-small, four-two, mod-mod-four, mod-letter}
 use Rattle.letters.proofs.Entries.{decode-plain, decode-ambiguous}
 
@@ -107,6 +107,10 @@ after-few k s (suc m) = go (ltb (getD s m 4) 4) (after-few k s m)
     go false h = omega arith
 
 -- ---- For a loop over the letters of s whose state after m of them is q.
+pub kmer-none : (k : ℕ) (s : List ℕ) → noLetter ≡ kmerAfter k s 0
+unfolding kmerAfter
+kmer-none k s = refl
+
 module _ (k : ℕ) (s : List ℕ) (m : ℕ) (q : Kmer) (after : q ≡ kmerAfter k s m) where
   pub kmer-next : (r : Kmer) → m < length s → r ≡ rolledOn k q (getD s m 0) → r ≡ kmerAfter k s (m + 1)
   unfolding kmerAfter

@@ -1,6 +1,6 @@
 -- The paper, 'Letters and places': letters as codes, and the reverse complement.
 use Prim.Native.Nat.{ℕ, _-_}
-use mathlib.Core.Bool.{Bool, _||_, cond}
+use mathlib.Core.Bool.{_||_, cond}
 use mathlib.Core.List.{List, map, reverse}
 use lib.Dec.{eqb, ltb}
 

@@ -1,6 +1,6 @@
 -- A place as a number of 32 bits in the queue: the k-mer shifted left by one, and the ambiguity bit lowest.
 use Prim.Native.Nat.{ℕ, _/_, _%_}
-use mathlib.Core.Bool.{Bool, cond}
+use mathlib.Core.Bool.{cond}
 use mathlib.Core.List.{List, map}
 use lib.Dec.{eqb}
 use Rattle.letters.specs.Place.{Place, ambiguous, plain}

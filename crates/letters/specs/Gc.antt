@@ -1,6 +1,6 @@
 -- The paper, 'Tables and the program': GC auto is (C+G) / (A+C+G+T), 0.0 if none.
 use Prim.Native.Nat.{ℕ, _+_}
-use mathlib.Core.Bool.{Bool, cond, _||_}
+use mathlib.Core.Bool.{cond, _||_}
 use mathlib.Core.List.{List, [], _∷_}
 use lib.Dec.{ltb, eqb}
 use lib.Ieee.{Float, binary64, div, ofBits, ofInt}

@@ -1,6 +1,6 @@
 -- The paper, 'Letters and places', as the code rolls it on: the state after the first m letters, and its queue entry.
 use Prim.Native.Nat.{ℕ, zero, suc, _+_, _*_, _^_, _%_}
-use mathlib.Core.Bool.{Bool, cond}
+use mathlib.Core.Bool.{cond}
 use mathlib.Core.List.{List}
 use lib.ListN.{getD}
 use lib.Dec.{ltb}

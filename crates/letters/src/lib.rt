@@ -31,7 +31,7 @@ pub fn encode_sequence(sequence: &[u8], encoded: &mut [u8])
     }
 }
 
-fn complemented(c: u8) -> u8
+fn complement(c: u8) -> u8
     ensures { λ r. ⌜ r ≡ complement c ⌝ }
 {
     if c < 4 { 3 - c } else { c }
@@ -44,7 +44,7 @@ pub fn reverse_complement_encoded_sequence(encoded: &[u8], reversed: &mut [u8])
     let n = encoded.len();
     let mut i = 0;
     while i < n {
-        reversed[i] = complemented(encoded[n - 1 - i]);
+        reversed[i] = complement(encoded[n - 1 - i]);
         i += 1;
     }
 }

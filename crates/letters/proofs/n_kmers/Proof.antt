@@ -1,5 +1,4 @@
 -- `letters::n_kmers` meets its contract. Assumes nothing.
-use mathlib.Core.Path.{sym, _∙_}
 use native.Mathlib.Omega.{arith}
 use borrow.Author.Needs.{needs}
 use Rattle.letters.proofs.Powers.{four-two, four-small}

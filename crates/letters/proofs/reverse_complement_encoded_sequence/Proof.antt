@@ -20,17 +20,17 @@ abbrev μ-loop : tie.MeasureT-loop
 loop-holds : tie.Need-loop-holds Inv-loop μ-loop
 loop-holds c = search needs
 
-sub-complemented : tie.Need-sub-complemented Inv-loop μ-loop
-sub-complemented c = search needs
+sub-complement : tie.Need-sub-complement Inv-loop μ-loop
+sub-complement c = search needs
 
-sub-complemented-2 : tie.Need-sub-complemented-2 Inv-loop μ-loop
-sub-complemented-2 c = search needs
+sub-complement-2 : tie.Need-sub-complement-2 Inv-loop μ-loop
+sub-complement-2 c = search needs
 
-shared-slice-read-complemented : tie.Need-shared-slice-read-complemented Inv-loop μ-loop
-shared-slice-read-complemented c = search needs
+shared-slice-read-complement : tie.Need-shared-slice-read-complement Inv-loop μ-loop
+shared-slice-read-complement c = search needs
 
-complemented-requires : tie.Need-complemented-requires Inv-loop μ-loop
-complemented-requires c κs = search needs
+complement-requires : tie.Need-complement-requires Inv-loop μ-loop
+complement-requires c κs = search needs
 
 slice-write-reversed : tie.Need-slice-write-reversed Inv-loop μ-loop
 slice-write-reversed c = search needs
@@ -52,7 +52,7 @@ loop-again c =
       search needs,
       simp length-set (omega arith),
       fill-store (reverseComplement s) (a .reversed .now) (omega arith) (l .i) _ (l .inv .4) 4 _ (omega arith)
-          (c .complemented .ensures ∙ sym (reverseComplement-at s (l .i) (omega arith))),
+          (c .complement .ensures ∙ sym (reverseComplement-at s (l .i) (omega arith))),
     )
 
 same-length : tie.Need-same-length Inv-loop μ-loop
@@ -72,10 +72,10 @@ reverse-complement-encoded-sequence-spec =
     Inv-loop
     μ-loop
     loop-holds
-    sub-complemented
-    sub-complemented-2
-    shared-slice-read-complemented
-    complemented-requires
+    sub-complement
+    sub-complement-2
+    shared-slice-read-complement
+    complement-requires
     slice-write-reversed
     add-i
     loop-less

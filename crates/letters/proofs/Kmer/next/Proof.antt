@@ -1,9 +1,7 @@
 -- `letters::Kmer::next` meets its contract. Assumes nothing.
-use mathlib.Core.Path.{ap, _∙_}
-use Prim.Native.Nat.{ℕ, _-_}
+use Prim.Native.Nat.{_-_}
 use native.Mathlib.Omega.{arith}
 use borrow.Author.Needs.{needs}
-use lib.Bits.{bitAnd, bitOr}
 use Rattle.letters.proofs.Powers.{four-pos, four-small}
 use Rattle.letters.proofs.Rolling.{shifted-in, rolled-plain, rolled-other}
 use Rattle.letters.proofs.Kmer.next.Statement.{statement}

@@ -1,9 +1,9 @@
--- `letters::complemented` meets its contract. Assumes nothing.
+-- `letters::complement` meets its contract. Assumes nothing.
 use borrow.Author.Needs.{needs}
 use borrow.Author.Tests.{lt-ltb, le-ltb}
 use Rattle.letters.specs.Code.{complement}
-use Rattle.letters.proofs.complemented.Statement.{statement}
-use Rattle.letters.proofs.complemented.Tie as tie
+use Rattle.letters.proofs.complement.Statement.{statement}
+use Rattle.letters.proofs.complement.Tie as tie
 
 sub-result : tie.Need-sub-result
 sub-result c = search needs
@@ -16,5 +16,5 @@ returns-2 : tie.Need-returns-2
 unfolding complement
 returns-2 c = simp (le-ltb _ _ (c .if1 .left))
 
-pub complemented-spec : {M : Type 1} → statement M
-complemented-spec = tie.close (tie.spec sub-result returns returns-2)
+pub complement-spec : {M : Type 1} → statement M
+complement-spec = tie.close (tie.spec sub-result returns returns-2)
