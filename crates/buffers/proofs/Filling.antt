@@ -1,21 +1,18 @@
 -- A loop that fills the front of a buffer d with the entries of a list xs, one store a turn: after i turns the buffer is `part xs d i`. Assumes nothing.
-use mathlib.Core.Path.{_≡_, refl, sym, ap, _∙_}
+use mathlib.Core.Path.{_≡_, sym, ap, _∙_}
 use mathlib.Core.List.{List, _∷_, _++_, append-nil}
 use Prim.Native.Nat.{ℕ, suc, _+_, _≤_, _<_}
 use native.Mathlib.Numerals.{add-one}
 use native.Mathlib.Omega.{arith}
-use lib.ListN.{length, take, drop, replicate, getD, set, length-append, length-take, length-drop, drop-of-length-le}
+use lib.ListN.{length, take, drop, replicate, getD, set, drop-of-length-le}
 use lib.Seq.{take-suc, drop-cons, append-snoc, set-at, length-take-le, take-length, drop-length}
 use Rattle.buffers.specs.Fill.{put}
 
 abbrev pub part {ℓ} : {A : Type ℓ} → List A → List A → ℕ → List A
 part xs d i = take i xs ++ drop i d
 
-pub part-none {ℓ} : {A : Type ℓ} (xs d : List A) → d ≡ part xs d 0
-part-none xs d = refl
-
 module _ {ℓ} {A : Type ℓ} (xs d : List A) (fits : length xs ≤ length d) where
-  pub part-more : (z : A) (i : ℕ) → i < length xs → set (part xs d i) i (getD xs i z) ≡ part xs d (i + 1)
+  part-more : (z : A) (i : ℕ) → i < length xs → set (part xs d i) i (getD xs i z) ≡ part xs d (i + 1)
   part-more z i h =
       let h2 : i < length d = omega arith in
       let e : drop i d ≡ getD d i z ∷ drop (suc i) d = drop-cons d i z h2 in
@@ -25,11 +22,8 @@ module _ {ℓ} {A : Type ℓ} (xs d : List A) (fits : length xs ≤ length d) wh
       ∙ ap (λ (l : List A). l ++ drop (suc i) d) (sym (take-suc xs i z h))
       ∙ ap (λ (n : ℕ). take n xs ++ drop n d) (sym (add-one i))
 
-  pub part-all : part xs d (length xs) ≡ put xs d
+  part-all : part xs d (length xs) ≡ put xs d
   part-all = ap (λ (l : List A). l ++ drop (length xs) d) (take-length xs)
-
-  pub part-length : (i : ℕ) → i ≤ length xs → length (part xs d i) ≡ length d
-  part-length i h = length-append (take i xs) (drop i d) ∙ omega (arith, length-take i xs, length-drop i d)
 
   -- The loop's turn and its end, l being the buffer after i turns.
   pub fill-store : (i : ℕ) (l : List A) → l ≡ part xs d i → (z v : A) → i < length xs → v ≡ getD xs i z → set l i v ≡ part xs d (i + 1)

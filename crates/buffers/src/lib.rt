@@ -1,4 +1,4 @@
-// Lent buffers: what a loop that fills one leaves in it.
+// Lent buffers.
 
 ghost use mathlib.Core.Path.{_≡_};
 ghost use lib.ListN.{length, replicate};

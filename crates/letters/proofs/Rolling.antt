@@ -51,11 +51,11 @@ entry-bits k q h =
     go false = or-shifted (q .value) 1 0 (omega arith)
 
 -- ---- The state after m letters.
-link : (k : ℕ) (s : List ℕ) (m j : ℕ) → j ≤ kmerAfter k s m .run → j ≤ k → kmerAfter k s m .value % 4 ^ j ≡ packed s m j
+after-packed : (k : ℕ) (s : List ℕ) (m j : ℕ) → j ≤ kmerAfter k s m .run → j ≤ k → kmerAfter k s m .value % 4 ^ j ≡ packed s m j
 unfolding packed kmerAfter rolledOn
-link k s m zero h l = mod-one (kmerAfter k s m .value)
-link k s zero (suc j) h l = absurd (let b : ⊥ = omega arith in b)
-link k s (suc m) (suc j) h l = go (ltb (getD s m 4) 4) refl (λ q. link k s m j q (omega arith)) h
+after-packed k s m zero h l = mod-one (kmerAfter k s m .value)
+after-packed k s zero (suc j) h l = absurd (let b : ⊥ = omega arith in b)
+after-packed k s (suc m) (suc j) h l = go (ltb (getD s m 4) 4) refl (λ q. after-packed k s m j q (omega arith)) h
   where
     q : Kmer
     q = kmerAfter k s m
@@ -153,7 +153,7 @@ entry-place k s p q e = by (allPlain s (suc p) k) (after-run k s (suc p) k ∙ a
     kmer h =
         sym (mod-eq-of-lt (value-below k s (suc p) q after))
         ∙ ap (λ (r : Kmer). r .value % 4 ^ k) after
-        ∙ link k s (suc p) k (subst (λ (r : Kmer). k ≤ r .run) after h) (omega arith)
+        ∙ after-packed k s (suc p) k (subst (λ (r : Kmer). k ≤ r .run) after h) (omega arith)
 
     by : (t : Bool) → t ≡ leb k (q .run) → decode (entryOf k q) ≡ cond t (plain (packed s (suc p) k)) ambiguous
     by true t =
