@@ -1,7 +1,7 @@
 // Letters as codes, the rolling k-mer, and GC content.
 
 ghost use mathlib.Core.Path.{_≡_};
-ghost use Prim.Native.Nat.{_+_, _-_, _*_, _^_, _≤_, _<_};
+ghost use Prim.Native.Nat.{_^_, _≤_, _<_};
 ghost use lib.ListN.{length};
 ghost use Rattle.buffers.specs.Fill.{put};
 ghost use Rattle.letters.specs.Code.{code, codes, complement, reverseComplement};

@@ -1,5 +1,4 @@
 -- `letters::Kmer::next` meets its contract. Assumes nothing.
-use Prim.Native.Nat.{_-_}
 use native.Mathlib.Omega.{arith}
 use borrow.Author.Needs.{needs}
 use Rattle.letters.proofs.Powers.{four-pos, four-small}
@@ -23,7 +22,8 @@ returns : tie.Need-returns
 returns c =
     let st = c .before .before .before .before in
     let a = st .args in
-    rolled-plain (a .k) (a .self) (a .b) _ (c .before .before .before .if1 .taken) (rw (c .before .before .n-kmers .ensures) (shifted-in (a .k) (a .self .value) (a .b) (st .pre .0) (c .before .before .before .if1 .taken)))
+    let plain = c .before .before .before .if1 .taken in
+    rolled-plain (a .k) (a .self) (a .b) _ plain (rw (c .before .before .n-kmers .ensures) (shifted-in (a .k) (a .self .value) (a .b) (st .pre .0) plain))
 
 returns-2 : tie.Need-returns-2
 returns-2 c = let a = c .before .args in rolled-other (a .k) (a .self) (a .b) (c .if1 .left)
