@@ -1,0 +1,127 @@
+-- Tables in the paper's ranges: there the exact score of a stretch is `gain - loss` of naturals, in units of 2^-1074, and the gain is at most 16 a place.
+use mathlib.Core.Path.{_≡_, refl, sym, ap, _∙_, subst}
+use Prim.Native.Nat.{ℕ, zero, suc, _+_, _*_, _≤_, _<_}
+use native.Mathlib.Omega.{arith}
+use mathlib.Core.List.{List, [], _∷_, _++_}
+use lib.ListN.{length}
+use lib.IntN.{ℤ, pos, negsuc, negℤ, natAbs, _+ℤ_, _-ℤ_, _*ℤ_}
+use lib.Signed.{_≤ℤ_}
+use lib.Ieee.{Float, binary64}
+use Rattle.floats.specs.Binary64.{one, pos64, neg64, value64, Ranged}
+use Rattle.floats.proofs.Whole.{Is, is-as, is-sub, is-neg, is-le, value-is}
+use Rattle.floats.proofs.Sums.{zero-ranged}
+use Rattle.letters.specs.Place.{Place, ambiguous, plain, BelowAt, Below}
+use Rattle.scans.specs.Setup.{Setup, lnAt, fAt, kmers}
+use Rattle.scans.specs.Counts.{hit, count}
+use Rattle.scans.specs.Score.{lnSum, lnSums, score}
+use Rattle.scans.proofs.Counting.{count-le, count-snoc}
+use Rattle.scans.proofs.Exact.{added, lnSums-more, lnSums-none}
+
+-- T in 0..16, ln entries 1..w in 0..16, f entries 1..w in 0..2^20.
+pub record InRange (S : Setup) : Type 0 where
+  pub window-small : S .window-size ≤ 65535
+  pub window-some : 0 < S .window-size
+  pub t-ranged : Ranged 16 (S .threshold)
+  pub ln-ranged : (c : ℕ) → 0 < c → c ≤ S .window-size → Ranged 16 (lnAt S c)
+  pub f-ranged : (l : ℕ) → 0 < l → l ≤ S .window-size → Ranged 1048576 (fAt S l)
+
+-- The sum over k-mers.
+unfoldable pub gain : Setup → List Place → ℕ
+gain S q = natAbs (lnSums S (kmers S) q)
+
+-- L times T, and f entry L.
+abbrev pub loss : Setup → ℕ → ℕ
+loss S l = l * pos64 (S .threshold) + pos64 (fAt S l)
+
+-- ---- Numbers that are not below 0.
+abbrev NonNegative : ℤ → Type 0
+NonNegative (pos k) = Unit {0}
+NonNegative (negsuc k) = ⊥
+
+add-non-negative : (x y : ℤ) → NonNegative x → NonNegative y → NonNegative (x +ℤ y) × (natAbs (x +ℤ y) ≡ natAbs x + natAbs y)
+add-non-negative (pos i) (pos j) a b = (tt, refl)
+add-non-negative (pos i) (negsuc j) a b = absurd b
+add-non-negative (negsuc i) y a b = absurd a
+
+non-negative-is : (z : ℤ) → NonNegative z → Is z (natAbs z) 0
+non-negative-is (pos k) a = omega arith
+non-negative-is (negsuc k) a = absurd a
+
+is-non-negative : (z : ℤ) (a : ℕ) → Is z a 0 → NonNegative z × (natAbs z ≡ a)
+is-non-negative (pos k) a h = (tt, omega arith)
+is-non-negative (negsuc k) a h = absurd (omega arith)
+
+is-times : (z : ℤ) (c a b : ℕ) → Is z a b → Is (pos c *ℤ z) (c * a) (c * b)
+is-times (pos k) c a b h = ap (λ (x : ℕ). c * x) h ∙ omega arith
+is-times (negsuc k) c a b h =
+    is-as (negℤ (pos (c * suc k))) 0 (c * suc k) (c * a) (c * b) (omega (arith, ap (λ (x : ℕ). c * x) h)) (is-neg (pos (c * suc k)) (c * suc k) 0 (omega arith))
+
+is-scaled : (z : ℤ) (c a b : ℕ) → Is z a b → Is (z *ℤ pos c) (a * c) (b * c)
+is-scaled (pos k) c a b h = ap (λ (x : ℕ). x * c) h ∙ omega arith
+is-scaled (negsuc k) c a b h =
+    is-as (negℤ (pos (suc k * c))) 0 (suc k * c) (a * c) (b * c) (omega (arith, ap (λ (x : ℕ). x * c) h)) (is-neg (pos (suc k * c)) (suc k * c) 0 (omega arith))
+
+ranged-is : (B : ℕ) (x : Float) → Ranged B x → Is (value64 x) (pos64 x) 0
+ranged-is B x r = is-as (value64 x) (pos64 x) (neg64 x) (pos64 x) 0 (omega (arith, r .low)) (value-is binary64 x)
+
+pub gain-none : (S : Setup) → gain S [] ≡ 0
+unfolding gain
+gain-none S = ap natAbs (lnSums-none S (kmers S))
+
+module _ (S : Setup) (R : InRange S) where
+  lnSum-non-negative : (m : ℕ) → m ≤ S .window-size → NonNegative (lnSum S m)
+  unfolding lnSum
+  lnSum-non-negative zero l = tt
+  lnSum-non-negative (suc m) l =
+      let x : Float = lnAt S (suc m) in
+      add-non-negative (lnSum S m) (value64 x) (lnSum-non-negative m (omega arith)) (is-non-negative (value64 x) (pos64 x) (ranged-is 16 x (R .ln-ranged (suc m) (omega arith) l)) .0) .0
+
+  lnSums-non-negative : (b : ℕ) (q : List Place) → length q ≤ S .window-size → NonNegative (lnSums S b q)
+  unfolding lnSums
+  lnSums-non-negative zero q l = tt
+  lnSums-non-negative (suc b) q l =
+      add-non-negative (lnSums S b q) (lnSum S (count b q)) (lnSums-non-negative b q l) (lnSum-non-negative (count b q) (omega (arith, count-le b q))) .0
+
+  -- ---- One place more.
+  pub added-ranged : (q : List Place) (e : Place) → length q < S .window-size → Ranged 16 (added S q e)
+  added-ranged q ambiguous l = zero-ranged 16
+  added-ranged q (plain x) l = R .ln-ranged (suc (count x q)) (omega arith) (omega (arith, count-le x q))
+
+  gain-more : (q r : List Place) (e : Place) → BelowAt (kmers S) e → ((y : ℕ) → count y r ≡ hit y e + count y q) → length q < S .window-size
+      → gain S r ≡ gain S q + pos64 (added S q e)
+  unfolding gain
+  gain-more q r e b h l =
+      let v = is-non-negative (value64 (added S q e)) (pos64 (added S q e)) (ranged-is 16 (added S q e) (added-ranged q e l)) in
+      ap natAbs (lnSums-more S q r e b h) ∙ add-non-negative (lnSums S (kmers S) q) (value64 (added S q e)) (lnSums-non-negative (kmers S) q (omega arith)) (v .0) .1
+      ∙ ap (λ (z : ℕ). natAbs (lnSums S (kmers S) q) + z) (v .1)
+
+  -- At the newest end, and at the oldest.
+  pub gain-snoc : (q : List Place) (e : Place) → BelowAt (kmers S) e → length q < S .window-size → gain S (q ++ e ∷ []) ≡ gain S q + pos64 (added S q e)
+  gain-snoc q e b l = gain-more q (q ++ e ∷ []) e b (λ y. count-snoc y q e) l
+
+  pub gain-cons : (q : List Place) (e : Place) → BelowAt (kmers S) e → length q < S .window-size → gain S (e ∷ q) ≡ gain S q + pos64 (added S q e)
+  gain-cons q e b l = gain-more q (e ∷ q) e b (λ y. refl) l
+
+  pub gain-bound : (q : List Place) → Below (kmers S) q → length q ≤ S .window-size → gain S q ≤ length q * (16 * one)
+  gain-bound [] b l = omega (arith, gain-none S)
+  gain-bound (e ∷ q) b l = omega (arith, gain-cons q e (b .0) (omega arith), gain-bound q (b .1) (omega arith), added-ranged q e (omega arith) .high)
+
+  -- ---- The exact score.
+  pub score-is : (q : List Place) → length q ≤ S .window-size → 0 < length q → Is (score S q) (gain S q) (loss S (length q))
+  unfolding score gain
+  score-is q l some =
+      let t : Float = S .threshold in
+      let len : ℕ = length q in
+      let f : Float = fAt S len in
+      let z : ℤ = lnSums S (kmers S) q in
+      let G : ℕ = natAbs z in
+      let a = is-sub z (pos len *ℤ value64 t) G 0 (len * pos64 t) (len * 0) (non-negative-is z (lnSums-non-negative (kmers S) q l)) (is-times (value64 t) len (pos64 t) 0 (ranged-is 16 t (R .t-ranged))) in
+      is-as (score S q) (G + len * 0 + 0) (0 + len * pos64 t + pos64 f) G (loss S len) (omega arith)
+      (is-sub (z -ℤ pos len *ℤ value64 t) (value64 f) (G + len * 0) (0 + len * pos64 t) (pos64 f) 0 a (ranged-is 1048576 f (R .f-ranged len some l)))
+
+  -- At least -c, in units of 2^-1074 / 2^32.
+  pub score-high : (q : List Place) (c : ℕ) → length q ≤ S .window-size → 0 < length q → loss S (length q) * 4294967296 ≤ gain S q * 4294967296 + c
+      → negℤ (pos c) ≤ℤ (score S q *ℤ pos 4294967296)
+  score-high q c l some h =
+      is-le (negℤ (pos c)) (score S q *ℤ pos 4294967296) 0 c (gain S q * 4294967296) (loss S (length q) * 4294967296)
+      (is-neg (pos c) c 0 (omega arith)) (is-scaled (score S q) 4294967296 (gain S q) (loss S (length q)) (score-is q l some)) .1 (omega arith)
