@@ -1,5 +1,5 @@
 -- Tables in the paper's ranges: there the exact score of a stretch is `gain - loss` of naturals, in units of 2^-1074, and the gain is at most 16 a place.
-use mathlib.Core.Path.{_≡_, refl, sym, ap, _∙_, subst}
+use mathlib.Core.Path.{_≡_, refl, ap, _∙_}
 use Prim.Native.Nat.{ℕ, zero, suc, _+_, _*_, _≤_, _<_}
 use native.Mathlib.Omega.{arith}
 use mathlib.Core.List.{List, [], _∷_, _++_}
@@ -7,8 +7,8 @@ use lib.ListN.{length}
 use lib.IntN.{ℤ, pos, negsuc, negℤ, natAbs, _+ℤ_, _-ℤ_, _*ℤ_}
 use lib.Signed.{_≤ℤ_}
 use lib.Ieee.{Float, binary64}
-use Rattle.floats.specs.Binary64.{one, pos64, neg64, value64, Ranged}
-use Rattle.floats.proofs.Whole.{Is, is-as, is-sub, is-neg, is-le, value-is}
+use Rattle.floats.specs.Binary64.{one, pos64, value64, Ranged}
+use Rattle.floats.proofs.Whole.{Is, is-as, is-sub, is-neg, is-times, is-scaled, is-le, value-is-pos}
 use Rattle.floats.proofs.Sums.{zero-ranged}
 use Rattle.letters.specs.Place.{Place, ambiguous, plain, BelowAt, Below}
 use Rattle.scans.specs.Setup.{Setup, lnAt, fAt, kmers}
@@ -51,18 +51,8 @@ is-non-negative : (z : ℤ) (a : ℕ) → Is z a 0 → NonNegative z × (natAbs 
 is-non-negative (pos k) a h = (tt, omega arith)
 is-non-negative (negsuc k) a h = absurd (omega arith)
 
-is-times : (z : ℤ) (c a b : ℕ) → Is z a b → Is (pos c *ℤ z) (c * a) (c * b)
-is-times (pos k) c a b h = ap (λ (x : ℕ). c * x) h ∙ omega arith
-is-times (negsuc k) c a b h =
-    is-as (negℤ (pos (c * suc k))) 0 (c * suc k) (c * a) (c * b) (omega (arith, ap (λ (x : ℕ). c * x) h)) (is-neg (pos (c * suc k)) (c * suc k) 0 (omega arith))
-
-is-scaled : (z : ℤ) (c a b : ℕ) → Is z a b → Is (z *ℤ pos c) (a * c) (b * c)
-is-scaled (pos k) c a b h = ap (λ (x : ℕ). x * c) h ∙ omega arith
-is-scaled (negsuc k) c a b h =
-    is-as (negℤ (pos (suc k * c))) 0 (suc k * c) (a * c) (b * c) (omega (arith, ap (λ (x : ℕ). x * c) h)) (is-neg (pos (suc k * c)) (suc k * c) 0 (omega arith))
-
 ranged-is : (B : ℕ) (x : Float) → Ranged B x → Is (value64 x) (pos64 x) 0
-ranged-is B x r = is-as (value64 x) (pos64 x) (neg64 x) (pos64 x) 0 (omega (arith, r .low)) (value-is binary64 x)
+ranged-is B x r = value-is-pos binary64 x (r .low)
 
 pub gain-none : (S : Setup) → gain S [] ≡ 0
 unfolding gain
