@@ -25,7 +25,7 @@ hit-le x (plain y) = go (eqb x y)
     go true = omega arith
     go false = omega arith
 
-pub count-append : (x : ℕ) (q r : List Place) → count x (q ++ r) ≡ count x q + count x r
+count-append : (x : ℕ) (q r : List Place) → count x (q ++ r) ≡ count x q + count x r
 count-append x [] r = omega arith
 count-append x (e ∷ q) r = omega (arith, count-append x q r)
 
@@ -38,10 +38,6 @@ count-le x (e ∷ q) = omega (arith, count-le x q, hit-le x e)
 
 -- ---- Places whose k-mers lie below m.
 module _ (m : ℕ) where
-  pub below-append : (q r : List Place) → Below m q → Below m r → Below m (q ++ r)
-  below-append [] r a b = b
-  below-append (e ∷ q) r a b = (a .0, below-append q r (a .1) b)
-
   pub below-left : (q r : List Place) → Below m (q ++ r) → Below m q
   below-left [] r a = tt
   below-left (e ∷ q) r a = (a .0, below-left q r (a .1))
@@ -92,7 +88,7 @@ module _ (m : ℕ) (counts : List ℕ) where
         counted = λ y. lower-at counts x y (omega (arith, c .long)) (eqb y x) refl ∙ omega (arith, c .counted y);
       }
 
-pub replicate-zero : (m x : ℕ) → _≡_ {A = ℕ} (getD (replicate m 0) x 0) 0
+replicate-zero : (m x : ℕ) → _≡_ {A = ℕ} (getD (replicate m 0) x 0) 0
 replicate-zero zero x = refl
 replicate-zero (suc m) zero = refl
 replicate-zero (suc m) (suc x) = replicate-zero m x

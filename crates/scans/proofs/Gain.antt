@@ -4,18 +4,17 @@ use Prim.Native.Nat.{ℕ, zero, suc, _+_, _*_, _≤_, _<_}
 use native.Mathlib.Omega.{arith}
 use mathlib.Core.List.{List, [], _∷_, _++_}
 use lib.ListN.{length}
-use lib.IntN.{ℤ, pos, negsuc, negℤ, natAbs, _+ℤ_, _-ℤ_, _*ℤ_}
-use lib.Signed.{_≤ℤ_}
+use lib.IntN.{ℤ, pos, negsuc, natAbs, _+ℤ_, _-ℤ_, _*ℤ_}
 use lib.Ieee.{Float, binary64}
 use Rattle.floats.specs.Binary64.{one, pos64, value64, Ranged}
-use Rattle.floats.proofs.Whole.{Is, is-as, is-sub, is-neg, is-times, is-scaled, is-le, value-is-pos}
+use Rattle.floats.proofs.Whole.{Is, is-as, is-sub, is-times, value-is-pos}
 use Rattle.floats.proofs.Sums.{zero-ranged}
 use Rattle.letters.specs.Place.{Place, ambiguous, plain, BelowAt, Below}
 use Rattle.scans.specs.Setup.{Setup, lnAt, fAt, kmers}
-use Rattle.scans.specs.Counts.{hit, count}
+use Rattle.scans.specs.Counts.{count}
 use Rattle.scans.specs.Score.{lnSum, lnSums, score}
-use Rattle.scans.proofs.Counting.{count-le, count-snoc}
-use Rattle.scans.proofs.Exact.{added, lnSums-more, lnSums-none}
+use Rattle.scans.proofs.Counting.{count-le}
+use Rattle.scans.proofs.Exact.{added, lnSums-snoc, lnSums-cons, lnSums-none}
 
 -- T in 0..16, ln entries 1..w in 0..16, f entries 1..w in 0..2^20.
 pub record InRange (S : Setup) : Type 0 where
@@ -77,20 +76,20 @@ module _ (S : Setup) (R : InRange S) where
   added-ranged q ambiguous l = zero-ranged 16
   added-ranged q (plain x) l = R .ln-ranged (suc (count x q)) (omega arith) (omega (arith, count-le x q))
 
-  gain-more : (q r : List Place) (e : Place) → BelowAt (kmers S) e → ((y : ℕ) → count y r ≡ hit y e + count y q) → length q < S .window-size
+  gain-more : (q r : List Place) (e : Place) → length q < S .window-size → lnSums S (kmers S) r ≡ lnSums S (kmers S) q +ℤ value64 (added S q e)
       → gain S r ≡ gain S q + pos64 (added S q e)
   unfolding gain
-  gain-more q r e b h l =
+  gain-more q r e l h =
       let v = is-non-negative (value64 (added S q e)) (pos64 (added S q e)) (ranged-is 16 (added S q e) (added-ranged q e l)) in
-      ap natAbs (lnSums-more S q r e b h) ∙ add-non-negative (lnSums S (kmers S) q) (value64 (added S q e)) (lnSums-non-negative (kmers S) q (omega arith)) (v .0) .1
+      ap natAbs h ∙ add-non-negative (lnSums S (kmers S) q) (value64 (added S q e)) (lnSums-non-negative (kmers S) q (omega arith)) (v .0) .1
       ∙ ap (λ (z : ℕ). natAbs (lnSums S (kmers S) q) + z) (v .1)
 
   -- At the newest end, and at the oldest.
   pub gain-snoc : (q : List Place) (e : Place) → BelowAt (kmers S) e → length q < S .window-size → gain S (q ++ e ∷ []) ≡ gain S q + pos64 (added S q e)
-  gain-snoc q e b l = gain-more q (q ++ e ∷ []) e b (λ y. count-snoc y q e) l
+  gain-snoc q e b l = gain-more q (q ++ e ∷ []) e l (lnSums-snoc S q e b)
 
   pub gain-cons : (q : List Place) (e : Place) → BelowAt (kmers S) e → length q < S .window-size → gain S (e ∷ q) ≡ gain S q + pos64 (added S q e)
-  gain-cons q e b l = gain-more q (e ∷ q) e b (λ y. refl) l
+  gain-cons q e b l = gain-more q (e ∷ q) e l (lnSums-cons S q e b)
 
   pub gain-bound : (q : List Place) → Below (kmers S) q → length q ≤ S .window-size → gain S q ≤ length q * (16 * one)
   gain-bound [] b l = omega (arith, gain-none S)
@@ -108,10 +107,3 @@ module _ (S : Setup) (R : InRange S) where
       let a = is-sub z (pos len *ℤ value64 t) G 0 (len * pos64 t) (len * 0) (non-negative-is z (lnSums-non-negative (kmers S) q l)) (is-times (value64 t) len (pos64 t) 0 (ranged-is 16 t (R .t-ranged))) in
       is-as (score S q) (G + len * 0 + 0) (0 + len * pos64 t + pos64 f) G (loss S len) (omega arith)
       (is-sub (z -ℤ pos len *ℤ value64 t) (value64 f) (G + len * 0) (0 + len * pos64 t) (pos64 f) 0 a (ranged-is 1048576 f (R .f-ranged len some l)))
-
-  -- At least -c, in units of 2^-1074 / 2^32.
-  pub score-high : (q : List Place) (c : ℕ) → length q ≤ S .window-size → 0 < length q → loss S (length q) * 4294967296 ≤ gain S q * 4294967296 + c
-      → negℤ (pos c) ≤ℤ (score S q *ℤ pos 4294967296)
-  score-high q c l some h =
-      is-le (negℤ (pos c)) (score S q *ℤ pos 4294967296) 0 c (gain S q * 4294967296) (loss S (length q) * 4294967296)
-      (is-neg (pos c) c 0 (omega arith)) (is-scaled (score S q) 4294967296 (gain S q) (loss S (length q)) (score-is q l some)) .1 (omega arith)

@@ -1,0 +1,55 @@
+-- Where the flag of an accepted setup says yes, T and the table entries lie in the ranges that the evidence asks for.
+use mathlib.Core.Path.{_≡_, subst}
+use Prim.Native.Nat.{ℕ, zero, suc, _≤_, _<_}
+use native.Mathlib.Omega.{arith}
+use mathlib.Core.Logic.{⊎-elim}
+use mathlib.Core.Bool.{Bool, true, false, _&&_, _||_}
+use mathlib.Core.List.{List}
+use lib.ListN.{getD}
+use lib.Dec.{T}
+use lib.Ieee.{Float, nan, lt, le, eq}
+use lib.Ieee.Fits.{and-l, and-r}
+use Rattle.floats.specs.Binary64.{zero64, sixteen, twoTo20}
+use Rattle.floats.proofs.Range.{ranged-16, ranged-20}
+use Rattle.intervals.proofs.Order.{lt-or-le}
+use Rattle.scans.specs.Setup.{Setup, lnAt, fAt}
+use Rattle.scans.proofs.Gain.{InRange}
+use Rattle.strand.specs.Range.{between, tableInRange, inRange, Accepted}
+
+table-at : (high : Float) (table : List Float) (w : ℕ) → T (tableInRange high table w) → (c : ℕ) → 0 < c → c ≤ w → T (between high (getD table c nan))
+unfolding tableInRange
+table-at high table zero t c a b = absurd (omega arith)
+table-at high table (suc w) t c a b =
+    let last : Bool = between high (getD table (suc w) nan) in
+    ⊎-elim (λ (l : c < suc w). table-at high table w (and-l (tableInRange high table w) last t) c a (omega arith))
+    (λ (l : suc w ≤ c). let e : suc w ≡ c = omega arith in subst (λ (z : ℕ). T (between high (getD table z nan))) e (and-r (tableInRange high table w) last t)) (lt-or-le c (suc w))
+
+lt-le : (x y : Float) → T (lt x y) → T (le x y)
+unfolding le
+lt-le x y = go (lt x y) (eq x y)
+  where
+    go : (a b : Bool) → T a → T (a || b)
+    go true b t = tt
+    go false b t = absurd t
+
+pub in-range : (S : Setup) → Accepted S → T (inRange S) → InRange S
+unfolding inRange
+in-range S a t =
+    let w : ℕ = S .window-size in
+    let lns : Bool = tableInRange sixteen (S .ln) w in
+    let fs : Bool = tableInRange twoTo20 (S .f) w in
+    let th : Bool = le (S .threshold) sixteen in
+    let tables = and-r th (lns && fs) t in
+    record {
+      window-small = a .window-small;
+      window-some = a .window-some;
+      t-ranged = ranged-16 (S .threshold) (a .t-fits) (lt-le zero64 (S .threshold) (a .t-above)) (and-l th (lns && fs) t);
+      ln-ranged = λ c u v.
+          let x : Float = lnAt S c in
+          let b = table-at sixteen (S .ln) w (and-l lns fs tables) c u v in
+          ranged-16 x (a .ln-fits c v) (and-l (le zero64 x) (le x sixteen) b) (and-r (le zero64 x) (le x sixteen) b);
+      f-ranged = λ l u v.
+          let x : Float = fAt S l in
+          let b = table-at twoTo20 (S .f) w (and-r lns fs tables) l u v in
+          ranged-20 x (a .f-fits l v) (and-l (le zero64 x) (le x twoTo20) b) (and-r (le zero64 x) (le x twoTo20) b);
+    }

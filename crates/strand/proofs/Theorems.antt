@@ -1,0 +1,35 @@
+-- Demand 3 for one strand: the shape of its list and the rows it takes, for any float bits, and its evidence where the flag says yes.
+-- That the list depends on nothing but the codes, the options and the tables is by its definition, `intervalsOf S codes`.
+use mathlib.Core.Path.{sym, subst}
+use Prim.Native.Nat.{ℕ, _+_, _/_, _≤_, _<_}
+use mathlib.Core.List.{List}
+use lib.ListN.{length}
+use lib.Dec.{T}
+use Rattle.letters.specs.Place.{places}
+use Rattle.letters.proofs.Places.{places-length, places-below}
+use Rattle.intervals.specs.Interval.{Canonical, Covers}
+use Rattle.intervals.proofs.Shape.{canonical-room}
+use Rattle.scans.specs.Setup.{Setup}
+use Rattle.scans.specs.Score.{Evidence}
+use Rattle.strand.specs.Step.{intervalsOf}
+use Rattle.strand.specs.Range.{inRange, Accepted}
+use Rattle.strand.proofs.Shape.{places-canonical}
+use Rattle.strand.proofs.Evidence.{places-evidence}
+use Rattle.strand.proofs.Range.{in-range}
+
+pub strand-shape : (S : Setup) (codes : List ℕ) → Canonical (length codes) (S .kmer) (intervalsOf S codes)
+unfolding intervalsOf
+strand-shape S codes =
+    subst (λ (n : ℕ). Canonical n (S .kmer) (intervalsOf S codes)) (places-length (S .kmer) codes) (places-canonical S (places (S .kmer) codes))
+
+-- R rows suffice.
+pub strand-room : (S : Setup) (codes : List ℕ) → length (intervalsOf S codes) ≤ (length codes + 1) / (S .kmer + 1)
+strand-room S codes = canonical-room (length codes) (S .kmer) (intervalsOf S codes) (strand-shape S codes)
+
+-- Every letter that the list covers lies in the letters of a stretch of at most w places whose exact score is at least -(n + w + 4) / 2^32.
+pub strand-evidence : (S : Setup) (codes : List ℕ) → Accepted S → T (inRange S) → length codes < 2147483648
+    → (x : ℕ) → Covers (intervalsOf S codes) x → Evidence S (places (S .kmer) codes) x
+unfolding intervalsOf
+strand-evidence S codes a t l x c =
+    let ps = places (S .kmer) codes in
+    places-evidence S (in-range S a t) ps (places-below (S .kmer) codes) (subst (λ (n : ℕ). n < 2147483648) (sym (places-length (S .kmer) codes)) l) x c
