@@ -1,0 +1,9 @@
+pub mod Order
+pub mod Joining
+pub mod Shape
+pub mod Covered
+pub mod Backward
+pub mod Unique
+pub mod Theorems
+pub mod Saving
+pub mod Examples

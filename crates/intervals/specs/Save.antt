@@ -1,0 +1,23 @@
+-- Saving an interval to a list, as `save_interval` does to any list (the paper, "Step and scans").
+use Prim.Native.Nat.{ℕ, zero, suc, min, max}
+use mathlib.Core.Bool.{cond}
+use mathlib.Core.List.{List, [], _∷_, _++_, map}
+use lib.Dec.{leb}
+use lib.ListN.{length, take, drop, getD}
+use Rattle.intervals.specs.Interval.{Interval, interval}
+
+-- How many of the first m intervals stay: from the last one on, each whose end is s or more goes.
+unfoldable pub kept : List ℕ → ℕ → ℕ → ℕ
+kept ends s zero = zero
+kept ends s (suc m) = cond (leb s (getD ends m 0)) (kept ends s m) (suc m)
+
+-- The first of those that go takes [s, e) in.
+abbrev pub absorb : List Interval → ℕ → ℕ → Interval
+absorb [] s e = interval s e
+absorb (i ∷ is) s e = interval (min s (i .start)) (max e (i .end))
+
+abbrev pub saveAt : ℕ → List Interval → ℕ → ℕ → List Interval
+saveAt k is s e = take k is ++ (absorb (drop k is) s e ∷ [])
+
+unfoldable pub save : List Interval → ℕ → ℕ → List Interval
+save is s e = saveAt (kept (map (λ i. i .end) is) s (length is)) is s e

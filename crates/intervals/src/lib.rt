@@ -1,0 +1,194 @@
+// Lists of intervals, each in two lent slices: entry i of `starts` and of `ends`, for i below a count, is the interval [start, end).
+
+ghost use mathlib.Core.Path.{_≡_};
+ghost use mathlib.Core.List.{_++_};
+ghost use Prim.Native.Nat.{_+_, _-_, _≤_, _<_, min, max};
+ghost use lib.ListN.{length};
+ghost use Rattle.intervals.specs.Interval.{Inside};
+ghost use Rattle.intervals.specs.Save.{kept, save};
+ghost use Rattle.intervals.specs.Merge.{nonempty, merge, backwards};
+ghost use Rattle.intervals.specs.Rows.{rows, Room, Rows};
+ghost use Rattle.intervals.specs.Pick.{Picks};
+
+fn smaller(a: u32, b: u32) -> u32
+    ensures { λ r. ⌜ r ≡ min a b ⌝ }
+{
+    if a < b { a } else { b }
+}
+
+fn larger(a: u32, b: u32) -> u32
+    ensures { λ r. ⌜ r ≡ max a b ⌝ }
+{
+    if a < b { b } else { a }
+}
+
+// How many of the first `count` intervals stay when one that begins at `start` is saved.
+fn kept_count(ends: &[u32], count: usize, start: u32) -> usize
+    requires { ⌜ count ≤ length (now ends) ⌝ }
+    ensures { λ r. ⌜ (r ≡ kept (now (ends .entry)) start count) × (r ≤ count) ⌝ }
+{
+    let mut k = count;
+    while 0 < k {
+        let end = ends[k - 1];
+        if end < start {
+            return k;
+        }
+        k -= 1;
+    }
+    0
+}
+
+// Saves [start, end) to a list of `count` intervals, and answers how many there are then.
+pub fn save_interval(
+    starts: &mut [u32],
+    ends: &mut [u32],
+    count: usize,
+    start: u32,
+    end: u32,
+) -> usize
+    requires { ⌜ Room count (now starts) (now ends) ⌝ }
+    requires { ⌜ Room (length (save (rows count (now starts) (now ends)) start end)) (now starts) (now ends) ⌝ }
+    ensures { λ r. ⌜ Rows (save (rows count (now (starts .entry)) (now (ends .entry))) start end)
+        (now (starts .entry)) (now (ends .entry)) (now (starts .exit)) (now (ends .exit)) r ⌝ }
+{
+    let k = kept_count(ends, count, start);
+    if k < count {
+        let s = smaller(start, starts[k]);
+        let e = larger(end, ends[k]);
+        starts[k] = s;
+        ends[k] = e;
+        return k + 1;
+    }
+    starts[k] = start;
+    ends[k] = end;
+    k + 1
+}
+
+// Puts [start, end) after the first `count` intervals if it has a letter, and answers how many there are then.
+fn push_nonempty(starts: &mut [u32], ends: &mut [u32], count: usize, start: u32, end: u32) -> usize
+    requires { ⌜ (start < end → Room (count + 1) (now starts) (now ends)) ⌝ }
+    ensures { λ r. ⌜ Rows (rows count (now (starts .entry)) (now (ends .entry)) ++ nonempty start end)
+        (now (starts .entry)) (now (ends .entry)) (now (starts .exit)) (now (ends .exit)) r ⌝ }
+{
+    if start < end {
+        starts[count] = start;
+        ends[count] = end;
+        return count + 1;
+    }
+    count
+}
+
+// The next interval that a merge takes, then the first place of the forward list and the number of intervals of the reverse list that remain.
+struct Picked {
+    start: u32,
+    end: u32,
+    forward: usize,
+    reverse: usize,
+}
+
+// Of interval i of the forward list and interval j - 1 of the reverse list, the latter seen from the other end of `length` letters: the one that starts first.
+fn pick(
+    forward_starts: &[u32],
+    forward_ends: &[u32],
+    forward_count: usize,
+    i: usize,
+    reverse_starts: &[u32],
+    reverse_ends: &[u32],
+    j: usize,
+    n: u32,
+) -> Picked
+    requires { ⌜ Room «forward_count» (now «forward_starts») (now «forward_ends») ⌝ }
+    requires { ⌜ Room j (now «reverse_starts») (now «reverse_ends») ⌝ }
+    requires { ⌜ (i ≤ «forward_count») × (0 < («forward_count» - i) + j) ⌝ }
+    requires { ⌜ Inside n (rows j (now «reverse_starts») (now «reverse_ends»)) ⌝ }
+    ensures { λ r. ⌜ Picks n «forward_count» (rows «forward_count» (now («forward_starts» .entry)) (now («forward_ends» .entry))) i
+        (now («reverse_starts» .entry)) (now («reverse_ends» .entry)) j r ⌝ }
+{
+    if j == 0 {
+        return Picked {
+            start: forward_starts[i],
+            end: forward_ends[i],
+            forward: i + 1,
+            reverse: j,
+        };
+    }
+    let start = n - reverse_ends[j - 1];
+    let end = n - reverse_starts[j - 1];
+    if i == forward_count {
+        return Picked {
+            start,
+            end,
+            forward: i,
+            reverse: j - 1,
+        };
+    }
+    let other = forward_starts[i];
+    if other < start {
+        return Picked {
+            start: other,
+            end: forward_ends[i],
+            forward: i + 1,
+            reverse: j,
+        };
+    }
+    Picked {
+        start,
+        end,
+        forward: i,
+        reverse: j - 1,
+    }
+}
+
+// Joins the forward list and the reverse list, this one read backwards in n letters, into `starts` and `ends`, and answers how many intervals there are then.
+pub fn merge_intervals(
+    forward_starts: &[u32],
+    forward_ends: &[u32],
+    forward_count: usize,
+    reverse_starts: &[u32],
+    reverse_ends: &[u32],
+    reverse_count: usize,
+    n: u32,
+    starts: &mut [u32],
+    ends: &mut [u32],
+) -> usize
+    requires { ⌜ Room «forward_count» (now «forward_starts») (now «forward_ends») ⌝ }
+    requires { ⌜ Room «reverse_count» (now «reverse_starts») (now «reverse_ends») ⌝ }
+    requires { ⌜ Inside n (rows «reverse_count» (now «reverse_starts») (now «reverse_ends»)) ⌝ }
+    requires { ⌜ Room (length (merge (rows «forward_count» (now «forward_starts») (now «forward_ends»))
+        (backwards n (rows «reverse_count» (now «reverse_starts») (now «reverse_ends»))))) (now starts) (now ends) ⌝ }
+    ensures { λ r. ⌜ Rows (merge (rows «forward_count» (now («forward_starts» .entry)) (now («forward_ends» .entry)))
+        (backwards n (rows «reverse_count» (now («reverse_starts» .entry)) (now («reverse_ends» .entry)))))
+        (now (starts .entry)) (now (ends .entry)) (now (starts .exit)) (now (ends .exit)) r ⌝ }
+{
+    let mut i = 0;
+    let mut j = reverse_count;
+    let mut left = forward_count + reverse_count;
+    let mut start = 0;
+    let mut end = 0;
+    let mut count = 0;
+    while 0 < left {
+        let next = pick(
+            forward_starts,
+            forward_ends,
+            forward_count,
+            i,
+            reverse_starts,
+            reverse_ends,
+            j,
+            n,
+        );
+        i = next.forward;
+        j = next.reverse;
+        left -= 1;
+        let s = next.start;
+        let e = next.end;
+        if s <= end {
+            end = larger(end, e);
+        } else {
+            count = push_nonempty(starts, ends, count, start, end);
+            start = s;
+            end = e;
+        }
+    }
+    push_nonempty(starts, ends, count, start, end)
+}
