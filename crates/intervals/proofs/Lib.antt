@@ -7,3 +7,6 @@ pub mod Unique
 pub mod Theorems
 pub mod Saving
 pub mod Examples
+pub mod Rows
+pub mod SaveSteps
+pub mod MergeSteps

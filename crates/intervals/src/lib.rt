@@ -1,10 +1,10 @@
 // Lists of intervals, each in two lent slices: entry i of `starts` and of `ends`, for i below a count, is the interval [start, end).
 
 ghost use mathlib.Core.Path.{_≡_};
-ghost use mathlib.Core.List.{_++_};
+ghost use mathlib.Core.List.{[], _∷_, _++_};
 ghost use Prim.Native.Nat.{_+_, _-_, _≤_, _<_, min, max};
 ghost use lib.ListN.{length};
-ghost use Rattle.intervals.specs.Interval.{Inside};
+ghost use Rattle.intervals.specs.Interval.{interval, Inside};
 ghost use Rattle.intervals.specs.Save.{kept, save};
 ghost use Rattle.intervals.specs.Merge.{nonempty, merge, backwards};
 ghost use Rattle.intervals.specs.Rows.{rows, Room, Rows};
@@ -25,7 +25,7 @@ fn larger(a: u32, b: u32) -> u32
 // How many of the first `count` intervals stay when one that begins at `start` is saved.
 fn kept_count(ends: &[u32], count: usize, start: u32) -> usize
     requires { ⌜ count ≤ length (now ends) ⌝ }
-    ensures { λ r. ⌜ (r ≡ kept (now (ends .entry)) start count) × (r ≤ count) ⌝ }
+    ensures { λ r. ⌜ r ≡ kept (now (ends .entry)) start count ⌝ }
 {
     let mut k = count;
     while 0 < k {
@@ -36,6 +36,17 @@ fn kept_count(ends: &[u32], count: usize, start: u32) -> usize
         k -= 1;
     }
     0
+}
+
+// Puts [start, end) after the first `count` intervals, and answers how many there are then.
+fn put_interval(starts: &mut [u32], ends: &mut [u32], count: usize, start: u32, end: u32) -> usize
+    requires { ⌜ Room (count + 1) (now starts) (now ends) ⌝ }
+    ensures { λ r. ⌜ Rows (rows count (now (starts .entry)) (now (ends .entry)) ++ (interval start end ∷ []))
+        (now (starts .entry)) (now (ends .entry)) (now (starts .exit)) (now (ends .exit)) r ⌝ }
+{
+    starts[count] = start;
+    ends[count] = end;
+    count + 1
 }
 
 // Saves [start, end) to a list of `count` intervals, and answers how many there are then.
@@ -55,25 +66,19 @@ pub fn save_interval(
     if k < count {
         let s = smaller(start, starts[k]);
         let e = larger(end, ends[k]);
-        starts[k] = s;
-        ends[k] = e;
-        return k + 1;
+        return put_interval(starts, ends, k, s, e);
     }
-    starts[k] = start;
-    ends[k] = end;
-    k + 1
+    put_interval(starts, ends, k, start, end)
 }
 
 // Puts [start, end) after the first `count` intervals if it has a letter, and answers how many there are then.
-fn push_nonempty(starts: &mut [u32], ends: &mut [u32], count: usize, start: u32, end: u32) -> usize
+fn put_nonempty(starts: &mut [u32], ends: &mut [u32], count: usize, start: u32, end: u32) -> usize
     requires { ⌜ (start < end → Room (count + 1) (now starts) (now ends)) ⌝ }
     ensures { λ r. ⌜ Rows (rows count (now (starts .entry)) (now (ends .entry)) ++ nonempty start end)
         (now (starts .entry)) (now (ends .entry)) (now (starts .exit)) (now (ends .exit)) r ⌝ }
 {
     if start < end {
-        starts[count] = start;
-        ends[count] = end;
-        return count + 1;
+        return put_interval(starts, ends, count, start, end);
     }
     count
 }
@@ -101,8 +106,8 @@ fn pick(
     requires { ⌜ Room j (now «reverse_starts») (now «reverse_ends») ⌝ }
     requires { ⌜ (i ≤ «forward_count») × (0 < («forward_count» - i) + j) ⌝ }
     requires { ⌜ Inside n (rows j (now «reverse_starts») (now «reverse_ends»)) ⌝ }
-    ensures { λ r. ⌜ Picks n «forward_count» (rows «forward_count» (now («forward_starts» .entry)) (now («forward_ends» .entry))) i
-        (now («reverse_starts» .entry)) (now («reverse_ends» .entry)) j r ⌝ }
+    ensures { λ r. ⌜ Picks (now («forward_starts» .entry)) (now («forward_ends» .entry)) «forward_count» i
+        (now («reverse_starts» .entry)) (now («reverse_ends» .entry)) j n r ⌝ }
 {
     if j == 0 {
         return Picked {
@@ -112,14 +117,15 @@ fn pick(
             reverse: j,
         };
     }
-    let start = n - reverse_ends[j - 1];
-    let end = n - reverse_starts[j - 1];
+    let last = j - 1;
+    let start = n - reverse_ends[last];
+    let end = n - reverse_starts[last];
     if i == forward_count {
         return Picked {
             start,
             end,
             forward: i,
-            reverse: j - 1,
+            reverse: last,
         };
     }
     let other = forward_starts[i];
@@ -135,7 +141,7 @@ fn pick(
         start,
         end,
         forward: i,
-        reverse: j - 1,
+        reverse: last,
     }
 }
 
@@ -185,10 +191,10 @@ pub fn merge_intervals(
         if s <= end {
             end = larger(end, e);
         } else {
-            count = push_nonempty(starts, ends, count, start, end);
+            count = put_nonempty(starts, ends, count, start, end);
             start = s;
             end = e;
         }
     }
-    push_nonempty(starts, ends, count, start, end)
+    put_nonempty(starts, ends, count, start, end)
 }
