@@ -1,6 +1,6 @@
 -- The steps of `merge_intervals`: what remains after a pick, and where the loop stands.
 use Prim.Native.Nat.{ℕ, zero, suc, _+_, _-_, _≤_, _<_, max}
-use mathlib.Core.Path.{_≡_, refl, ap, sym, _∙_}
+use mathlib.Core.Path.{_≡_, refl, ap, _∙_}
 use mathlib.Core.List.{List, [], _∷_, _++_, append-assoc, append-nil}
 use native.Mathlib.Omega.{arith}
 use lib.ListN.{length, drop, length-append}
@@ -10,7 +10,7 @@ use Rattle.intervals.specs.Merge.{insert, interleave, nonempty, join, me
 use Rattle.intervals.specs.Rows.{row, rows, Room, Rows}
 use Rattle.intervals.specs.Pick.{remaining, Picks}
 use Rattle.intervals.specs.declared.Picked.{Picked}
-use Rattle.intervals.proofs.Joining.{insert-here, insert-later, nonempty-some, nonempty-none, join-touch, join-gap}
+use Rattle.intervals.proofs.Joining.{insert-here, insert-later, nonempty-some, join-touch, join-gap}
 use Rattle.intervals.proofs.Backward.{backwards-snoc}
 use Rattle.intervals.proofs.Rows.{length-rows, drop-rows, drop-rows-end, rows-count}
 

@@ -1,14 +1,14 @@
 -- The steps of `save_interval`: its loop over the ends, and a save to a list that two slices hold.
 use Prim.Native.Nat.{ℕ, zero, suc, _+_, _-_, _≤_, _<_, min, max}
-use mathlib.Core.Path.{_≡_, refl, ap, sym, _∙_}
+use mathlib.Core.Path.{_≡_, refl, _∙_}
 use mathlib.Core.List.{List, [], _∷_, _++_, map}
 use mathlib.Core.Logic.{⊎-elim}
 use native.Mathlib.Omega.{arith}
-use lib.ListN.{length, take, drop, getD, length-append, List·getD-map}
+use lib.ListN.{length, getD, length-append, List·getD-map}
 use borrow.Author.Tests.{le-leb, lt-leb}
 use Rattle.intervals.specs.Interval.{Interval, interval}
 use Rattle.intervals.specs.Save.{kept, saveAt, save}
-use Rattle.intervals.specs.Rows.{row, rows}
+use Rattle.intervals.specs.Rows.{rows}
 use Rattle.intervals.proofs.Order.{lt-or-le}
 use Rattle.intervals.proofs.Rows.{length-rows, getD-rows, take-rows, drop-rows, drop-rows-end}
 

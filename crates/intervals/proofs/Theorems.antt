@@ -1,10 +1,10 @@
 -- Canonical lists are told by the letters they cover; what follows for merges and for reading backwards.
-use Prim.Native.Nat.{ℕ, _+_, _-_, _≤_, _<_}
+use Prim.Native.Nat.{ℕ, _+_, _-_, _<_}
 use mathlib.Core.Path.{_≡_, refl, ap₂}
 use mathlib.Core.List.{List, [], _∷_}
 use mathlib.Core.Logic.{inl, inr, ⊎-elim, _↔_}
 use native.Mathlib.Omega.{arith}
-use Rattle.intervals.specs.Interval.{Interval, interval, Covers, Ascending, Canonical, Inside}
+use Rattle.intervals.specs.Interval.{Interval, interval, Covers, Canonical, Inside}
 use Rattle.intervals.specs.Merge.{merge, flip, backwards}
 use Rattle.intervals.proofs.Shape.{covers-below, merge-canonical}
 use Rattle.intervals.proofs.Covered.{merge-covers}
