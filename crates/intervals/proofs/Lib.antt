@@ -9,4 +9,5 @@ pub mod Saving
 pub mod Examples
 pub mod Rows
 pub mod SaveSteps
+pub mod PickSteps
 pub mod MergeSteps

@@ -6,7 +6,7 @@ use mathlib.Core.Logic.{⊎-elim}
 use native.Mathlib.Omega.{arith}
 use native.Mathlib.Numerals.{add-one}
 use lib.ListN.{length, take, drop, getD, set, length-append, List·getD-append, drop-of-length-le, take-append-drop}
-use lib.Seq.{length-take-le, take-append-le, take-all, drop-append-le, drop-cons, drop-set-lt, getD-at, getD-set-same, getD-set-other}
+use lib.Seq.{length-take-le, take-append-le, take-all, drop-append-le, drop-cons, drop-drop, drop-set-lt, getD-at, getD-set-same, getD-set-other}
 use Rattle.intervals.specs.Interval.{Interval, interval, Inside}
 use Rattle.intervals.specs.Rows.{row, rows, Room, Rows}
 use Rattle.intervals.proofs.Order.{lt-or-le}
@@ -59,6 +59,24 @@ rows-same ss es c = record { list-is = refl; starts-kept = refl; ends-kept = ref
 pub rows-as : {list list′ : List Interval} {ss es ss′ es′ : List ℕ} {c : ℕ} → list ≡ list′
     → Rows list ss es ss′ es′ c → Rows list′ ss es ss′ es′ c
 rows-as q r = record { list-is = r .list-is ∙ q; starts-kept = r .starts-kept; ends-kept = r .ends-kept }
+
+pub rows-now : {list : List Interval} {ss es ss′ es′ : List ℕ} {c : ℕ} → Rows list ss es ss′ es′ c → Rows (rows c ss′ es′) ss es ss′ es′ c
+rows-now r = record { list-is = refl; starts-kept = r .starts-kept; ends-kept = r .ends-kept }
+
+drop-later : (c d : ℕ) (xs ys : List ℕ) → c ≤ d → drop c xs ≡ drop c ys → drop d xs ≡ drop d ys
+drop-later c d xs ys h q =
+    let p : d ≡ c + (d - c) = omega arith in
+    rw (p, ← drop-drop (d - c) c xs, ← drop-drop (d - c) c ys, q)
+
+-- A write after a shorter one.
+pub rows-then : {list list′ : List Interval} {ss es ss′ es′ ss″ es″ : List ℕ} {c c′ : ℕ} → c ≤ c′
+    → Rows list ss es ss′ es′ c → Rows list′ ss′ es′ ss″ es″ c′ → Rows list′ ss es ss″ es″ c′
+rows-then {ss = ss} {es = es} {ss′ = ss′} {es′ = es′} {c = c} {c′ = c′} h r r′ =
+    record {
+      list-is = r′ .list-is;
+      starts-kept = r′ .starts-kept ∙ drop-later c c′ ss′ ss h (r .starts-kept);
+      ends-kept = r′ .ends-kept ∙ drop-later c c′ es′ es h (r .ends-kept);
+    }
 
 pub store-rows : (ss es : List ℕ) (k s e : ℕ) → Room (k + 1) ss es
     → Rows (rows k ss es ++ (interval s e ∷ [])) ss es (set ss k s) (set es k e) (k + 1)

@@ -76,8 +76,8 @@ module _ (n k : ℕ) where
   interleave-rising lo (i ∷ is) js r q =
       insert-rising lo i (interleave is) is (λ lo′ js′ r′ q′. interleave-rising lo′ is js′ r′ q′) js r q
 
-  pub merging-rising : (is js : List Interval) → Canonical n k is → Canonical n k js → Rising n k 0 (interleave is js)
-  merging-rising is js a b = interleave-rising 0 is js (ascending-rising 0 is a) (ascending-rising 0 js b)
+  pub interleave-canonical : (is js : List Interval) → Canonical n k is → Canonical n k js → Rising n k 0 (interleave is js)
+  interleave-canonical is js a b = interleave-rising 0 is js (ascending-rising 0 is a) (ascending-rising 0 js b)
 
   module _ (p : 0 < k) where
     -- A first interval [s, e) of k letters or more.
@@ -102,6 +102,6 @@ module _ (n k : ℕ) where
         (join-ascending 0 0 (max 0 (i .end)) is (omega arith) (omega arith) (omega arith) (rising-lower (i .start) 0 is (r .0) (r .3))))
         (lt-or-le 0 (i .start))
 
-    pub merge-canonical : (is js : List Interval) → Canonical n k is → Canonical n k js → Canonical n k (merge is js)
-    unfolding merge
-    merge-canonical is js a b = join-canonical (interleave is js) (merging-rising is js a b)
+pub merge-canonical : (n k : ℕ) (is js : List Interval) → 0 < k → Canonical n k is → Canonical n k js → Canonical n k (merge is js)
+unfolding merge
+merge-canonical n k is js p a b = join-canonical n k p (interleave is js) (interleave-canonical n k is js a b)

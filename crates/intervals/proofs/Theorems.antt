@@ -31,8 +31,8 @@ pub merge-mirror : (n k : ℕ) (a b : List Interval) → 0 < k → Canonical n k
 merge-mirror n k a b p ca cb =
     let cba = backwards-canonical n k a p ca in
     let cbb = backwards-canonical n k b p cb in
-    let cl = merge-canonical n k p b (backwards n a) cb cba in
-    let cm = merge-canonical n k p a (backwards n b) ca cbb in
+    let cl = merge-canonical n k b (backwards n a) p cb cba in
+    let cm = merge-canonical n k a (backwards n b) p ca cbb in
     canonical-unique n k (merge b (backwards n a)) (backwards n (merge a (backwards n b))) p cl
     (backwards-canonical n k (merge a (backwards n b)) p cm)
     (λ x l.
@@ -51,7 +51,7 @@ merge-mirror n k a b p ca cb =
 -- A canonical list merged with no other is itself.
 pub merge-alone : (n k : ℕ) (is : List Interval) → 0 < k → Canonical n k is → merge is [] ≡ is
 merge-alone n k is p a =
-    canonical-unique n k (merge is []) is p (merge-canonical n k p is [] a tt) a
+    canonical-unique n k (merge is []) is p (merge-canonical n k is [] p a tt) a
     (λ x l.
     let c = merge-covers n k is [] x a tt in
     ((λ h. ⊎-elim (λ d. d) (λ d. absurd d) (c .0 h)), (λ h. c .1 (inl h))))

@@ -6,9 +6,9 @@ ghost use Prim.Native.Nat.{_+_, _-_, _≤_, _<_, min, max};
 ghost use lib.ListN.{length};
 ghost use Rattle.intervals.specs.Interval.{interval, Inside};
 ghost use Rattle.intervals.specs.Save.{kept, save};
-ghost use Rattle.intervals.specs.Merge.{nonempty, merge, backwards};
-ghost use Rattle.intervals.specs.Rows.{rows, Room, Rows};
-ghost use Rattle.intervals.specs.Pick.{Picks};
+ghost use Rattle.intervals.specs.Merge.{nonempty, merge, flip, backwards};
+ghost use Rattle.intervals.specs.Rows.{row, rows, Room, Rows};
+ghost use Rattle.intervals.specs.Pick.{Mergeable, picked, Picks};
 
 fn smaller(a: u32, b: u32) -> u32
     ensures { λ r. ⌜ r ≡ min a b ⌝ }
@@ -83,7 +83,7 @@ fn put_nonempty(starts: &mut [u32], ends: &mut [u32], count: usize, start: u32, 
     count
 }
 
-// The next interval that a merge takes, then the first place of the forward list and the number of intervals of the reverse list that remain.
+// An interval that a merge takes next, and what then remains: the forward list from `forward` on, and the first `reverse` intervals of the reverse list.
 struct Picked {
     start: u32,
     end: u32,
@@ -91,7 +91,35 @@ struct Picked {
     reverse: usize,
 }
 
-// Of interval i of the forward list and interval j - 1 of the reverse list, the latter seen from the other end of `length` letters: the one that starts first.
+// Interval i of the forward list.
+fn pick_forward(forward_starts: &[u32], forward_ends: &[u32], i: usize, j: usize) -> Picked
+    requires { ⌜ Room (i + 1) (now «forward_starts») (now «forward_ends») ⌝ }
+    ensures { λ r. ⌜ r ≡ picked (row (now («forward_starts» .entry)) (now («forward_ends» .entry)) i) (i + 1) j ⌝ }
+{
+    Picked {
+        start: forward_starts[i],
+        end: forward_ends[i],
+        forward: i + 1,
+        reverse: j,
+    }
+}
+
+// Interval j - 1 of the reverse list, seen from the other end of n letters.
+fn pick_reverse(reverse_starts: &[u32], reverse_ends: &[u32], i: usize, j: usize, n: u32) -> Picked
+    requires { ⌜ Room j (now «reverse_starts») (now «reverse_ends») × (0 < j) ⌝ }
+    requires { ⌜ Inside n (rows j (now «reverse_starts») (now «reverse_ends»)) ⌝ }
+    ensures { λ r. ⌜ r ≡ picked (flip n (row (now («reverse_starts» .entry)) (now («reverse_ends» .entry)) (j - 1))) i (j - 1) ⌝ }
+{
+    let last = j - 1;
+    Picked {
+        start: n - reverse_ends[last],
+        end: n - reverse_starts[last],
+        forward: i,
+        reverse: last,
+    }
+}
+
+// The one of these two that starts first; of equal starts the reverse list's.
 fn pick(
     forward_starts: &[u32],
     forward_ends: &[u32],
@@ -102,47 +130,21 @@ fn pick(
     j: usize,
     n: u32,
 ) -> Picked
-    requires { ⌜ Room «forward_count» (now «forward_starts») (now «forward_ends») ⌝ }
-    requires { ⌜ Room j (now «reverse_starts») (now «reverse_ends») ⌝ }
+    requires { ⌜ Mergeable (now «forward_starts») (now «forward_ends») «forward_count» (now «reverse_starts») (now «reverse_ends») j n ⌝ }
     requires { ⌜ (i ≤ «forward_count») × (0 < («forward_count» - i) + j) ⌝ }
-    requires { ⌜ Inside n (rows j (now «reverse_starts») (now «reverse_ends»)) ⌝ }
     ensures { λ r. ⌜ Picks (now («forward_starts» .entry)) (now («forward_ends» .entry)) «forward_count» i
         (now («reverse_starts» .entry)) (now («reverse_ends» .entry)) j n r ⌝ }
 {
     if j == 0 {
-        return Picked {
-            start: forward_starts[i],
-            end: forward_ends[i],
-            forward: i + 1,
-            reverse: j,
-        };
+        return pick_forward(forward_starts, forward_ends, i, j);
     }
-    let last = j - 1;
-    let start = n - reverse_ends[last];
-    let end = n - reverse_starts[last];
     if i == forward_count {
-        return Picked {
-            start,
-            end,
-            forward: i,
-            reverse: last,
-        };
+        return pick_reverse(reverse_starts, reverse_ends, i, j, n);
     }
-    let other = forward_starts[i];
-    if other < start {
-        return Picked {
-            start: other,
-            end: forward_ends[i],
-            forward: i + 1,
-            reverse: j,
-        };
+    if forward_starts[i] < n - reverse_ends[j - 1] {
+        return pick_forward(forward_starts, forward_ends, i, j);
     }
-    Picked {
-        start,
-        end,
-        forward: i,
-        reverse: last,
-    }
+    pick_reverse(reverse_starts, reverse_ends, i, j, n)
 }
 
 // Joins the forward list and the reverse list, this one read backwards in n letters, into `starts` and `ends`, and answers how many intervals there are then.
@@ -157,9 +159,8 @@ pub fn merge_intervals(
     starts: &mut [u32],
     ends: &mut [u32],
 ) -> usize
-    requires { ⌜ Room «forward_count» (now «forward_starts») (now «forward_ends») ⌝ }
-    requires { ⌜ Room «reverse_count» (now «reverse_starts») (now «reverse_ends») ⌝ }
-    requires { ⌜ Inside n (rows «reverse_count» (now «reverse_starts») (now «reverse_ends»)) ⌝ }
+    requires { ⌜ Mergeable (now «forward_starts») (now «forward_ends») «forward_count»
+        (now «reverse_starts») (now «reverse_ends») «reverse_count» n ⌝ }
     requires { ⌜ Room (length (merge (rows «forward_count» (now «forward_starts») (now «forward_ends»))
         (backwards n (rows «reverse_count» (now «reverse_starts») (now «reverse_ends»))))) (now starts) (now ends) ⌝ }
     ensures { λ r. ⌜ Rows (merge (rows «forward_count» (now («forward_starts» .entry)) (now («forward_ends» .entry)))
@@ -186,14 +187,12 @@ pub fn merge_intervals(
         i = next.forward;
         j = next.reverse;
         left -= 1;
-        let s = next.start;
-        let e = next.end;
-        if s <= end {
-            end = larger(end, e);
+        if next.start <= end {
+            end = larger(end, next.end);
         } else {
             count = put_nonempty(starts, ends, count, start, end);
-            start = s;
-            end = e;
+            start = next.start;
+            end = next.end;
         }
     }
     put_nonempty(starts, ends, count, start, end)

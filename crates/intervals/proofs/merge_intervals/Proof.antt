@@ -2,8 +2,7 @@
 use mathlib.Core.Path.{_∙_}
 use native.Mathlib.Omega.{arith}
 use borrow.Author.Needs.{needs}
-use Rattle.intervals.proofs.Rows.{inside-fewer}
-use Rattle.intervals.proofs.MergeSteps.{Merging, merging-start, merging-touch, merging-gap, merging-end, merging-room, merging-last-room, put-room}
+use Rattle.intervals.proofs.MergeSteps.{Merging, merging-start, merging-touch, merging-gap, merging-end, merging-room, merging-last-room, still-mergeable}
 use Rattle.intervals.proofs.merge_intervals.Statement.{statement}
 use Rattle.intervals.proofs.merge_intervals.Tie as tie
 
@@ -22,17 +21,10 @@ add-left : tie.Need-add-left Inv-loop μ-loop
 add-left c = omega arith
 
 loop-holds : tie.Need-loop-holds Inv-loop μ-loop
-loop-holds c =
-    let A = c .before .before .before .before .before .before .args in
-    merging-start (A .forward-starts .now) (A .forward-ends .now) (A .forward-count) (A .reverse-starts .now) (A .reverse-ends .now)
-    (A .reverse-count) (A .n) (A .starts .now) (A .ends .now)
+loop-holds c = merging-start
 
 pick-requires : tie.Need-pick-requires Inv-loop μ-loop
-pick-requires c κs =
-    let S = start (c .before) in
-    let A = S .args in
-    let L = c .before .loop in
-    (S .pre .0, (omega arith, (omega arith, inside-fewer (A .n) (L .j) (A .reverse-count) (A .reverse-starts .now) (A .reverse-ends .now) (L .inv .reverse-within) (S .pre .1 .1 .0))))
+pick-requires c κs = (still-mergeable (c .before .loop .inv) (start (c .before) .pre .0), omega arith)
 
 sub-left : tie.Need-sub-left Inv-loop μ-loop
 sub-left c = omega arith
@@ -44,12 +36,12 @@ loop-less : tie.Need-loop-less Inv-loop μ-loop
 loop-less c = omega arith
 
 loop-again : tie.Need-loop-again Inv-loop μ-loop
-loop-again c = merging-touch (c .before .before .before .before .loop .inv) (c .before .before .pick .ensures) (c .before .if1 .taken) (c .larger .ensures)
+loop-again c = merging-touch (c .before .before .before .before .before .loop .inv) (c .before .before .before .pick .ensures) (c .before .if1 .taken) (c .larger .ensures)
 
 put-nonempty-requires : tie.Need-put-nonempty-requires Inv-loop μ-loop
 put-nonempty-requires c κs =
-    let L = c .before .before .before .before .before in
-    λ h. put-room (L .loop .inv) (start L .pre .1 .1 .1) (merging-room (L .loop .inv) (c .before .before .before .pick .ensures) (c .before .before .if1 .left) h)
+    let L = c .before .before .before .before .before .before in
+    merging-room (L .loop .inv) (c .before .before .before .before .pick .ensures) (start L .pre .1) (c .before .before .if1 .left)
 
 loop-less-2 : tie.Need-loop-less-2 Inv-loop μ-loop
 loop-less-2 c = omega arith
@@ -57,12 +49,12 @@ loop-less-2 c = omega arith
 loop-again-2 : tie.Need-loop-again-2 Inv-loop μ-loop
 loop-again-2 c =
     let P = c .before .before .before .before .put-nonempty in
-    merging-gap (c .before .before .before .before .before .before .before .before .before .before .loop .inv) (c .before .before .before .before .before .before .before .before .pick .ensures) (c .before .before .before .before .before .before .before .if1 .left) (P .ensures) (P .kept .0) (P .kept .1 .0)
+    merging-gap (c .before .before .before .before .before .before .before .before .before .before .before .loop .inv) (c .before .before .before .before .before .before .before .before .before .pick .ensures) (c .before .before .before .before .before .before .before .if1 .left) (P .ensures) (P .kept .0) (P .kept .1 .0)
 
 put-nonempty-requires-2 : tie.Need-put-nonempty-requires-2 Inv-loop μ-loop
 put-nonempty-requires-2 c κs =
     let L = c .before .before .before in
-    λ h. put-room (L .loop .inv) (start L .pre .1 .1 .1) (merging-last-room (L .loop .inv) (omega (arith, c .before .before .loop-test .left)) h)
+    merging-last-room (L .loop .inv) (omega (arith, c .before .before .loop-test .left)) (start L .pre .1)
 
 same-length : tie.Need-same-length Inv-loop μ-loop
 same-length c = c .before .before .before .before .put-nonempty2 .kept .0 ∙ c .before .before .before .before .before .before .before .before .loop .inv .starts-long
