@@ -7,7 +7,7 @@ use Rattle.intervals.specs.Interval.{Interval, interval, Holds, Covers, 
 use Rattle.intervals.specs.Merge.{insert, interleave, nonempty, join, merge}
 use Rattle.intervals.proofs.Order.{lt-or-le}
 use Rattle.intervals.proofs.Joining.{insert-here, insert-later, nonempty-some, nonempty-none, join-touch, join-gap}
-use Rattle.intervals.proofs.Shape.{Rising, rising-lower, interleave-canonical}
+use Rattle.intervals.proofs.Shape.{Rising, rising-lower, both-rising}
 
 module _ (x : ℕ) where
   pub append-covers : (is js : List Interval) → Covers (is ++ js) x ↔ (Covers is x ⊎ Covers js x)
@@ -77,7 +77,7 @@ pub merge-covers : (n k : ℕ) (is js : List Interval) (x : ℕ) → Canonical n
     → Covers (merge is js) x ↔ (Covers is x ⊎ Covers js x)
 unfolding merge
 merge-covers n k is js x a b =
-    let j = join-covers x n k 0 0 (interleave is js) (interleave-canonical n k is js a b) in
+    let j = join-covers x n k 0 0 (interleave is js) (both-rising n k is js a b) in
     let i = interleave-covers x is js in (
       (λ h. ⊎-elim (λ c. absurd (omega arith)) (λ c. i .0 c) (j .0 h)),
       (λ h. j .1 (inr (i .1 h))),

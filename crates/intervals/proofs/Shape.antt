@@ -76,8 +76,8 @@ module _ (n k : ℕ) where
   interleave-rising lo (i ∷ is) js r q =
       insert-rising lo i (interleave is) is (λ lo′ js′ r′ q′. interleave-rising lo′ is js′ r′ q′) js r q
 
-  pub interleave-canonical : (is js : List Interval) → Canonical n k is → Canonical n k js → Rising n k 0 (interleave is js)
-  interleave-canonical is js a b = interleave-rising 0 is js (ascending-rising 0 is a) (ascending-rising 0 js b)
+  pub both-rising : (is js : List Interval) → Canonical n k is → Canonical n k js → Rising n k 0 (interleave is js)
+  both-rising is js a b = interleave-rising 0 is js (ascending-rising 0 is a) (ascending-rising 0 js b)
 
   module _ (p : 0 < k) where
     -- A first interval [s, e) of k letters or more.
@@ -104,4 +104,4 @@ module _ (n k : ℕ) where
 
 pub merge-canonical : (n k : ℕ) (is js : List Interval) → 0 < k → Canonical n k is → Canonical n k js → Canonical n k (merge is js)
 unfolding merge
-merge-canonical n k is js p a b = join-canonical n k p (interleave is js) (interleave-canonical n k is js a b)
+merge-canonical n k is js p a b = join-canonical n k p (interleave is js) (both-rising n k is js a b)

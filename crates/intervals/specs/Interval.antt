@@ -24,6 +24,7 @@ abbrev pub Ascending : ℕ → ℕ → ℕ → List Interval → Type 0
 Ascending n k lo [] = Unit
 Ascending n k lo (i ∷ is) = (lo ≤ i .start) × (i .start + k ≤ i .end) × (i .end ≤ n) × Ascending n k (i .end + 1) is
 
+-- The shape of a mask of n letters.
 abbrev pub Canonical : ℕ → ℕ → List Interval → Type 0
 Canonical n k is = Ascending n k 0 is
 

@@ -5,7 +5,7 @@ use mathlib.Core.List.{List, [], _∷_, _++_}
 use lib.Dec.{ltb, leb}
 use Rattle.intervals.specs.Interval.{Interval, interval}
 
--- Two lists in one by their starts; of two equal starts the second list's goes first.
+-- Two lists in one by their starts; of two equal starts the second list's goes first. `others` puts what follows i among a list.
 unfoldable pub insert : Interval → (List Interval → List Interval) → List Interval → List Interval
 insert i others [] = i ∷ others []
 insert i others (j ∷ js) = cond (ltb (i .start) (j .start)) (i ∷ others (j ∷ js)) (j ∷ insert i others js)

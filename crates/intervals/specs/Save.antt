@@ -11,7 +11,7 @@ unfoldable pub kept : List ℕ → ℕ → ℕ → ℕ
 kept ends s zero = zero
 kept ends s (suc m) = cond (leb s (getD ends m 0)) (kept ends s m) (suc m)
 
--- The first of those that go takes [s, e) in.
+-- The first of those that go takes [s, e) in; where none goes, [s, e) is put last.
 abbrev pub absorb : List Interval → ℕ → ℕ → Interval
 absorb [] s e = interval s e
 absorb (i ∷ is) s e = interval (min s (i .start)) (max e (i .end))

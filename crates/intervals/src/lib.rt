@@ -83,7 +83,7 @@ fn put_nonempty(starts: &mut [u32], ends: &mut [u32], count: usize, start: u32, 
     count
 }
 
-// An interval that a merge takes next, and what then remains: the forward list from `forward` on, and the first `reverse` intervals of the reverse list.
+// The interval that a merge takes next. Then the forward list remains from `forward` on, and of the reverse list the first `reverse`.
 struct Picked {
     start: u32,
     end: u32,
@@ -91,7 +91,7 @@ struct Picked {
     reverse: usize,
 }
 
-// Interval i of the forward list.
+// Takes interval i of the forward list.
 fn pick_forward(forward_starts: &[u32], forward_ends: &[u32], i: usize, j: usize) -> Picked
     requires { ⌜ Room (i + 1) (now «forward_starts») (now «forward_ends») ⌝ }
     ensures { λ r. ⌜ r ≡ picked (row (now («forward_starts» .entry)) (now («forward_ends» .entry)) i) (i + 1) j ⌝ }
@@ -104,7 +104,7 @@ fn pick_forward(forward_starts: &[u32], forward_ends: &[u32], i: usize, j: usize
     }
 }
 
-// Interval j - 1 of the reverse list, seen from the other end of n letters.
+// Takes interval j - 1 of the reverse list, as seen from the other end of n letters.
 fn pick_reverse(reverse_starts: &[u32], reverse_ends: &[u32], i: usize, j: usize, n: u32) -> Picked
     requires { ⌜ Room j (now «reverse_starts») (now «reverse_ends») × (0 < j) ⌝ }
     requires { ⌜ Inside n (rows j (now «reverse_starts») (now «reverse_ends»)) ⌝ }
@@ -119,7 +119,7 @@ fn pick_reverse(reverse_starts: &[u32], reverse_ends: &[u32], i: usize, j: usize
     }
 }
 
-// The one of these two that starts first; of equal starts the reverse list's.
+// Takes the one of these two that starts first; of equal starts the reverse list's.
 fn pick(
     forward_starts: &[u32],
     forward_ends: &[u32],
@@ -130,7 +130,8 @@ fn pick(
     j: usize,
     n: u32,
 ) -> Picked
-    requires { ⌜ Mergeable (now «forward_starts») (now «forward_ends») «forward_count» (now «reverse_starts») (now «reverse_ends») j n ⌝ }
+    requires { ⌜ Mergeable (now «forward_starts») (now «forward_ends») «forward_count»
+        (now «reverse_starts») (now «reverse_ends») j n ⌝ }
     requires { ⌜ (i ≤ «forward_count») × (0 < («forward_count» - i) + j) ⌝ }
     ensures { λ r. ⌜ Picks (now («forward_starts» .entry)) (now («forward_ends» .entry)) «forward_count» i
         (now («reverse_starts» .entry)) (now («reverse_ends» .entry)) j n r ⌝ }
@@ -147,7 +148,7 @@ fn pick(
     pick_reverse(reverse_starts, reverse_ends, i, j, n)
 }
 
-// Joins the forward list and the reverse list, this one read backwards in n letters, into `starts` and `ends`, and answers how many intervals there are then.
+// Joins the forward list and the reverse list, this one read backwards in n letters, and answers how many intervals there are then.
 pub fn merge_intervals(
     forward_starts: &[u32],
     forward_ends: &[u32],

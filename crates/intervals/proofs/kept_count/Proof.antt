@@ -55,14 +55,4 @@ pub kept-count-spec : {M : Type 1} → statement M
 kept-count-spec =
     tie.close
     (tie.spec
-    Inv-loop
-    μ-loop
-    loop-holds
-    sub-end
-    mul-end
-    shared-slice-read-end
-    returns
-    sub-k
-    loop-less
-    loop-again
-    returns-2)
+    Inv-loop μ-loop loop-holds sub-end mul-end shared-slice-read-end returns sub-k loop-less loop-again returns-2)

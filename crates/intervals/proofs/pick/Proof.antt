@@ -51,4 +51,8 @@ returns-4 : tie.Need-returns-4
 returns-4 c = reverse-first (omega arith) (omega arith) (c .before .if3 .left) (c .pick-reverse2 .ensures)
 
 pub pick-spec : {M : Type 1} → statement M
-pick-spec = tie.close (tie.spec pick-forward-requires returns pick-reverse-requires returns-2 mul-if3 shared-slice-read-if3 sub-if3 mul-if3-2 shared-slice-read-if3-2 sub-if3-2 pick-forward-requires-2 returns-3 pick-reverse-requires-2 returns-4)
+pick-spec =
+    tie.close
+    (tie.spec
+    pick-forward-requires returns pick-reverse-requires returns-2 mul-if3 shared-slice-read-if3 sub-if3 mul-if3-2
+    shared-slice-read-if3-2 sub-if3-2 pick-forward-requires-2 returns-3 pick-reverse-requires-2 returns-4)

@@ -31,4 +31,7 @@ returns c =
     store-rows (A .starts .now) (A .ends .now) (A .count) (A .start) (A .end) (c .pre)
 
 pub put-interval-spec : {M : Type 1} → statement M
-put-interval-spec = tie.close (tie.spec mul-starts slice-write-starts mul-ends slice-write-ends add-result same-length same-length-2 returns)
+put-interval-spec =
+    tie.close
+    (tie.spec
+    mul-starts slice-write-starts mul-ends slice-write-ends add-result same-length same-length-2 returns)

@@ -74,4 +74,8 @@ returns-2 c =
     (c .before .before .before .before .put-interval2 .ensures)
 
 pub save-interval-spec : {M : Type 1} → statement M
-save-interval-spec = tie.close (tie.spec kept-count-requires mul-smaller slice-read-smaller smaller-requires mul-larger slice-read-larger larger-requires put-interval-requires same-length same-length-2 returns put-interval-requires-2 same-length-3 same-length-4 returns-2)
+save-interval-spec =
+    tie.close
+    (tie.spec
+    kept-count-requires mul-smaller slice-read-smaller smaller-requires mul-larger slice-read-larger larger-requires
+    put-interval-requires same-length same-length-2 returns put-interval-requires-2 same-length-3 same-length-4 returns-2)
