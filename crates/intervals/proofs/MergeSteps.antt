@@ -60,7 +60,8 @@ module _ {fs fe : List ℕ} {fc : ℕ} {rs re : List ℕ} {rc n : ℕ} {ss₀ es
       let w = simp (length-append, length-rows) at (ap length r) in
       (omega arith, omega arith)
 
-  put : {ss′ es′ : List ℕ} {c′ : ℕ} → Rows (rows c ss es ++ nonempty s e) ss es ss′ es′ c′ → Rows (rows c ss es ++ nonempty s e) ss₀ es₀ ss′ es′ c′
+  put : {ss′ es′ : List ℕ} {c′ : ℕ} → Rows (rows c ss es ++ nonempty s e) ss es ss′ es′ c′
+      → Rows (rows c ss es ++ nonempty s e) ss₀ es₀ ss′ es′ c′
   put r = rows-then (omega (arith, rows-count r, length-append (rows c ss es) (nonempty s e), length-rows ss es c)) (m .written) r
 
   module _ {p : Picked} (k : Picks fs fe fc i rs re j n p) where

@@ -12,7 +12,8 @@ use Rattle.intervals.proofs.Joining.{insert-here, insert-later}
 use Rattle.intervals.proofs.Backward.{backwards-snoc}
 use Rattle.intervals.proofs.Rows.{drop-rows, drop-rows-end}
 
-backwards-rows : (n j : ℕ) (ss es : List ℕ) → 0 < j → backwards n (rows j ss es) ≡ flip n (row ss es (j - 1)) ∷ backwards n (rows (j - 1) ss es)
+backwards-rows : (n j : ℕ) (ss es : List ℕ) → 0 < j
+    → backwards n (rows j ss es) ≡ flip n (row ss es (j - 1)) ∷ backwards n (rows (j - 1) ss es)
 unfolding rows
 backwards-rows n zero ss es h = absurd (omega arith)
 backwards-rows n (suc j) ss es h = let q : suc j - 1 ≡ j = omega arith in rw q (backwards-snoc n (rows j ss es) (row ss es j))
@@ -46,7 +47,8 @@ module _ {fs fe : List ℕ} {fc i : ℕ} {rs re : List ℕ} {j n : ℕ} {p : Pic
   forward-first h l m =
       takes-forward h
       (rw (drop-rows fs fe fc i h, backwards-rows n j rs re l)
-      (insert-here (row fs fe i) (interleave (drop (i + 1) (rows fc fs fe))) (flip n (row rs re (j - 1))) (backwards n (rows (j - 1) rs re)) m))
+      (insert-here (row fs fe i) (interleave (drop (i + 1) (rows fc fs fe))) (flip n (row rs re (j - 1)))
+      (backwards n (rows (j - 1) rs re)) m))
 
   pub reverse-first : i < fc → 0 < j → n - row rs re (j - 1) .end ≤ row fs fe i .start
       → p ≡ picked (flip n (row rs re (j - 1))) i (j - 1) → Picks fs fe fc i rs re j n p
@@ -54,4 +56,5 @@ module _ {fs fe : List ℕ} {fc i : ℕ} {rs re : List ℕ} {j n : ℕ} {p : Pic
   reverse-first h l m =
       takes-reverse (omega arith) l
       (rw (drop-rows fs fe fc i h, backwards-rows n j rs re l)
-      (insert-later (row fs fe i) (interleave (drop (i + 1) (rows fc fs fe))) (flip n (row rs re (j - 1))) (backwards n (rows (j - 1) rs re)) m))
+      (insert-later (row fs fe i) (interleave (drop (i + 1) (rows fc fs fe))) (flip n (row rs re (j - 1)))
+      (backwards n (rows (j - 1) rs re)) m))

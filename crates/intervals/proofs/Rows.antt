@@ -6,7 +6,8 @@ use mathlib.Core.Logic.{⊎-elim}
 use native.Mathlib.Omega.{arith}
 use native.Mathlib.Numerals.{add-one}
 use lib.ListN.{length, take, drop, getD, set, length-append, List·getD-append, drop-of-length-le, take-append-drop}
-use lib.Seq.{length-take-le, take-append-le, take-all, drop-append-le, drop-cons, drop-drop, drop-set-lt, getD-at, getD-set-same, getD-set-other}
+use lib.Seq.{length-take-le, take-append-le, take-all, drop-append-le, drop-cons, drop-drop, drop-set-lt}
+use lib.Seq.{getD-at, getD-set-same, getD-set-other}
 use Rattle.intervals.specs.Interval.{Interval, interval, Inside}
 use Rattle.intervals.specs.Rows.{row, rows, Room, Rows}
 use Rattle.intervals.proofs.Order.{lt-or-le}

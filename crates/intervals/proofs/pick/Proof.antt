@@ -36,7 +36,8 @@ shared-slice-read-if3-2 c = search needs
 sub-if3-2 : tie.Need-sub-if3-2
 sub-if3-2 c =
     let S = c .before .before .before .before .before .before .before .before in
-    inside-last (S .args .n) (S .args .j) (S .args .reverse-starts .now) (S .args .reverse-ends .now) (omega arith) (S .pre .0 .reverse-inside) .1
+    inside-last (S .args .n) (S .args .j) (S .args .reverse-starts .now) (S .args .reverse-ends .now)
+    (omega arith) (S .pre .0 .reverse-inside) .1
 
 pick-forward-requires-2 : tie.Need-pick-forward-requires-2
 pick-forward-requires-2 c κs = search needs

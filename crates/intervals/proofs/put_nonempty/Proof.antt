@@ -19,7 +19,8 @@ returns : tie.Need-returns
 returns c =
     let A = c .before .before .before .before .before .before .before .before .before .before .args in
     let h = c .before .before .before .before .before .before .before .if1 .taken in
-    rows-as (put-some (rows (A .count) (A .starts .now) (A .ends .now)) (A .start) (A .end) h) (c .before .before .before .before .put-interval .ensures)
+    rows-as (put-some (rows (A .count) (A .starts .now) (A .ends .now)) (A .start) (A .end) h)
+    (c .before .before .before .before .put-interval .ensures)
 
 returns-2 : tie.Need-returns-2
 returns-2 c =
