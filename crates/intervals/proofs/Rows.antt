@@ -5,9 +5,10 @@ use mathlib.Core.List.{List, [], _∷_, _++_}
 use mathlib.Core.Logic.{⊎-elim}
 use native.Mathlib.Omega.{arith}
 use native.Mathlib.Numerals.{add-one}
-use lib.ListN.{length, take, drop, getD, set, length-append, List·getD-append, drop-of-length-le, take-append-drop}
-use lib.Seq.{length-take-le, take-append-le, take-all, drop-append-le, drop-cons, drop-drop, drop-set-lt}
+use lib.ListN.{length, take, drop, getD, set, length-append, List·getD-append, drop-of-length-le}
+use lib.Seq.{take-append-le, take-all, drop-cons, drop-drop, drop-set-lt}
 use lib.Seq.{getD-at, getD-set-same, getD-set-other}
+use Rattle.buffers.proofs.Lent.{as-long, part-kept}
 use Rattle.intervals.specs.Interval.{Interval, interval, Inside}
 use Rattle.intervals.specs.Rows.{row, rows, Room, Rows}
 use Rattle.intervals.proofs.Order.{lt-or-le}
@@ -92,27 +93,18 @@ store-rows ss es k s e h =
     }
 
 -- The first m entries were lent: what holds of them holds of the whole slices.
-part-kept : (m c : ℕ) (xs ys : List ℕ) → m ≤ length xs → length ys ≡ length (take m xs) → c ≤ m
-    → drop c ys ≡ drop c (take m xs) → drop c (ys ++ drop m xs) ≡ drop c xs
-part-kept m c xs ys h l k e =
-    let t = length-take-le m xs h in
-    drop-append-le c ys (drop m xs) (omega arith)
-    ∙ ap (λ (zs : List ℕ). zs ++ drop m xs) e
-    ∙ sym (drop-append-le c (take m xs) (drop m xs) (omega arith))
-    ∙ ap (λ (zs : List ℕ). drop c zs) (take-append-drop m xs)
-
 pub part-rows : (m : ℕ) (list : List Interval) (ss es ss′ es′ : List ℕ) (c : ℕ) → Room m ss es
     → length ss′ ≡ length (take m ss) → length es′ ≡ length (take m es) → c ≤ m
     → Rows list (take m ss) (take m es) ss′ es′ c → Rows list ss es (ss′ ++ drop m ss) (es′ ++ drop m es) c
 part-rows m list ss es ss′ es′ c h ls le k r =
-    let t = length-take-le m ss (h .0) in
-    let u = length-take-le m es (h .1) in
+    let t = as-long m ss ss′ (h .0) ls in
+    let u = as-long m es es′ (h .1) le in
     record {
       list-is = rows-ext c (ss′ ++ drop m ss) (es′ ++ drop m es) ss′ es′
           (λ i q. ap₂ interval (List·getD-append ss′ (drop m ss) 0 i (omega arith)) (List·getD-append es′ (drop m es) 0 i (omega arith)))
           ∙ r .list-is;
-      starts-kept = part-kept m c ss ss′ (h .0) ls k (r .starts-kept);
-      ends-kept = part-kept m c es es′ (h .1) le k (r .ends-kept);
+      starts-kept = part-kept m ss ss′ (h .0) ls c k (r .starts-kept);
+      ends-kept = part-kept m es es′ (h .1) le c k (r .ends-kept);
     }
 
 -- A list inside n letters: its last interval, and its first ones.
