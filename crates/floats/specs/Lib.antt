@@ -1,2 +1,3 @@
 pub mod Value
+pub mod Arithmetic
 pub mod Binary64

@@ -6,7 +6,8 @@ use mathlib.Core.Bool.{Bool, true, false, cond, not, _&&_, _||_}
 use lib.ListN.{length, getD, drop}
 use lib.Dec.{eqb, ltb, leb}
 use lib.IntN.{ℤ, pos, negsuc}
-use lib.Ieee.{Float, nan, binary64, add, sub, neg, le, lt, ofBits}
+use lib.Ieee.{Float, nan, binary64, neg, le, lt, ofBits}
+use Rattle.floats.specs.Arithmetic.{_⊕_, _⊖_}
 use Rattle.floats.specs.Binary64.{zero64, slack, nearZero}
 use Rattle.letters.specs.Place.{Place, ambiguous, plain}
 use Rattle.scans.specs.Setup.{Setup, lnAt, fAt}
@@ -26,7 +27,7 @@ pub record Outcome : Type 0 where
 unfoldable pub extends : Setup → List ℕ → ℕ → ℕ → Bool
 extends S counts len x =
     let c : ℕ = getD counts x 0 + 1 in
-    leb c (S .window-size) && not (lt (sub binary64 (lnAt S c) (sub binary64 (fAt S len) (fAt S (len - 1)))) (S .threshold))
+    leb c (S .window-size) && not (lt (lnAt S c ⊖ (fAt S len ⊖ fAt S (len - 1))) (S .threshold))
 
 -- ---- The back check: it reads at most max_test newest entries, adding ln[window count] (0 if ambiguous) - T; below 0 it says no.
 abbrev pub windowValue : Setup → List Place → Place → Float
@@ -37,7 +38,7 @@ windowValue S q (plain x) = lnAt S (count x q)
 unfoldable pub ifBackwardFrom : Setup → List Place → ℕ → ℕ → Float → Bool
 ifBackwardFrom S q zero i s = true
 ifBackwardFrom S q (suc m) i s =
-    let s′ : Float = add binary64 s (sub binary64 (windowValue S q (getD q (i - 1) ambiguous)) (S .threshold)) in
+    let s′ : Float = s ⊕ (windowValue S q (getD q (i - 1) ambiguous) ⊖ S .threshold) in
     let later : Bool = ifBackwardFrom S q m (i - 1) s′ in
     cond (lt s′ zero64) false later
 
@@ -77,8 +78,8 @@ pub record Forward : Type 0 where
 unfoldable pub forwardFrom : Setup → Float → List Place → ℕ → ℕ → ForwardSums → List ℕ → Forward
 forwardFrom S limit [] l i a counts = record { sums = a; counts = counts }
 forwardFrom S limit (e ∷ es) l i a counts =
-    let s : Float = add binary64 (a .s) (sub binary64 (value S counts e) (S .threshold)) in
-    let sl : Float = sub binary64 s (fAt S l) in
+    let s : Float = a .s ⊕ (value S counts e ⊖ S .threshold) in
+    let sl : Float = s ⊖ fAt S l in
     let a′ : ForwardSums = forwardJudged a s sl i in
     let counts′ : List ℕ = raise counts e in
     let later : Forward = forwardFrom S limit es (l + 1) (i + 1) a′ counts′ in
@@ -86,7 +87,7 @@ forwardFrom S limit (e ∷ es) l i a counts =
 
 -- From index j on; it stops after a score above its candidate's plus 1e-6.
 unfoldable pub dustForward : Setup → List Place → ℕ → Float → Forward
-dustForward S q j max-back = forwardFrom S (add binary64 max-back slack) (drop j q) 1 j forwardStart (cleared S)
+dustForward S q j max-back = forwardFrom S (max-back ⊕ slack) (drop j q) 1 j forwardStart (cleared S)
 
 -- ---- The backward scan.
 pub record Candidate : Type 0 where
@@ -115,7 +116,7 @@ backwardStart = record { s = zero64; sw = zero64; last = neg (ofBits binary64 0x
 
 -- The score falls from a peak above 0 and within 1e-9 of the best, which is the best before this place is judged.
 abbrev pub isNoted : BackwardSums → Float → Bool
-isNoted a sl = lt sl (a .last) && (lt zero64 (a .last) && nearZero (sub binary64 (a .last) (a .best)))
+isNoted a sl = lt sl (a .last) && (lt zero64 (a .last) && nearZero (a .last ⊖ a .best))
 
 -- The scan comes from the newer side: the peak of a fall at index i stands at i + 1, and that is noted, with the best score so far.
 abbrev pub noted : BackwardSums → Float → ℕ → List Candidate → List Candidate
@@ -123,7 +124,7 @@ noted a sl i cs = cond (isNoted a sl) (cs ++ candidate (i + 1) (a .best) ∷ [])
 
 -- Once there is a best place, best less score is above the drop limit, xdrop times T (none: w times T).
 abbrev pub isDropped : Setup → BackwardSums → Float → Bool
-isDropped S a sl = not (le (a .best) sl) && (not (eqb (a .found) 0) && lt (S .drop-limit) (sub binary64 (a .best) sl))
+isDropped S a sl = not (le (a .best) sl) && (not (eqb (a .found) 0) && lt (S .drop-limit) (a .best ⊖ sl))
 
 -- An equal score is the new best.
 abbrev pub backwardJudged : BackwardSums → Float → Float → Float → ℕ → BackwardSums
@@ -143,13 +144,13 @@ backwardFrom S q zero l a counts cs = record { best = a .best; found = a .found;
 backwardFrom S q (suc i) l a counts cs =
     let e : Place = getD q i ambiguous in
     let counts′ : List ℕ = raise counts e in
-    let s : Float = add binary64 (a .s) (sub binary64 (value S counts e) (S .threshold)) in
-    let sl : Float = sub binary64 s (fAt S l) in
-    let sw : Float = add binary64 (a .sw) (sub binary64 (secondValue S q counts′ e) (S .threshold)) in
+    let s : Float = a .s ⊕ (value S counts e ⊖ S .threshold) in
+    let sl : Float = s ⊖ fAt S l in
+    let sw : Float = a .sw ⊕ (secondValue S q counts′ e ⊖ S .threshold) in
     let a′ : BackwardSums = backwardJudged a s sw sl i in
     let cs′ : List Candidate = noted a sl i cs in
     let later : Backward = backwardFrom S q i (l + 1) a′ counts′ cs′ in
-    cond (lt (sub binary64 sw (fAt S l)) zero64) (record { best = a .best; found = a .found; counts = counts′; candidates = cs })
+    cond (lt (sw ⊖ fAt S l) zero64) (record { best = a .best; found = a .found; counts = counts′; candidates = cs })
     (cond (isDropped S a sl) (record { best = a′ .best; found = a′ .found; counts = counts′; candidates = cs′ }) later)
 
 -- The best place joins the candidates if it is older than all noted, that is, older than the last.

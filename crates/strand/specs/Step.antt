@@ -6,7 +6,8 @@ use lib.ListN.{length}
 use lib.Dec.{eqb, leb}
 use lib.IntN.{ℤ, pos, negsuc, _-ℤ_}
 use lib.Signed.{ltZ, leZ}
-use lib.Ieee.{Float, binary64, add, sub, mul, lt}
+use lib.Ieee.{Float, lt}
+use Rattle.floats.specs.Arithmetic.{_⊕_, _⊖_, _⊗_}
 use Rattle.floats.specs.Binary64.{zero64, number}
 use Rattle.letters.specs.Place.{Place, ambiguous, plain, places}
 use Rattle.intervals.specs.Interval.{Interval}
@@ -33,7 +34,7 @@ begin S = record { window = []; sum = zero64; counts = cleared S; start = negsuc
 -- If plain, the ln entry of the old count leaves the sum; an ambiguous one leaves the sum alone.
 abbrev pub sumWithout : Setup → List Place → Float → Place → Float
 sumWithout S q sum ambiguous = sum
-sumWithout S q sum (plain x) = sub binary64 sum (lnAt S (count x q))
+sumWithout S q sum (plain x) = sum ⊖ lnAt S (count x q)
 
 -- Then last_q = 0 lowers that k-mer's scan count if plain and above 0; last_q > 0 falls by one.
 abbrev pub countsWithout : ℤ → List ℕ → Place → List ℕ
@@ -65,7 +66,7 @@ leave S a = cond (leb (S .window-size) (length (a .window))) (withoutOldest S a 
 -- ---- The new entry joins. A plain one raises its count c and adds ln entry c.
 abbrev pub sumWith : Setup → List Place → Float → Place → Float
 sumWith S q sum ambiguous = sum
-sumWith S q sum (plain x) = add binary64 sum (lnAt S (count x q))
+sumWith S q sum (plain x) = sum ⊕ lnAt S (count x q)
 
 unfoldable pub join : Setup → Run → Place → Run
 join S a e =
@@ -77,7 +78,7 @@ join S a e =
 unfoldable pub windowScore : Setup → Run → Float
 windowScore S a =
     let len : ℕ = length (a .window) in
-    sub binary64 (sub binary64 (a .sum) (fAt S len)) (mul binary64 (number len) (S .threshold))
+    a .sum ⊖ fAt S len ⊖ number len ⊗ S .threshold
 
 abbrev pub isAt : ℤ → ℕ → Bool
 isAt (pos e) i = eqb i e
