@@ -1,0 +1,143 @@
+//! The port as liblongdust_c.a exports it (include/longdust.h).
+
+use crate::port::{Buffers, Lent};
+use crate::request::{Gc, Request, Tables};
+
+/// Both calls are declared with tables that may be written, so that one expression calls either; that
+/// the call on lent tables leaves them alone is checked.
+macro_rules! declare {
+    ($name:ident) => {
+        extern "C" {
+            fn $name(
+                sequence: *const u8,
+                sequence_len: usize,
+                kmer: usize,
+                window_size: usize,
+                score_threshold: f64,
+                gc_kind: u32,
+                gc_value: f64,
+                xdrop_set: u32,
+                xdrop_length: u32,
+                min_start_cnt: u16,
+                approx: u32,
+                forward_only: u32,
+                ln: *mut f64,
+                ln_len: usize,
+                f: *mut f64,
+                f_len: usize,
+                queue: *mut u32,
+                queue_len: usize,
+                window_counts: *mut u16,
+                window_counts_len: usize,
+                scan_counts: *mut u16,
+                scan_counts_len: usize,
+                candidate_places: *mut u32,
+                candidate_places_len: usize,
+                candidate_scores: *mut f64,
+                candidate_scores_len: usize,
+                codes: *mut u8,
+                codes_len: usize,
+                reverse_codes: *mut u8,
+                reverse_codes_len: usize,
+                forward_starts: *mut u32,
+                forward_starts_len: usize,
+                forward_ends: *mut u32,
+                forward_ends_len: usize,
+                reverse_starts: *mut u32,
+                reverse_starts_len: usize,
+                reverse_ends: *mut u32,
+                reverse_ends_len: usize,
+                starts: *mut u32,
+                starts_len: usize,
+                ends: *mut u32,
+                ends_len: usize,
+                in_range: *mut u32,
+            ) -> i64;
+        }
+    };
+}
+declare!(longdust_process_tables);
+declare!(longdust_process);
+
+/// A choice without a value gets one that would spoil every table.
+fn gc_numbers(gc: Gc) -> (u32, f64) {
+    match gc {
+        Gc::Uniform => (0, f64::NAN),
+        Gc::Fixed(value) => (1, value),
+        Gc::Auto => (2, f64::NAN),
+        Gc::Kind(kind, value) => (kind, value),
+    }
+}
+
+fn raw<T>(lent: &mut Lent<T>) -> (*mut T, usize) {
+    (lent.now.as_mut_ptr(), lent.length)
+}
+
+pub fn call(request: &Request, lent: &mut Buffers) -> (i64, u32) {
+    let process = match request.tables {
+        Tables::Formula => longdust_process,
+        _ => longdust_process_tables,
+    };
+    let yes = |said: bool| if said { request.yes } else { 0 };
+    let (gc_kind, gc_value) = gc_numbers(request.gc);
+    let (ln, ln_len) = raw(&mut lent.ln);
+    let (f, f_len) = raw(&mut lent.f);
+    let (queue, queue_len) = raw(&mut lent.queue);
+    let (window_counts, window_counts_len) = raw(&mut lent.window_counts);
+    let (scan_counts, scan_counts_len) = raw(&mut lent.scan_counts);
+    let (candidate_places, candidate_places_len) = raw(&mut lent.candidate_places);
+    let (candidate_scores, candidate_scores_len) = raw(&mut lent.candidate_scores);
+    let (codes, codes_len) = raw(&mut lent.codes);
+    let (reverse_codes, reverse_codes_len) = raw(&mut lent.reverse_codes);
+    let [forward_starts, forward_ends, reverse_starts, reverse_ends, starts, ends] = lent.lists.each_mut().map(raw);
+    let mut in_range = 0xdead;
+    // SAFETY: each pointer is to a live slice at least as long as the length behind it; none overlap.
+    let result = unsafe {
+        process(
+            request.sequence.as_ptr(),
+            request.sequence.len(),
+            request.kmer,
+            request.window_size,
+            request.score_threshold,
+            gc_kind,
+            gc_value,
+            yes(request.xdrop.is_some()),
+            request.xdrop.unwrap_or(0),
+            request.min_start_cnt,
+            yes(request.approx),
+            yes(request.forward_only),
+            ln.cast(),
+            ln_len,
+            f.cast(),
+            f_len,
+            queue,
+            queue_len,
+            window_counts,
+            window_counts_len,
+            scan_counts,
+            scan_counts_len,
+            candidate_places,
+            candidate_places_len,
+            candidate_scores.cast(),
+            candidate_scores_len,
+            codes,
+            codes_len,
+            reverse_codes,
+            reverse_codes_len,
+            forward_starts.0,
+            forward_starts.1,
+            forward_ends.0,
+            forward_ends.1,
+            reverse_starts.0,
+            reverse_starts.1,
+            reverse_ends.0,
+            reverse_ends.1,
+            starts.0,
+            starts.1,
+            ends.0,
+            ends.1,
+            &mut in_range,
+        )
+    };
+    (result, in_range)
+}

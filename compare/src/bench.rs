@@ -1,0 +1,81 @@
+//! Letters per second of both on the same synthetic genomes, as ratios.
+
+use crate::genomes;
+use crate::original::{floats, formulas, handed};
+use crate::port::{Buffers, Port};
+use crate::request::{Answer, Request, Tables};
+use std::time::Instant;
+
+/// A synthetic genome of this seed and number of letters.
+type Genome = fn(u64, usize) -> Vec<u8>;
+
+const GENOMES: [(&str, Genome); 3] =
+    [("genome-like", genomes::genome_like), ("repeat-heavy", genomes::repeat_heavy), ("random", genomes::random)];
+
+/// One k of the table: letters of each genome in a quick and in a whole run, and the ratios to reach.
+struct Row {
+    kmer: usize,
+    quick: [usize; 3],
+    whole: [usize; 3],
+    aims: [f64; 3],
+}
+
+/// The original clears 4^k counts for each scan, so a larger k gets fewer letters.
+const ROWS: [Row; 3] = [
+    Row { kmer: 7, quick: [300_000, 40_000, 2_000_000], whole: [2_000_000, 300_000, 8_000_000], aims: [2.2, 1.8, 1.0] },
+    Row { kmer: 10, quick: [60_000, 8000, 2_000_000], whole: [400_000, 50_000, 8_000_000], aims: [6.0, 5.0, 1.0] },
+    Row { kmer: 12, quick: [8000, 1200, 2_000_000], whole: [40_000, 3000, 8_000_000], aims: [50.0, 30.0, 1.0] },
+];
+
+/// Median seconds of both on the same request, turns taken.
+fn turns(port: Port, request: &Request, turns: usize) -> (f64, f64) {
+    let Tables::Given { ln, f } = &request.tables else { unreachable!("bench hands tables in") };
+    let mut buffers = Buffers::new(request);
+    let (mut original, mut ported) = (Vec::new(), Vec::new());
+    for _ in 0..turns {
+        let (ln, f) = (floats(ln), floats(f));
+        let start = Instant::now();
+        let mask = handed::Longdust::process(&request.sequence, handed::options(request), ln, f);
+        original.push(start.elapsed().as_secs_f64());
+        let start = Instant::now();
+        let result = port(request, &mut buffers);
+        ported.push(start.elapsed().as_secs_f64());
+        assert_eq!(buffers.answer(result), Ok(Answer::Accepted { in_range: true, intervals: mask }));
+    }
+    (median(original), median(ported))
+}
+
+fn median(mut seconds: Vec<f64>) -> f64 {
+    seconds.sort_by(f64::total_cmp);
+    seconds[seconds.len() / 2]
+}
+
+fn request(kmer: usize, sequence: Vec<u8>) -> Request {
+    let request = Request { kmer, sequence, ..Request::default() };
+    let (ln, f) = formulas::tables(&request);
+    Request { tables: Tables::Given { ln, f }, ..request }
+}
+
+/// The `bench` command.
+pub fn command(port: Port, quick: bool) {
+    let times = if quick { 3 } else { 5 };
+    println!("two strands, w 5000, other options the defaults, formula tables lent to both, one thread");
+    println!("{times} turns each, original then port, medians");
+    println!("buffers: the port's are lent as its turn before left them, the original allocates its own in its turn");
+    println!("\n k  genome        letters   original/s       port/s   ratio  to reach");
+    for Row { kmer, quick: few, whole, aims } in ROWS {
+        for (i, (name, genome)) in GENOMES.into_iter().enumerate() {
+            let n = if quick { few[i] } else { whole[i] };
+            let (original, ported) = turns(port, &request(kmer, genome(1, n)), times);
+            let speed = |seconds: f64| n as f64 / seconds;
+            let (theirs, ours, ratio) = (speed(original), speed(ported), original / ported);
+            println!("{kmer:2}  {name:12} {n:8} {theirs:12.0} {ours:12.0} {ratio:7.2} {:9.1}", aims[i]);
+        }
+    }
+    println!("\ngrowth, k 7, genome-like\n letters   original s    port s   port ns a letter");
+    let genome = genomes::genome_like(2, if quick { 800_000 } else { 8_000_000 });
+    for n in [8, 4, 2, 1].map(|part| genome.len() / part) {
+        let (original, ported) = turns(port, &request(7, genome[..n].to_vec()), 3);
+        println!("{n:8} {original:12.3} {ported:9.3} {:18.1}", ported / n as f64 * 1e9);
+    }
+}

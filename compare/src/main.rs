@@ -1,0 +1,104 @@
+//! Holds the proved masker against the Rust it was made from: `compare` without words lists the commands.
+
+mod common {
+    #![allow(dead_code)]
+    include!(concat!(env!("OUT_DIR"), "/common.rs"));
+}
+#[cfg(port)]
+mod archive;
+mod bench;
+mod formulas;
+mod generate;
+mod genomes;
+mod original;
+mod port;
+mod random;
+mod record;
+mod request;
+mod sets;
+#[cfg(test)]
+mod tests;
+
+use port::{Buffers, Port};
+use request::{Answer, Request};
+use std::{env, fs, process};
+
+/// The original's own limit, which it reads from the root of its crate.
+const MAX_LONGDUST_WINDOW_SIZE: usize = 65535;
+
+const USAGE: &str = "\
+compare answer FILE        one request (its form: src/request.rs), answered by the port
+compare original FILE      the same by the original
+compare random SEED COUNT  both on random requests, every result and buffer compared
+compare cases              both on the paper's cases
+compare tables             filled tables bit by bit, over k, w and GC
+compare large [quick]      windows of 65,535 letters; quick: narrower ones
+compare bench [quick]      letters per second of both, as ratios; quick: under a minute
+compare record             the recorded list for crates/replay (its form: src/record.rs)";
+
+fn main() {
+    let words: Vec<String> = env::args().skip(1).collect();
+    let words: Vec<&str> = words.iter().map(|word| &word[..]).collect();
+    let (passed, failed) = match words[..] {
+        ["answer", file] => return answer(file),
+        ["original", file] => return original(file),
+        ["bench"] => return bench::command(port(), false),
+        ["bench", "quick"] => return bench::command(port(), true),
+        ["record"] => return print!("{}", record::list()),
+        ["random", seed, count] => random::command(port(), number(seed), number(count)),
+        ["cases"] => sets::cases(port()),
+        ["tables"] => sets::tables(port()),
+        ["large"] => sets::large(port(), false),
+        ["large", "quick"] => sets::large(port(), true),
+        _ => stop(USAGE),
+    };
+    println!("{passed} passed, {failed} failed");
+    process::exit((failed > 0) as i32);
+}
+
+#[cfg(port)]
+fn port() -> Port {
+    archive::call
+}
+
+#[cfg(not(port))]
+fn port() -> Port {
+    stop("built without the port: run `rt staticlib longdust_c`, then build this program again")
+}
+
+fn number(word: &str) -> u64 {
+    word.parse().unwrap_or_else(|_| stop(USAGE))
+}
+
+fn stop(message: &str) -> ! {
+    eprintln!("{message}");
+    process::exit(2)
+}
+
+fn read(file: &str) -> Request {
+    let text = fs::read(file).unwrap_or_else(|error| stop(&format!("{file}: {error}")));
+    Request::parse(&text).unwrap_or_else(|error| stop(&format!("{file}: {error}")))
+}
+
+fn answer(file: &str) {
+    let request = read(file);
+    let mut buffers = Buffers::new(&request);
+    let result = port()(&request, &mut buffers);
+    match buffers.answer(result) {
+        Ok(answer) => show(&request, &answer),
+        Err(wrong) => stop(&wrong),
+    }
+}
+
+fn original(file: &str) {
+    let request = read(file);
+    show(&request, &original::reference(&request, &Buffers::new(&request)).answer);
+}
+
+/// A length without letters is answered only where a check before the buffers' refuses it.
+fn show(request: &Request, answer: &Answer) {
+    match answer {
+        Answer::Refused(11) if request.is_virtual => println!("unsupported"),
+        answer => print!("{answer}"),
+    }
+}

@@ -1,0 +1,129 @@
+//! The reference: the paper's list of refusals, then the original itself, in three variants.
+//!
+//! `unmodified` is the original's text as it stands; `formulas` takes ln, exp and powi by the paper's
+//! formulas; `handed` takes both tables as arguments. build.rs makes them.
+
+use crate::port::Buffers;
+use crate::request::{Answer, Gc, Request, Tables};
+
+/// Gives a variant its options, and the two tables it would make for a request, as float bits.
+macro_rules! variant {
+    ($name:ident, $file:literal) => {
+        #[allow(dead_code, unused_assignments, clippy::all)]
+        pub mod $name {
+            include!(concat!(env!("OUT_DIR"), $file));
+            use crate::request::{Gc, Request};
+
+            pub fn options(request: &Request) -> LongdustOptions {
+                LongdustOptions {
+                    window_size: request.window_size,
+                    score_threshold: request.score_threshold,
+                    kmer: request.kmer,
+                    gc: match request.gc {
+                        Gc::Fixed(value) => GcOption::Fixed(value),
+                        Gc::Auto => GcOption::Auto,
+                        _ => GcOption::Uniform,
+                    },
+                    xdrop: request.xdrop.map(|length| length as usize),
+                    min_start_cnt: request.min_start_cnt,
+                    approx: request.approx,
+                    forward_only: request.forward_only,
+                }
+            }
+
+            pub fn tables(request: &Request) -> (Vec<u64>, Vec<u64>) {
+                let (k, w) = (request.kmer, request.window_size);
+                let f = match request.gc {
+                    Gc::Fixed(gc) => calculate_f_gc(k, w + 1, gc),
+                    Gc::Auto => calculate_f_gc(k, w + 1, compute_gc_content(&encode_sequence(&request.sequence))),
+                    _ => calculate_f(k, w + 1),
+                };
+                (crate::original::bits(&ln_table()[..=w]), crate::original::bits(&f))
+            }
+        }
+    };
+}
+
+#[cfg(test)]
+pub(crate) use variant;
+
+variant!(unmodified, "/unmodified.rs");
+variant!(formulas, "/formulas.rs");
+variant!(handed, "/handed.rs");
+
+pub fn bits(floats: &[f64]) -> Vec<u64> {
+    floats.iter().map(|x| x.to_bits()).collect()
+}
+
+pub fn floats(bits: &[u64]) -> Vec<f64> {
+    bits.iter().map(|&x| f64::from_bits(x)).collect()
+}
+
+/// The number of the first check that refuses a request, if its slices have these lengths.
+///
+/// Checks 1 to 9 are the original's `validate_inputs` in its order, with the same comparisons. The
+/// paper adds 10 and 11; the C interface adds a GC kind that is none of the three to 7.
+fn refusal(request: &Request, lengths: &[usize; 15]) -> Option<u32> {
+    refusal_before_sizes(request).or_else(|| {
+        let short = lengths.iter().zip(request.listed()).any(|(length, listed)| *length < listed);
+        short.then_some(11)
+    })
+}
+
+pub fn refusal_before_sizes(request: &Request) -> Option<u32> {
+    let (k, w, n, t) = (request.kmer, request.window_size, request.sequence.len(), request.score_threshold);
+    if !(1..=12).contains(&k) {
+        return Some(1);
+    }
+    let gc_refused = match request.gc {
+        Gc::Uniform | Gc::Auto => false,
+        Gc::Fixed(value) => !(0.0..=1.0).contains(&value),
+        Gc::Kind(..) => true,
+    };
+    let checks = [
+        (2, !request.sequence.is_ascii()),
+        (3, n < k + 1),
+        (4, w < k + 1),
+        (5, w > 65535),
+        (6, !t.is_finite() || t <= 0.0),
+        (7, gc_refused),
+        (8, request.min_start_cnt < 2),
+        (9, request.xdrop == Some(0)),
+        (10, n > 2147483647),
+    ];
+    checks.iter().find(|(_, refused)| *refused).map(|(number, _)| *number)
+}
+
+/// The flag: T at most 16, ln entries 1..w in 0..16 and f entries 1..w in 0..1,048,576.
+fn in_range(request: &Request, ln: &[u64], f: &[u64]) -> bool {
+    let within = |table: &[u64], high: f64| {
+        floats(&table[1..=request.window_size]).iter().all(|entry| (0.0..=high).contains(entry))
+    };
+    request.score_threshold <= 16.0 && within(ln, 16.0) && within(f, 1048576.0)
+}
+
+/// The reference's answer, and the tables that the port must have filled.
+pub struct Reference {
+    pub answer: Answer,
+    pub filled: Option<(Vec<u64>, Vec<u64>)>,
+}
+
+/// Answers a request that lends these buffers, as they are before the call.
+pub fn reference(request: &Request, lent: &Buffers) -> Reference {
+    if let Some(number) = refusal(request, &lent.lengths()) {
+        return Reference { answer: Answer::Refused(number), filled: None };
+    }
+    let (letters, w) = (&request.sequence, request.window_size);
+    let filled = (request.tables == Tables::Formula).then(|| formulas::tables(request));
+    let (ln, f) = match &filled {
+        Some((ln, f)) => (&ln[..], &f[..]),
+        None => (&lent.ln.now[..w + 1], &lent.f.now[..w + 2]),
+    };
+    let intervals = match request.tables {
+        Tables::Formula => formulas::Longdust::process(letters, formulas::options(request)),
+        Tables::Own => unmodified::Longdust::process(letters, unmodified::options(request)),
+        Tables::Given { .. } => handed::Longdust::process(letters, handed::options(request), floats(ln), floats(f)),
+    };
+    let in_range = in_range(request, ln, f);
+    Reference { answer: Answer::Accepted { in_range, intervals }, filled }
+}

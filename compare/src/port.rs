@@ -1,0 +1,182 @@
+//! The port: buffers to lend it, the call, and what must be true of the buffers afterwards.
+
+use crate::original::{self, Reference};
+use crate::request::{Answer, Request, Tables, F, LN, NAMES};
+
+/// Something that answers as the C interface does: a count or minus a refusal, and the flag.
+pub type Port = fn(&Request, &mut Buffers) -> (i64, u32);
+
+/// Elements that stand behind each lent slice and are no part of it.
+const GUARD: usize = 8;
+
+/// A lent slice, with its guard and a copy of what both held before.
+pub struct Lent<T> {
+    pub now: Vec<T>,
+    before: Vec<T>,
+    pub length: usize,
+}
+
+impl<T: Copy + PartialEq> Lent<T> {
+    fn new(length: usize, content: impl Fn(usize) -> T) -> Self {
+        let before: Vec<T> = (0..length + GUARD).map(content).collect();
+        Lent { now: before.clone(), before, length }
+    }
+}
+
+/// What the checks need of a slice of any element type.
+trait Slice {
+    fn length(&self) -> usize;
+    /// The first element from this one on that changed.
+    fn change(&self, from: usize) -> Option<usize>;
+}
+
+impl<T: Copy + PartialEq> Slice for Lent<T> {
+    fn length(&self) -> usize {
+        self.length
+    }
+
+    fn change(&self, from: usize) -> Option<usize> {
+        let from = from.min(self.length);
+        if self.now[from..] == self.before[from..] {
+            return None;
+        }
+        (from..self.now.len()).find(|&i| self.now[i] != self.before[i])
+    }
+}
+
+/// All lent slices; floats as their bits.
+pub struct Buffers {
+    pub ln: Lent<u64>,
+    pub f: Lent<u64>,
+    pub queue: Lent<u32>,
+    pub window_counts: Lent<u16>,
+    pub scan_counts: Lent<u16>,
+    pub candidate_places: Lent<u32>,
+    pub candidate_scores: Lent<u64>,
+    pub codes: Lent<u8>,
+    pub reverse_codes: Lent<u8>,
+    /// Starts and ends of the forward, the reverse and the final list.
+    pub lists: [Lent<u32>; 6],
+}
+
+/// The length of a slice that a request says nothing of, where it is refused before the sizes.
+const UNCHECKED: usize = 64;
+
+/// What stands in the buffers before the call.
+fn garbage(kind: u64, slice: usize, i: usize) -> u64 {
+    match kind {
+        0 => 0,
+        1 => u64::MAX,
+        seed => (seed ^ (slice as u64) << 56 ^ i as u64).wrapping_mul(0x9e37_79b9_7f4a_7c15).rotate_left(23),
+    }
+}
+
+impl Buffers {
+    /// As long as the request says, else as listed, and full of its garbage and tables.
+    pub fn new(request: &Request) -> Buffers {
+        let accepted = original::refusal_before_sizes(request).is_none();
+        let listed = if accepted { request.listed() } else { [UNCHECKED; 15] };
+        let length = |slice: usize| request.size_said(slice).unwrap_or(listed[slice]);
+        let (ln, f) = match &request.tables {
+            Tables::Own if accepted => original::unmodified::tables(request),
+            Tables::Given { ln, f } => (ln.clone(), f.clone()),
+            _ => (Vec::new(), Vec::new()),
+        };
+        let any = |slice: usize, i: usize| garbage(request.garbage, slice, i);
+        let table =
+            |slice: usize, words: &[u64]| Lent::new(length(slice), |i| words.get(i).copied().unwrap_or(any(slice, i)));
+        Buffers {
+            ln: table(LN, &ln),
+            f: table(F, &f),
+            queue: Lent::new(length(2), |i| any(2, i) as u32),
+            window_counts: Lent::new(length(3), |i| any(3, i) as u16),
+            scan_counts: Lent::new(length(4), |i| any(4, i) as u16),
+            candidate_places: Lent::new(length(5), |i| any(5, i) as u32),
+            candidate_scores: Lent::new(length(6), |i| any(6, i)),
+            codes: Lent::new(length(7), |i| any(7, i) as u8),
+            reverse_codes: Lent::new(length(8), |i| any(8, i) as u8),
+            lists: [9, 10, 11, 12, 13, 14].map(|slice| Lent::new(length(slice), |i| any(slice, i) as u32)),
+        }
+    }
+
+    fn slices(&self) -> [&dyn Slice; 15] {
+        let [a, b, c, d, e, g] = &self.lists;
+        [
+            &self.ln,
+            &self.f,
+            &self.queue,
+            &self.window_counts,
+            &self.scan_counts,
+            &self.candidate_places,
+            &self.candidate_scores,
+            &self.codes,
+            &self.reverse_codes,
+            a,
+            b,
+            c,
+            d,
+            e,
+            g,
+        ]
+    }
+
+    pub fn lengths(&self) -> [usize; 15] {
+        self.slices().map(|slice| slice.length())
+    }
+
+    /// The port's result as an answer, or why it is none.
+    pub fn answer(&self, (result, flag): (i64, u32)) -> Result<Answer, String> {
+        let [.., starts, ends] = &self.lists;
+        match result {
+            _ if flag > 1 || result < 0 && flag != 0 => Err(format!("result {result} with flag {flag}")),
+            ..=-1 => Ok(Answer::Refused(result.unsigned_abs() as u32)),
+            count if count as usize > starts.length.min(ends.length) => Err(format!("count {count} is past the list")),
+            count => {
+                let rows = starts.now.iter().zip(&ends.now).take(count as usize);
+                let intervals = rows.map(|(&start, &end)| (start as usize, end as usize)).collect();
+                Ok(Answer::Accepted { in_range: flag == 1, intervals })
+            }
+        }
+    }
+
+    /// The first place that should not have changed and did, or that should hold a formula and does not.
+    fn damage(&self, request: &Request, reference: &Reference) -> Option<String> {
+        let Answer::Accepted { intervals, .. } = &reference.answer else {
+            return self.changes(&[0; 15]);
+        };
+        let mut free = request.listed();
+        free[13..].fill(intervals.len());
+        match &reference.filled {
+            None => free[..2].fill(0),
+            Some((ln, f)) => {
+                for (name, lent, table) in [("ln", &self.ln, ln), ("f", &self.f, f)] {
+                    if let Some(i) = (0..table.len()).find(|&i| lent.now[i] != table[i]) {
+                        return Some(format!("{name}[{i}] does not hold its formula"));
+                    }
+                }
+            }
+        }
+        self.changes(&free)
+    }
+
+    /// The first place that changed past the entries of each slice that are free.
+    fn changes(&self, free: &[usize; 15]) -> Option<String> {
+        let change = |((slice, &from), name): ((&dyn Slice, &usize), &str)| {
+            slice.change(from).map(|i| format!("{name} changed at {i}"))
+        };
+        self.slices().into_iter().zip(free).zip(NAMES).find_map(change)
+    }
+}
+
+/// Runs both on a request: the reference, and how the port differs from it if it does.
+pub fn difference(port: Port, request: &Request) -> (Reference, Option<String>) {
+    let mut buffers = Buffers::new(request);
+    let reference = original::reference(request, &buffers);
+    let result = port(request, &mut buffers);
+    let differs = match buffers.answer(result) {
+        Err(wrong) => Some(wrong),
+        Ok(answer) if answer != reference.answer => Some(format!("port: {answer}original: {}", reference.answer)),
+        Ok(_) => buffers.damage(request, &reference),
+    };
+    (reference, differs)
+}

@@ -1,0 +1,190 @@
+//! Both sides on random requests, with a summary, and a small request for each of the first differences.
+
+use crate::generate;
+use crate::port::{difference, Port};
+use crate::request::{Answer, Request, Tables};
+use std::thread;
+
+/// How many differing requests are printed.
+const SHOWN: usize = 3;
+/// How many smaller requests are tried for each.
+const TRIES: usize = 3000;
+
+#[derive(Default)]
+pub struct Summary {
+    pub passed: u64,
+    /// Numbers of the requests that differ.
+    pub failed: Vec<u64>,
+    refused: [u64; 12],
+    masked: u64,
+    unmasked: u64,
+    in_range: u64,
+    /// Accepted with formula, own and given tables.
+    tables: [u64; 3],
+    /// Accepted for each k.
+    kmers: [u64; 13],
+}
+
+impl Summary {
+    fn add(&mut self, request: &Request, answer: &Answer) {
+        let (in_range, intervals) = match answer {
+            Answer::Refused(number) => return self.refused[*number as usize] += 1,
+            Answer::Accepted { in_range, intervals } => (in_range, intervals),
+        };
+        self.unmasked += intervals.is_empty() as u64;
+        self.masked += !intervals.is_empty() as u64;
+        self.in_range += *in_range as u64;
+        self.kmers[request.kmer] += 1;
+        self.tables[match request.tables {
+            Tables::Formula => 0,
+            Tables::Own => 1,
+            Tables::Given { .. } => 2,
+        }] += 1;
+    }
+
+    fn join(mut self, other: Summary) -> Summary {
+        let add = |ours: &mut [u64], theirs: &[u64]| ours.iter_mut().zip(theirs).for_each(|(a, b)| *a += b);
+        add(&mut self.refused, &other.refused);
+        add(&mut self.tables, &other.tables);
+        add(&mut self.kmers, &other.kmers);
+        self.passed += other.passed;
+        self.masked += other.masked;
+        self.unmasked += other.unmasked;
+        self.in_range += other.in_range;
+        self.failed.extend(other.failed);
+        self
+    }
+
+    pub fn print(&self) {
+        let list = |counts: &[u64]| {
+            let each = (1..).zip(&counts[1..]).map(|(number, count)| format!(" {number}: {count}"));
+            each.collect::<String>()
+        };
+        println!("accepted {}, masked {}, flag yes {}", self.masked + self.unmasked, self.masked, self.in_range);
+        println!("accepted by tables, formula {}, own {}, given {}", self.tables[0], self.tables[1], self.tables[2]);
+        println!("accepted by k{}", list(&self.kmers));
+        println!("refused by number{}", list(&self.refused));
+    }
+}
+
+/// The requests of a seed, shared out to all processors.
+pub fn run(port: Port, seed: u64, count: u64) -> Summary {
+    let workers = thread::available_parallelism().map_or(1, |n| n.get()) as u64;
+    let work = move |first: u64| {
+        let mut summary = Summary::default();
+        for number in (first..count).step_by(workers as usize) {
+            let request = generate::request(seed, number);
+            let (reference, differs) = difference(port, &request);
+            summary.add(&request, &reference.answer);
+            match differs {
+                None => summary.passed += 1,
+                Some(_) => summary.failed.push(number),
+            }
+        }
+        summary
+    };
+    thread::scope(|scope| {
+        let threads: Vec<_> = (0..workers).map(|first| scope.spawn(move || work(first))).collect();
+        let summaries = threads.into_iter().map(|thread| thread.join().unwrap());
+        summaries.fold(Summary::default(), Summary::join)
+    })
+}
+
+/// The `random` command.
+pub fn command(port: Port, seed: u64, count: u64) -> (u64, u64) {
+    let mut summary = run(port, seed, count);
+    summary.failed.sort();
+    for &number in summary.failed.iter().take(SHOWN) {
+        let request = shrink(generate::request(seed, number), |request| difference(port, request).1.is_some());
+        let differs = difference(port, &request).1.unwrap_or_default();
+        println!(
+            "# request {number} of seed {seed}, made smaller\n{request}# {}\n",
+            differs.trim().replace('\n', "\n# ")
+        );
+    }
+    summary.print();
+    (summary.passed, summary.failed.len() as u64)
+}
+
+/// A smaller request that still fails.
+pub fn shrink(mut request: Request, fails: impl Fn(&Request) -> bool) -> Request {
+    let mut tries = 0;
+    loop {
+        let smaller = simpler(&request).into_iter().find(|simpler| {
+            tries += 1;
+            tries <= TRIES && fails(simpler)
+        });
+        match smaller {
+            Some(simpler) => request = simpler,
+            None => return request,
+        }
+    }
+}
+
+/// Requests that are simpler in one respect, the largest steps first.
+fn simpler(request: &Request) -> Vec<Request> {
+    let mut all = Vec::new();
+    let mut with = |change: &dyn Fn(&mut Request)| {
+        let mut simpler = request.clone();
+        change(&mut simpler);
+        // As text, since a threshold may be no number.
+        if simpler.to_string() != request.to_string() {
+            all.push(simpler);
+        }
+    };
+    let plain = Request::default();
+    with(&|r| r.sizes = plain.sizes);
+    let n = request.sequence.len();
+    let mut part = n;
+    while part > 0 {
+        for start in (0..n).step_by(part) {
+            with(&|r| drop(r.sequence.drain(start..n.min(start + part))));
+        }
+        part /= 2;
+    }
+    with(&|r| r.sequence.make_ascii_uppercase());
+    with(&|r| r.yes = plain.yes);
+    with(&|r| r.garbage = plain.garbage);
+    with(&|r| r.approx = false);
+    with(&|r| r.forward_only = true);
+    with(&|r| r.xdrop = plain.xdrop);
+    with(&|r| r.min_start_cnt = plain.min_start_cnt);
+    with(&|r| r.gc = plain.gc);
+    with(&|r| r.score_threshold = plain.score_threshold);
+    with(&|r| r.tables = Tables::Formula);
+    for w in [request.kmer + 1, request.window_size / 2, request.window_size.wrapping_sub(1)] {
+        with(&|r| narrow(r, w));
+    }
+    if let Tables::Given { ln, f } = &request.tables {
+        with(&|r| {
+            retable(r, |ln, f| [ln, f].into_iter().flat_map(|table| table.first_mut()).for_each(|entry| *entry = 0))
+        });
+        with(&|r| retable(r, |_, f| f.fill(0)));
+        for i in 0..ln.len().min(200) {
+            with(&|r| retable(r, |ln, _| ln[i] = ln[i.saturating_sub(1)]));
+        }
+        for i in 0..f.len().min(200) {
+            with(&|r| retable(r, |_, f| f[i] = f[i.saturating_sub(1)]));
+        }
+    }
+    all
+}
+
+/// A smaller window, with given tables cut to it.
+fn narrow(request: &mut Request, w: usize) {
+    if w >= request.window_size {
+        return;
+    }
+    request.window_size = w;
+    retable(request, |ln, f| {
+        ln.truncate(w + 1);
+        f.truncate(w + 2);
+    });
+}
+
+/// Changes given tables; others stay.
+fn retable(request: &mut Request, change: impl Fn(&mut Vec<u64>, &mut Vec<u64>)) {
+    if let Tables::Given { ln, f } = &mut request.tables {
+        change(ln, f);
+    }
+}
