@@ -1,0 +1,11 @@
+pub mod Constants
+pub mod Countdown
+pub mod Exponent
+pub mod Significand
+pub mod Fields
+pub mod LnCases
+pub mod ExpLoop
+pub mod Counts
+pub mod Terms
+pub mod Tables
+pub mod Examples

@@ -1,0 +1,28 @@
+-- `f_class`: the sum below 30, `f_large` from there on. Assumes nothing.
+use mathlib.Core.Path.{ap₂}
+use Rattle.tables.specs.Arithmetic.{_⊗_}
+use Rattle.tables.specs.F.{fClass}
+use borrow.Author.Needs.{needs}
+use Rattle.tables.proofs.expected.f_class.Statement.{statement}
+use Rattle.tables.proofs.expected.f_class.Tie as tie
+
+terms-requires : tie.Need-terms-requires
+terms-requires c κs = search needs
+
+exp-neg-requires : tie.Need-exp-neg-requires
+exp-neg-requires c κs = search needs
+
+f-large-requires : tie.Need-f-large-requires
+f-large-requires c κs = search needs
+
+returns : tie.Need-returns
+unfolding fClass
+returns c = rw (c .before .before .if1 .taken) (ap₂ _⊗_ (c .before .terms .ensures) (c .exp-neg .ensures))
+
+returns-2 : tie.Need-returns-2
+unfolding fClass
+returns-2 c = rw (c .before .if1 .left) (c .f-large .ensures)
+
+pub f-class-spec : {M : Type 1} → statement M
+f-class-spec =
+    tie.close (tie.spec terms-requires exp-neg-requires f-large-requires returns returns-2)

@@ -1,0 +1,83 @@
+-- `fill_f`: after l turns the first l entries are stored. Assumes nothing.
+use mathlib.Core.Path.{_≡_}
+use Prim.Native.Nat.{_+_, _-_, _≤_}
+use native.Mathlib.Omega.{arith}
+use lib.ListN.{length, length-set}
+use Rattle.buffers.proofs.Filling.{part}
+use Rattle.buffers.proofs.Tabulate.{tabulate-store, tabulate-full}
+use Rattle.floats.specs.Binary64.{zero64}
+use Rattle.tables.specs.F.{fOf}
+use Rattle.tables.specs.Tables.{fTable}
+use borrow.Author.Needs.{needs}
+use Rattle.tables.proofs.fill_f.Statement.{statement}
+use Rattle.tables.proofs.fill_f.Tie as tie
+
+abbrev Inv-loop : tie.InvT-loop
+Inv-loop f₀ ln k w d l₀ f l = (l ≤ w + 2) × (length f ≡ length f₀) × (f ≡ part (fTable k w d) f₀ l)
+
+abbrev μ-loop : tie.MeasureT-loop
+μ-loop f₀ ln k w d l₀ f l = w + 2 - l
+
+loop-holds : tie.Need-loop-holds Inv-loop μ-loop
+loop-holds c = search needs
+
+add-loop : tie.Need-add-loop Inv-loop μ-loop
+add-loop c = search needs
+
+cast-calculate-f-internal : tie.Need-cast-calculate-f-internal Inv-loop μ-loop
+cast-calculate-f-internal c = search needs
+
+calculate-f-internal-requires : tie.Need-calculate-f-internal-requires Inv-loop μ-loop
+calculate-f-internal-requires c κs = search needs
+
+mul-f : tie.Need-mul-f Inv-loop μ-loop
+mul-f c = search needs
+
+slice-write-f : tie.Need-slice-write-f Inv-loop μ-loop
+slice-write-f c = search needs
+
+add-l : tie.Need-add-l Inv-loop μ-loop
+add-l c = search needs
+
+loop-less : tie.Need-loop-less Inv-loop μ-loop
+loop-less c = search needs
+
+loop-again : tie.Need-loop-again Inv-loop μ-loop
+unfolding fTable
+loop-again c =
+    let l = c .before .before .loop in
+    let s = c .before .before .before .before .before in
+    let a = s .args in (
+      omega arith,
+      simp length-set (l .inv .1),
+      tabulate-store (fOf (a .k) (a .d)) (a .w + 2) (a .f .now) zero64 (s .pre .2) (l .l) (l .f) (l .inv .2) _ (omega arith) (c .calculate-f-internal .ensures),
+    )
+
+same-length : tie.Need-same-length Inv-loop μ-loop
+same-length c = search needs
+
+returns : tie.Need-returns Inv-loop μ-loop
+unfolding fTable
+returns c =
+    let l = c .before .loop in
+    let s = c .before .before .before .before in
+    let a = s .args in
+    tabulate-full (fOf (a .k) (a .d)) (a .w + 2) (a .f .now) zero64 (s .pre .2) (l .l) (l .f) (l .inv .2) (omega arith)
+
+pub fill-f-spec : {M : Type 1} → statement M
+fill-f-spec =
+    tie.close
+    (tie.spec
+    Inv-loop
+    μ-loop
+    loop-holds
+    add-loop
+    cast-calculate-f-internal
+    calculate-f-internal-requires
+    mul-f
+    slice-write-f
+    add-l
+    loop-less
+    loop-again
+    same-length
+    returns)

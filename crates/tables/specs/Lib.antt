@@ -1,0 +1,6 @@
+pub mod Arithmetic
+pub mod Ln
+pub mod Exp
+pub mod Density
+pub mod F
+pub mod Tables
