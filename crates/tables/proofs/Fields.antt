@@ -3,8 +3,9 @@ use mathlib.Core.Path.{_≡_, refl, sym, ap, ap₂, _∙_, subst}
 use mathlib.Core.Bool.{Bool, true, false, not, cond}
 use Prim.Native.Nat.{ℕ, zero, suc, _+_, _-_, _*_, _/_, _%_, _^_, _≤_, _<_}
 use native.Mathlib.Omega.{arith}
-use native.Mathlib.Nat.{lt-of-le-of-lt, lt-of-lt-of-le, mul-le-mul-right, mul-lt-mul-of-pos-right, lt-of-not-le, lt-irrefl}
+use native.Mathlib.Nat.{lt-of-le-of-lt, lt-of-lt-of-le, mul-le-mul-right, mul-lt-mul-of-pos-right, lt-of-not-le, lt-irrefl, mod-eq-of-lt}
 use lib.Dec.{T, leb, eqb}
+use lib.Bits.{bitAnd, and-mask}
 use lib.Pow.{pow-add, pow-pos, pow-mono}
 use lib.Count.{leadingZeros, leading-top}
 use lib.Ieee.{Float, nan, inf, binary64, lt, odd, isNan, nanBits, ofBits, ofFields}
@@ -41,6 +42,7 @@ pub record Shift (q z : ℕ) : Type 0 where
   pub few : z ≤ 63
   pub lo : 2 ^ 52 ≤ q * 2 ^ (z - 11)
   pub hi : q * 2 ^ (z - 11) < 2 ^ 53
+  pub whole : (q * 2 ^ (z - 11)) % 2 ^ 64 ≡ q * 2 ^ (z - 11)
 
 pub shift : (q : ℕ) → 0 < q → q < 2 ^ 53 → Shift q (leadingZeros 64 q)
 shift q h u =
@@ -51,11 +53,13 @@ shift q h u =
     let l : j < 53 = lt-of-not-le (λ (g : 53 ≤ j). lt-irrefl (2 ^ 53) (lt-of-le-of-lt (pow-mono g) (lt-of-le-of-lt (t .2) u))) in
     let a : 2 ^ j * 2 ^ (z - 11) ≡ 2 ^ 52 = sym (pow-add 2 j (z - 11)) ∙ ap (λ (n : ℕ). 2 ^ n) (let k : j + (z - 11) ≡ 52 = omega arith in k) in
     let b : 2 ^ suc j * 2 ^ (z - 11) ≡ 2 ^ 53 = sym (pow-add 2 (suc j) (z - 11)) ∙ ap (λ (n : ℕ). 2 ^ n) (let k : suc j + (z - 11) ≡ 53 = omega arith in k) in
+    let u : q * 2 ^ (z - 11) < 2 ^ 53 = subst (λ (n : ℕ). q * 2 ^ (z - 11) < n) b (mul-lt-mul-of-pos-right (t .3) (pow-pos (z - 11))) in
     record {
       enough = omega arith;
       few = omega arith;
       lo = subst (λ (n : ℕ). n ≤ q * 2 ^ (z - 11)) a (mul-le-mul-right (2 ^ (z - 11)) (t .2));
-      hi = subst (λ (n : ℕ). q * 2 ^ (z - 11) < n) b (mul-lt-mul-of-pos-right (t .3) (pow-pos (z - 11)));
+      hi = u;
+      whole = mod-eq-of-lt (omega arith);
     }
 
 -- ---- a pattern whose value is above zero and finite
@@ -117,6 +121,13 @@ fields b h u =
       finite = lt-of-not-le (λ (g : 2047 ≤ x). ne (omega arith));
       some = λ q. lt-of-not-le (λ (g : t ≤ 0). nz q (omega arith));
     }
+
+-- ---- the fields as the code masks them
+pub field : (b : ℕ) → bitAnd (b / 4503599627370496) 2047 ≡ b / 4503599627370496 % 2048
+field b = and-mask (b / 4503599627370496) 11
+
+pub digits : (b : ℕ) → bitAnd b 4503599627370495 ≡ b % 4503599627370496
+digits b = and-mask b 52
 
 -- ---- what the fields stand for
 pub at-zero : (t : ℕ) → ofFields binary64 false 0 t ≡ odd 53 false t 0 1074

@@ -5,7 +5,7 @@ pub mod Significand
 pub mod Fields
 pub mod LnCases
 pub mod ExpLoop
-pub mod Counts
+pub mod Densities
 pub mod Terms
 pub mod Tables
 pub mod Examples

@@ -16,11 +16,11 @@ use Rattle.tables.specs.Exp.{powi}
 unfoldable pub thirteen : (ℕ → Float) → ℕ → List Float
 thirteen f n = put (tabulate f n) (replicate 13 zero64)
 
--- All k-mers in one class, of density ratio 1.
+-- `calculate_f`: all k-mers in one class, each expected 1 in 4^k times.
 unfoldable pub uniform : ℕ → Density
 uniform k = record { ratio = thirteen (λ i. one64) 1; count = thirteen (λ i. number (4 ^ k)) 1; classes = 1 }
 
--- How dense a k-mer with i letters C or G is, against a uniform background.
+-- How much more often than 1 in 4^k a k-mer with i letters C or G is expected.
 unfoldable pub ratioAt : ℕ → Float → ℕ → Float
 ratioAt k gc i = powi (gc ⊘ half) i ⊗ powi ((one64 ⊖ gc) ⊘ half) (k - i)
 
@@ -33,7 +33,7 @@ binomial k (suc i) = binomial k i * (k - i) / (i + 1)
 unfoldable pub countAt : ℕ → ℕ → Float
 countAt k i = number (binomial k i * 2 ^ k)
 
--- One class for each number of letters C or G.
+-- `calculate_f_gc`: one class for each number of letters C or G.
 unfoldable pub byGc : ℕ → Float → Density
 byGc k gc = record { ratio = thirteen (ratioAt k gc) (k + 1); count = thirteen (countAt k) (k + 1); classes = k + 1 }
 

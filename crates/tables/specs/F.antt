@@ -58,7 +58,7 @@ fLarge lambda =
 unfoldable pub fClass : Float → Float
 fClass lambda = cond (lt lambda thirty) (terms lambda ⊗ expNeg lambda) (fLarge lambda)
 
--- n classes more, from class i on: share is how often a k-mer is expected in a uniform background, accum the sum so far.
+-- n classes more, from class i on: share is l / 4^k, accum the sum so far.
 unfoldable pub classesFrom : ℕ → ℕ → Density → Float → Float → Float
 classesFrom zero i d share accum = accum
 classesFrom (suc n) i d share accum =

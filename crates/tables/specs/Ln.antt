@@ -37,7 +37,7 @@ unfoldable pub lnScaled : Float → ℤ → Float
 lnScaled m e = cond (lt root2 m) (lnParts (m ⊘ two64) (e +ℤ pos 1)) (lnParts m e)
 
 -- x = m times 2^e, 1 <= m < 2: a significand k with s + 1 binary digits is (k / 2^s) times 2^s.
--- Where the paper is silent: plus infinity has itself, a negative number and not-a-number have not-a-number.
+-- Where the paper is silent, as the Rust's ln: of plus infinity it is plus infinity, of a negative number and of not-a-number it is not-a-number.
 unfoldable pub lnOf : Float → Float
 lnOf nan = nan
 lnOf (inf s) = cond s nan (inf false)

@@ -1,4 +1,4 @@
-// The classes of k-mers that a background's share of C and G makes.
+// The classes of k-mers over which f sums.
 
 ghost use mathlib.Core.Path.{_≡_};
 ghost use Prim.Native.Nat.{_+_, _≤_};
@@ -7,7 +7,7 @@ use crate::Density;
 use crate::GcOption;
 use crate::exponential::powi;
 
-// All k-mers in one class, of density ratio 1.
+// The class of `calculate_f`: all k-mers, each expected 1 in 4^k times.
 fn calculate_f(k: usize) -> Density
     requires { ⌜ k ≤ 12 ⌝ }
     ensures { λ r. ⌜ r ≡ uniform k ⌝ }
@@ -23,6 +23,7 @@ fn calculate_f(k: usize) -> Density
     }
 }
 
+// For i letters C or G, how much more often than 1 in 4^k such a k-mer is expected.
 fn ratios(k: usize, gc: f64) -> [f64; 13]
     requires { ⌜ k ≤ 12 ⌝ }
     ensures { λ r. ⌜ r ≡ thirteen (ratioAt k gc) (k + 1) ⌝ }
@@ -36,6 +37,7 @@ fn ratios(k: usize, gc: f64) -> [f64; 13]
     ratio
 }
 
+// For i letters C or G, how many such k-mers there are.
 fn counts(k: usize) -> [f64; 13]
     requires { ⌜ k ≤ 12 ⌝ }
     ensures { λ r. ⌜ r ≡ thirteen (countAt k) (k + 1) ⌝ }
@@ -51,7 +53,7 @@ fn counts(k: usize) -> [f64; 13]
     count
 }
 
-// One class for each number of letters C or G.
+// The classes of `calculate_f_gc`: one for each number of letters C or G.
 fn calculate_f_gc(k: usize, gc: f64) -> Density
     requires { ⌜ k ≤ 12 ⌝ }
     ensures { λ r. ⌜ r ≡ byGc k gc ⌝ }

@@ -15,15 +15,15 @@ mod logarithm;
 
 pub use background::classes;
 
-// How the background's share of C and G is given.
+// The share of C and G among the letters, from which each k-mer's expected number follows.
 pub enum GcOption {
     Uniform,
     Fixed(f64),
     Auto,
 }
 
-// Classes of k-mers: how dense a k-mer of the class is against a uniform background, and how many
-// k-mers the class has. The entries from `classes` on are 0.
+// Classes of k-mers: how much more often than 1 in 4^k a k-mer of the class is expected, and how
+// many k-mers the class has. Entries from `classes` on are 0.
 pub struct Density {
     pub ratio: [f64; 13],
     pub count: [f64; 13],
@@ -42,9 +42,10 @@ pub fn fill_ln(ln: &mut [f64], w: usize)
     }
 }
 
-// f at the lengths 0 .. w + 1, ln being filled up to w.
+// f l for l = 0 .. w + 1, ln being filled up to w.
 pub fn fill_f(f: &mut [f64], ln: &[f64], k: usize, w: usize, d: Density)
-    requires { ⌜ (k ≤ 12) × (w ≤ 65535) × (w + 2 ≤ length (now f)) × (d .classes ≤ 13) × (take (w + 1) (now ln) ≡ lnTable w) ⌝ }
+    requires { ⌜ (k ≤ 12) × (w ≤ 65535) × (d .classes ≤ 13) ⌝ }
+    requires { ⌜ (w + 2 ≤ length (now f)) × (take (w + 1) (now ln) ≡ lnTable w) ⌝ }
     ensures { λ _. ⌜ now (f .exit) ≡ put (fTable k w d) (now (f .entry)) ⌝ }
 {
     let mut l: usize = 0;
@@ -56,7 +57,8 @@ pub fn fill_f(f: &mut [f64], ln: &[f64], k: usize, w: usize, d: Density)
 
 // Both tables, with the classes of a GC choice.
 pub fn fill_tables(ln: &mut [f64], f: &mut [f64], k: usize, w: usize, gc: GcOption, codes: &[u8])
-    requires { ⌜ (k ≤ 12) × (w ≤ 65535) × (w + 1 ≤ length (now ln)) × (w + 2 ≤ length (now f)) ⌝ }
+    requires { ⌜ (k ≤ 12) × (w ≤ 65535) ⌝ }
+    requires { ⌜ (w + 1 ≤ length (now ln)) × (w + 2 ≤ length (now f)) ⌝ }
     ensures { λ _. ⌜ now (ln .exit) ≡ put (lnTable w) (now (ln .entry)) ⌝ }
     ensures { λ _. ⌜ now (f .exit) ≡ put (fTable k w (density k gc (now (codes .entry)))) (now (f .entry)) ⌝ }
 {

@@ -50,7 +50,7 @@ loop-again c =
     let a = s .args in (
       omega arith,
       simp length-set (l .inv .1),
-      tabulate-store (fOf (a .k) (a .d)) (a .w + 2) (a .f .now) zero64 (s .pre .2) (l .l) (l .f) (l .inv .2) _ (omega arith) (c .calculate-f-internal .ensures),
+      tabulate-store (fOf (a .k) (a .d)) (a .w + 2) (a .f .now) zero64 (s .pre .1 .0) (l .l) (l .f) (l .inv .2) _ (omega arith) (c .calculate-f-internal .ensures),
     )
 
 same-length : tie.Need-same-length Inv-loop μ-loop
@@ -62,7 +62,7 @@ returns c =
     let l = c .before .loop in
     let s = c .before .before .before .before in
     let a = s .args in
-    tabulate-full (fOf (a .k) (a .d)) (a .w + 2) (a .f .now) zero64 (s .pre .2) (l .l) (l .f) (l .inv .2) (omega arith)
+    tabulate-full (fOf (a .k) (a .d)) (a .w + 2) (a .f .now) zero64 (s .pre .1 .0) (l .l) (l .f) (l .inv .2) (omega arith)
 
 pub fill-f-spec : {M : Type 1} → statement M
 fill-f-spec =

@@ -8,7 +8,7 @@ use borrow.Author.Needs.{needs}
 use Rattle.tables.proofs.fill_tables.Statement.{statement}
 use Rattle.tables.proofs.fill_tables.Tie as tie
 
-start : tie.After-classes → tie.Start
+abbrev start : tie.After-classes → tie.Start
 start c = c .before .before .before .before .before .before .before .before .before .before
 
 fill-ln-requires : tie.Need-fill-ln-requires
@@ -18,15 +18,11 @@ classes-requires : tie.Need-classes-requires
 classes-requires c κs = search needs
 
 fill-f-requires : tie.Need-fill-f-requires
-unfolding start
 fill-f-requires c κs =
     let s = start c in
     let a = s .args in (
-      s .pre .0,
-      s .pre .1,
-      s .pre .3,
-      classes-fit (a .k) (a .gc) (a .codes .now) (c .classes .result) (s .pre .0) (c .classes .ensures),
-      ln-held (a .w) (a .ln .now) _ (c .before .before .before .before .before .fill-ln .ensures),
+      (s .pre .0 .0, s .pre .0 .1, classes-fit (a .k) (a .gc) (a .codes .now) (c .classes .result) (s .pre .0 .0) (c .classes .ensures)),
+      (s .pre .1 .1, ln-held (a .w) (a .ln .now) _ (c .before .before .before .before .before .fill-ln .ensures)),
     )
 
 same-length : tie.Need-same-length
@@ -36,7 +32,6 @@ same-length-2 : tie.Need-same-length-2
 same-length-2 c = search needs
 
 returns : tie.Need-returns
-unfolding start
 returns c =
     let p = c .before .before .before in
     let a = start p .args in

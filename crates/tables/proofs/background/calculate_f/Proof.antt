@@ -1,17 +1,10 @@
 -- `calculate_f`: one class is stored, the other entries stay 0. Assumes nothing.
 use mathlib.Core.Path.{ap, _∙_}
-use lib.Ieee.{Float}
-use Rattle.buffers.specs.Fill.{tabulate, tabulateFrom}
 use Rattle.floats.specs.Binary64.{number}
-use Rattle.tables.specs.declared.Density.{Density}
-use Rattle.tables.specs.Arithmetic.{one64}
-use Rattle.tables.specs.Density.{thirteen, uniform}
+use Rattle.tables.proofs.Densities.{uniform-made}
 use borrow.Author.Needs.{needs}
 use Rattle.tables.proofs.background.calculate_f.Statement.{statement}
 use Rattle.tables.proofs.background.calculate_f.Tie as tie
-
-made : Float → Density
-made x = record { ratio = thirteen (λ i. one64) 1; count = thirteen (λ i. x) 1; classes = 1 }
 
 array-write-ratio : tie.Need-array-write-ratio
 array-write-ratio c = search needs
@@ -26,8 +19,7 @@ array-write-count : tie.Need-array-write-count
 array-write-count c = search needs
 
 returns : tie.Need-returns
-unfolding uniform made thirteen tabulate tabulateFrom
-returns c = ap made (c .nearest-u64-to-f64 .ensures ∙ ap number (c .before .n-kmers .ensures))
+returns c = uniform-made (c .before .before .args .k) _ (c .nearest-u64-to-f64 .ensures ∙ ap number (c .before .n-kmers .ensures))
 
 pub calculate-f-spec : {M : Type 1} → statement M
 calculate-f-spec =

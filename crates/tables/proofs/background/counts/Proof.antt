@@ -9,7 +9,7 @@ use Rattle.buffers.proofs.Tabulate.{tabulate-store, tabulate-full}
 use Rattle.floats.specs.Binary64.{zero64}
 use Rattle.tables.specs.Density as Density
 use Rattle.tables.specs.Density.{thirteen, countAt}
-use Rattle.tables.proofs.Counts.{product-fits, binomial-next, counted}
+use Rattle.tables.proofs.Densities.{product-fits, binomial-next, counted}
 use borrow.Author.Needs.{needs}
 use Rattle.tables.proofs.background.counts.Statement.{statement}
 use Rattle.tables.proofs.background.counts.Tie as tie

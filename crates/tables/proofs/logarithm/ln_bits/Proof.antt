@@ -1,25 +1,18 @@
 -- `ln_bits`: the exponent field and the digits of the significand. Assumes nothing.
-use mathlib.Core.Path.{_≡_, sym, ap, ap₂, _∙_}
+use mathlib.Core.Path.{sym, ap, ap₂, _∙_}
 use mathlib.Core.Bool.{false}
 use Prim.Native.Nat.{ℕ, _+_, _-_, _/_, _%_, _≤_, _<_}
 use native.Mathlib.Omega.{arith}
 use native.Mathlib.Nat.{lt-of-not-le}
-use lib.Bits.{bitAnd, and-mask}
 use lib.Ieee.{binary64, odd, ofFields}
 use Rattle.tables.specs.Ln.{lnOf}
-use Rattle.tables.proofs.Fields.{Fields, fields, at-zero, at-suc}
+use Rattle.tables.proofs.Fields.{Fields, fields, field, digits, at-zero, at-suc}
 use borrow.Author.Needs.{needs}
 use Rattle.tables.proofs.logarithm.ln_bits.Statement.{statement}
 use Rattle.tables.proofs.logarithm.ln_bits.Tie as tie
 
 parts : (c : tie.Start) → Fields (c .args .b)
 parts c = fields (c .args .b) (c .pre .0) (c .pre .1)
-
-field : (b : ℕ) → bitAnd (b / 4503599627370496) 2047 ≡ b / 4503599627370496 % 2048
-field b = and-mask (b / 4503599627370496) 11
-
-digits : (b : ℕ) → bitAnd b 4503599627370495 ≡ b % 4503599627370496
-digits b = and-mask b 52
 
 cast-field : tie.Need-cast-field
 cast-field c = omega (arith, field (c .args .b))

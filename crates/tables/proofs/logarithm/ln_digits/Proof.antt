@@ -1,9 +1,8 @@
 -- `ln_digits`: q shifted to 53 digits is the significand of m, with 1 <= m < 2. Assumes nothing.
-use mathlib.Core.Path.{_≡_, sym, ap, _∙_, subst}
+use mathlib.Core.Path.{sym, ap, _∙_, subst}
 use mathlib.Core.Bool.{not}
-use Prim.Native.Nat.{ℕ, _+_, _-_, _*_, _%_, _^_}
+use Prim.Native.Nat.{ℕ, _+_, _-_, _*_, _^_}
 use native.Mathlib.Omega.{arith}
-use native.Mathlib.Nat.{mod-eq-of-lt}
 use lib.Count.{leadingZeros}
 use lib.Dec.{T}
 use lib.Ieee.{Float, binary64, minus, nanBits, ofBits}
@@ -17,9 +16,6 @@ use Rattle.tables.proofs.logarithm.ln_digits.Tie as tie
 shifted : (c : tie.Start) → Shift (c .args .q) (leadingZeros 64 (c .args .q))
 shifted c = shift (c .args .q) (c .pre .0) (c .pre .1)
 
-whole : (c : tie.Start) → (c .args .q * 2 ^ (leadingZeros 64 (c .args .q) - 11)) % 18446744073709551616 ≡ c .args .q * 2 ^ (leadingZeros 64 (c .args .q) - 11)
-whole c = mod-eq-of-lt (omega (arith, shifted c .hi))
-
 sub-z : tie.Need-sub-z
 sub-z c = shifted c .enough
 
@@ -30,11 +26,11 @@ shl-m : tie.Need-shl-m
 shl-m c = omega (arith, shifted c .few)
 
 add-m : tie.Need-add-m
-add-m c = omega (arith, whole c, shifted c .hi)
+add-m c = omega (arith, shifted c .whole, shifted c .hi)
 
 float-from-bits-m : tie.Need-float-from-bits-m
 float-from-bits-m c =
-    subst (λ (n : ℕ). T (not (nanBits binary64 (n + 4602678819172646912)))) (sym (whole c)) (pattern-number _ (shifted c .lo) (shifted c .hi))
+    subst (λ (n : ℕ). T (not (nanBits binary64 (n + 4602678819172646912)))) (sym (shifted c .whole)) (pattern-number _ (shifted c .lo) (shifted c .hi))
 
 add-ln-scaled : tie.Need-add-ln-scaled
 add-ln-scaled c = omega (arith, shifted c .few)
@@ -48,7 +44,7 @@ returns c =
     let q = s .args .q in
     let z = leadingZeros 64 q - 11 in
     c .ln-scaled .ensures
-    ∙ ap (λ (n : ℕ). lnScaled (ofBits binary64 (n + 4602678819172646912)) (minus (s .args .k) (1022 + z))) (whole s)
+    ∙ ap (λ (n : ℕ). lnScaled (ofBits binary64 (n + 4602678819172646912)) (minus (s .args .k) (1022 + z))) (shifted s .whole)
     ∙ ap (λ (m : Float). lnScaled m (minus (s .args .k) (1022 + z))) (pattern (q * 2 ^ z) (shifted s .lo) (shifted s .hi))
     ∙ sym (norm q (s .args .k) z (s .pre .0) (s .pre .1) (shifted s .lo) (shifted s .hi))
 
