@@ -1,4 +1,4 @@
--- Laws of `minus`, and of the float of a negative number. Assumes nothing.
+-- A difference of two exponents as a whole number, `minus`, and its float where it is below 0. Assumes nothing.
 use mathlib.Core.Path.{_≡_, refl, sym, ap, _∙_}
 use mathlib.Core.Bool.{Bool, true, false, cond}
 use Prim.Native.Nat.{ℕ, zero, suc, _+_, _-_, _*_, _^_, _≤_, _<_}
@@ -12,7 +12,7 @@ use borrow.Author.Tests.{le-leb, lt-leb, leb-true, leb-false}
 pub minus-le : (a b : ℕ) → b ≤ a → minus a b ≡ pos (a - b)
 minus-le a b h = rw (le-leb b a h)
 
-pub minus-lt : (a b : ℕ) → a < b → minus a b ≡ negsuc (b - suc a)
+minus-lt : (a b : ℕ) → a < b → minus a b ≡ negsuc (b - suc a)
 minus-lt a b h = rw (lt-leb b a h)
 
 -- by one
@@ -22,7 +22,7 @@ below-one n m e = rw e
 at-zero : (n : ℕ) → n ≡ 0 → pos 0 ≡ sucℤ (negsuc n)
 at-zero n e = rw e
 
-pub minus-suc : (a b : ℕ) → minus (suc a) b ≡ sucℤ (minus a b)
+minus-suc : (a b : ℕ) → minus (suc a) b ≡ sucℤ (minus a b)
 minus-suc a b = go (leb b a) refl (leb b (suc a)) refl
   where
     go : (t : Bool) → leb b a ≡ t → (u : Bool) → leb b (suc a) ≡ u → minus (suc a) b ≡ sucℤ (minus a b)
@@ -44,7 +44,7 @@ minus-add a b zero = +ℤ-idr (minus a b) ∙ ap (λ (n : ℕ). minus n b) (sym 
 minus-add a b (suc n) =
     +ℤ-sucℤ (minus a b) (pos n) ∙ ap sucℤ (minus-add a b n) ∙ sym (minus-suc (a + n) b) ∙ ap (λ (n : ℕ). minus n b) (sym (add-suc a n))
 
-pub minus-both : (a b c : ℕ) → minus (a + c) (b + c) ≡ minus a b
+minus-both : (a b c : ℕ) → minus (a + c) (b + c) ≡ minus a b
 minus-both a b c = go (leb b a) refl
   where
     go : (t : Bool) → leb b a ≡ t → minus (a + c) (b + c) ≡ minus a b
@@ -74,7 +74,7 @@ neg-units f q k = go (ltb (q * 2 ^ k) (2 ^ (low f + suc (emax f))))
     go true = neg-odd (suc (prec f)) q k (low f)
     go false = refl
 
-pub neg-round : (f : Format) (n d : ℕ) → neg (round f false n d) ≡ round f true n d
+neg-round : (f : Format) (n d : ℕ) → neg (round f false n d) ≡ round f true n d
 unfolding round
 neg-round f n d = neg-units f _ _
 

@@ -1,4 +1,4 @@
--- A positive value by its digits, scaled to 1 <= m < 2. Assumes nothing.
+-- ln of a positive float by its digits: shifting them up to 53 digits scales them to 1 <= m < 2. Assumes nothing.
 use mathlib.Core.Path.{_≡_, refl, sym, ap, ap₂, _∙_, subst}
 use mathlib.Core.Bool.{false}
 use Prim.Native.Nat.{ℕ, zero, suc, _+_, _-_, _*_, _/_, _%_, _^_, _≤_, _<_}
@@ -75,7 +75,7 @@ few m n o u = lt-of-not-le (λ (g : 53 ≤ n).
     let a : 2 ^ n ≤ m * 2 ^ n = subst (λ (x : ℕ). x ≤ m * 2 ^ n) (let e : 1 * 2 ^ n ≡ 2 ^ n = omega arith in e) (mul-le-mul-right (2 ^ n) one) in
     lt-irrefl (2 ^ 53) (lt-of-le-of-lt (pow-mono g) (lt-of-le-of-lt a u)))
 
--- ---- the main law
+-- ---- ln of the shifted digits
 scaled : (m i k z : ℕ) → m % 2 ≡ 1 → i + z < 53 → size m ≡ 53 - (i + z)
     → lnOf (fin false m (minus (k + i) 1074)) ≡ lnScaled (fin false m (minus (1022 + (i + z)) 1074)) (minus k (1022 + z))
 unfolding lnOf
@@ -86,9 +86,9 @@ scaled (suc m) i k z o h s =
     (minus-same 0 (53 - (i + z) - 1) (1022 + (i + z)) 1074 (omega arith))
     (minus-add (k + i) 1074 (53 - (i + z) - 1) ∙ minus-same (k + i + (53 - (i + z) - 1)) 1074 k (1022 + z) (omega arith))
 
-pub norm : (q k z : ℕ) → 0 < q → q < 2 ^ 53 → 2 ^ 52 ≤ q * 2 ^ z → q * 2 ^ z < 2 ^ 53
+pub normalized : (q k z : ℕ) → 0 < q → q < 2 ^ 53 → 2 ^ 52 ≤ q * 2 ^ z → q * 2 ^ z < 2 ^ 53
     → lnOf (odd 53 false q k 1074) ≡ lnScaled (odd 53 false (q * 2 ^ z) 1022 1074) (minus k (1022 + z))
-norm q k z h u lo hi =
+normalized q k z h u lo hi =
     let p = odd-part 53 q h u in
     let m = p .k in
     let i = p .i in

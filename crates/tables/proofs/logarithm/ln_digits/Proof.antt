@@ -8,7 +8,7 @@ use lib.Dec.{T}
 use lib.Ieee.{Float, binary64, minus, nanBits, ofBits}
 use Rattle.tables.specs.Ln.{lnScaled}
 use Rattle.tables.proofs.Fields.{Shift, shift, pattern, pattern-number}
-use Rattle.tables.proofs.Significand.{norm}
+use Rattle.tables.proofs.Significand.{normalized}
 use borrow.Author.Needs.{needs}
 use Rattle.tables.proofs.logarithm.ln_digits.Statement.{statement}
 use Rattle.tables.proofs.logarithm.ln_digits.Tie as tie
@@ -46,7 +46,7 @@ returns c =
     c .ln-scaled .ensures
     ∙ ap (λ (n : ℕ). lnScaled (ofBits binary64 (n + 4602678819172646912)) (minus (s .args .k) (1022 + z))) (shifted s .whole)
     ∙ ap (λ (m : Float). lnScaled m (minus (s .args .k) (1022 + z))) (pattern (q * 2 ^ z) (shifted s .lo) (shifted s .hi))
-    ∙ sym (norm q (s .args .k) z (s .pre .0) (s .pre .1) (shifted s .lo) (shifted s .hi))
+    ∙ sym (normalized q (s .args .k) z (s .pre .0) (s .pre .1) (shifted s .lo) (shifted s .hi))
 
 pub ln-digits-spec : {M : Type 1} → statement M
 ln-digits-spec =
