@@ -37,6 +37,10 @@ number n = ofInt binary64 (pos n)
 abbrev pub zero64 : Float
 zero64 = ofBits binary64 0
 
+-- 1.0
+abbrev pub one64 : Float
+one64 = ofBits binary64 0x3ff0_0000_0000_0000
+
 -- 1e-9
 abbrev pub tiny : Float
 tiny = ofBits binary64 0x3e11_2e0b_e826_d695

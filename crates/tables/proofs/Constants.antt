@@ -3,8 +3,8 @@ use mathlib.Core.Path.{_≡_, refl}
 use mathlib.Core.Bool.{false}
 use Prim.Native.Nat.{ℕ, _^_}
 use lib.Ieee.{Float, binary64, round, ofBits, ofInt}
-use Rattle.floats.specs.Binary64.{number}
-use Rattle.tables.specs.Arithmetic.{half, one64, two64}
+use Rattle.floats.specs.Binary64.{number, one64}
+use Rattle.tables.specs.Arithmetic.{half, two64}
 use Rattle.tables.specs.Ln.{n21, ln2, root2}
 use Rattle.tables.specs.Exp.{invE}
 use Rattle.tables.specs.F.{epsilon, twelve, nineteen, thirty, pi, euler}

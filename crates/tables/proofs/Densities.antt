@@ -10,8 +10,7 @@ use lib.Ieee.{Float}
 use lib.ListN.{replicate, set}
 use lib.Pow.{pow-mono}
 use Rattle.buffers.specs.Fill.{tabulate, tabulateFrom}
-use Rattle.floats.specs.Binary64.{number, zero64}
-use Rattle.tables.specs.Arithmetic.{one64}
+use Rattle.floats.specs.Binary64.{number, zero64, one64}
 use Rattle.tables.specs.Density.{thirteen, uniform, ratioAt, binomial, countAt, byGc}
 
 power-le : (k i : ℕ) → k ≤ 12 → binomial k i ≤ 12 ^ i

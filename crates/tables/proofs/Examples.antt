@@ -4,10 +4,10 @@ use mathlib.Core.Bool.{true}
 use mathlib.Core.List.{[], _∷_}
 use lib.Ieee.{Float, inf, binary64, add, sub, mul, div, lt, le, eq, ofBits, ofInt}
 use Rattle.buffers.specs.Fill.{tabulate, tabulateFrom}
-use Rattle.floats.specs.Binary64.{number, zero64}
+use Rattle.floats.specs.Binary64.{number, zero64, one64}
 use Rattle.letters.specs.Gc.{acgtCount, gcOf}
 use Rattle.tables.specs.declared.GcOption.the-variants.{Auto}
-use Rattle.tables.specs.Arithmetic.{one64, countdown}
+use Rattle.tables.specs.Arithmetic.{countdown}
 use Rattle.tables.specs.Ln.{lnStep, lnSeries, lnParts, lnScaled, lnOf}
 use Rattle.tables.specs.Exp.{times, powi, expStep, expSeries, expFrom, expNeg}
 use Rattle.tables.specs.Density.{thirteen, uniform, byGc, density}

@@ -7,7 +7,8 @@ use native.Mathlib.Omega.{arith}
 use lib.Dec.{ltb}
 use lib.Ieee.{Float, le}
 use borrow.Author.Tests.{ltb-true, ltb-false}
-use Rattle.tables.specs.Arithmetic.{_⊖_, one64}
+use Rattle.floats.specs.Arithmetic.{_⊖_}
+use Rattle.floats.specs.Binary64.{one64}
 use Rattle.tables.specs.Exp.{invE, times, expSeries, expFrom}
 
 taken-off : (p m a : ℕ) (v : Float) → p ≡ suc m → le one64 v ≡ true → expFrom m (a + 1) (v ⊖ one64) ≡ expFrom p a v

@@ -9,8 +9,7 @@ use lib.IntN.{ℤ}
 use lib.Ieee.{Float, nan, inf, fin, binary64, lt, eq, div, neg, isNan, ofBits, up, down, level}
 use lib.Ieee.Fits.{up-pos}
 use borrow.Author.Tests.{eqb-true, lt-ltb}
-use Rattle.floats.specs.Binary64.{zero64}
-use Rattle.tables.specs.Arithmetic.{one64}
+use Rattle.floats.specs.Binary64.{zero64, one64}
 use Rattle.tables.specs.Ln.{lnOf}
 
 clash : {X : Type 0} (b : Bool) → b ≡ true → b ≡ false → X

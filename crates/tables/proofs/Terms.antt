@@ -7,7 +7,7 @@ use lib.ListN.{getD}
 use lib.Ieee.{Float, nan, le}
 use Rattle.floats.specs.Binary64.{number, zero64}
 use Rattle.tables.specs.declared.Density.{Density}
-use Rattle.tables.specs.Arithmetic.{_⊕_, _⊗_, _⊘_}
+use Rattle.floats.specs.Arithmetic.{_⊕_, _⊗_, _⊘_}
 use Rattle.tables.specs.Ln.{lnOf}
 use Rattle.tables.specs.F.{epsilon, termsFrom, fClass, classesFrom, fOf}
 

@@ -1,28 +1,10 @@
--- The operations of the paper's formulas on 64-bit floats, 'every operation rounded once', the small numbers in them, and their repetitions.
+-- The small numbers in the paper's formulas, and their repetitions.
 use Prim.Native.Nat.{ℕ, zero, suc}
-use lib.Ieee.{Float, binary64, add, sub, mul, div, ofBits}
-
-infixl 65 _⊕_ _⊖_
-infixl 70 _⊗_ _⊘_
-abbrev pub _⊕_ : Float → Float → Float
-x ⊕ y = add binary64 x y
-
-abbrev pub _⊖_ : Float → Float → Float
-x ⊖ y = sub binary64 x y
-
-abbrev pub _⊗_ : Float → Float → Float
-x ⊗ y = mul binary64 x y
-
-abbrev pub _⊘_ : Float → Float → Float
-x ⊘ y = div binary64 x y
+use lib.Ieee.{Float, binary64, ofBits}
 
 -- 0.5
 abbrev pub half : Float
 half = ofBits binary64 0x3fe0_0000_0000_0000
-
--- 1.0
-abbrev pub one64 : Float
-one64 = ofBits binary64 0x3ff0_0000_0000_0000
 
 -- 2.0
 abbrev pub two64 : Float

@@ -4,12 +4,13 @@ use mathlib.Core.List.{List}
 use lib.ListN.{replicate}
 use lib.Ieee.{Float}
 use Rattle.buffers.specs.Fill.{put, tabulate}
-use Rattle.floats.specs.Binary64.{number, zero64}
+use Rattle.floats.specs.Binary64.{number, zero64, one64}
 use Rattle.letters.specs.Gc.{gcOf}
 use Rattle.tables.specs.declared.Density.{Density}
 use Rattle.tables.specs.declared.GcOption.{GcOption}
 use Rattle.tables.specs.declared.GcOption.the-variants.{Uniform, Fixed, Auto}
-use Rattle.tables.specs.Arithmetic.{_⊖_, _⊗_, _⊘_, half, one64}
+use Rattle.floats.specs.Arithmetic.{_⊖_, _⊗_, _⊘_}
+use Rattle.tables.specs.Arithmetic.{half}
 use Rattle.tables.specs.Exp.{powi}
 
 -- Thirteen numbers: f 0 .. f (n - 1), the others 0.

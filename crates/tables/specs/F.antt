@@ -3,9 +3,10 @@ use Prim.Native.Nat.{ℕ, zero, suc, _^_}
 use mathlib.Core.Bool.{cond}
 use lib.ListN.{getD}
 use lib.Ieee.{Float, nan, binary64, le, lt, ofBits}
-use Rattle.floats.specs.Binary64.{number, zero64}
+use Rattle.floats.specs.Binary64.{number, zero64, one64}
 use Rattle.tables.specs.declared.Density.{Density}
-use Rattle.tables.specs.Arithmetic.{_⊕_, _⊖_, _⊗_, _⊘_, half, one64, two64}
+use Rattle.floats.specs.Arithmetic.{_⊕_, _⊖_, _⊗_, _⊘_}
+use Rattle.tables.specs.Arithmetic.{half, two64}
 use Rattle.tables.specs.Ln.{lnOf}
 use Rattle.tables.specs.Exp.{expNeg}
 

@@ -3,8 +3,9 @@ use Prim.Native.Nat.{ℕ, zero, suc, _+_, _-_, _*_}
 use mathlib.Core.Bool.{true, false, cond}
 use lib.IntN.{ℤ, pos, _+ℤ_}
 use lib.Ieee.{Float, nan, inf, fin, binary64, lt, ofBits, ofInt, minus, size}
-use Rattle.floats.specs.Binary64.{number}
-use Rattle.tables.specs.Arithmetic.{_⊕_, _⊖_, _⊗_, _⊘_, one64, two64, countdown}
+use Rattle.floats.specs.Binary64.{number, one64}
+use Rattle.floats.specs.Arithmetic.{_⊕_, _⊖_, _⊗_, _⊘_}
+use Rattle.tables.specs.Arithmetic.{two64, countdown}
 
 -- 21.0
 abbrev pub n21 : Float

@@ -7,7 +7,7 @@ use Rattle.buffers.specs.Fill.{tabulate}
 use Rattle.buffers.proofs.Filling.{part}
 use Rattle.buffers.proofs.Tabulate.{tabulate-store, tabulate-full}
 use Rattle.floats.specs.Binary64.{zero64}
-use Rattle.tables.specs.Arithmetic.{_⊗_}
+use Rattle.floats.specs.Arithmetic.{_⊗_}
 use Rattle.tables.specs.Density.{thirteen, ratioAt}
 use borrow.Author.Needs.{needs}
 use Rattle.tables.proofs.background.ratios.Statement.{statement}

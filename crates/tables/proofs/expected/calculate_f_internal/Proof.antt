@@ -3,7 +3,7 @@ use mathlib.Core.Path.{_≡_, ap, _∙_}
 use Prim.Native.Nat.{ℕ, suc, _+_, _-_, _≤_}
 use native.Mathlib.Omega.{arith}
 use Rattle.floats.specs.Binary64.{number, zero64}
-use Rattle.tables.specs.Arithmetic.{_⊘_}
+use Rattle.floats.specs.Arithmetic.{_⊘_}
 use Rattle.tables.specs.F.{classesFrom, fOf}
 use Rattle.tables.proofs.Terms.{class-added, classes-over, f-none, f-some}
 use borrow.Author.Needs.{needs}

@@ -1,6 +1,6 @@
 -- `f_class`: the sum below 30, `f_large` from there on. Assumes nothing.
 use mathlib.Core.Path.{ap₂}
-use Rattle.tables.specs.Arithmetic.{_⊗_}
+use Rattle.floats.specs.Arithmetic.{_⊗_}
 use Rattle.tables.specs.F.{fClass}
 use borrow.Author.Needs.{needs}
 use Rattle.tables.proofs.expected.f_class.Statement.{statement}

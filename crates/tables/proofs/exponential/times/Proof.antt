@@ -3,7 +3,8 @@ use mathlib.Core.Path.{_≡_, _∙_}
 use Prim.Native.Nat.{ℕ}
 use native.Mathlib.Omega.{arith}
 use lib.Ieee.{Float}
-use Rattle.tables.specs.Arithmetic.{_⊗_, countdown}
+use Rattle.floats.specs.Arithmetic.{_⊗_}
+use Rattle.tables.specs.Arithmetic.{countdown}
 use Rattle.tables.specs.Exp.{times}
 use Rattle.tables.proofs.Countdown.{turn, ended}
 use borrow.Author.Needs.{needs}
