@@ -1,5 +1,19 @@
 // The back check, the extension and the two scans over a window of places.
 
+ghost use mathlib.Core.Path.{_≡_};
+ghost use mathlib.Core.Bool.{true, false, not, _&&_};
+ghost use mathlib.Core.List.{List, [], _∷_, _++_};
+ghost use Prim.Native.Nat.{_+_, _/_, _%_, _^_, _<_, _≤_};
+ghost use lib.ListN.{length, getD};
+ghost use lib.Dec.{eqb};
+ghost use lib.Ieee.{Float, lt};
+ghost use Rattle.floats.specs.Arithmetic.{_⊖_};
+ghost use Rattle.letters.specs.Entry.{decode};
+ghost use Rattle.scans.specs.Setup.{dropLimit, maxTest, setupOf};
+ghost use Rattle.scans.specs.Scans.{maxSteps, ifBackward, forwardStart, forwardJudged, dustForward, candidate, backwardStart, isNoted, withBest, larger, tryFrom, dustBackward};
+ghost use Rattle.scans.specs.Window.{ringIndex, window, countedValue, Windowed, Roomy, CountsEntry, Extends, Tells};
+ghost use Rattle.scans.specs.Parts.{Seam, Straight, Ringed, Within, forwardOf, ForwardPart, Finds, backwardOf, candidates, AddsEntry, withBestAt, withLast, Notes, Backs, BackwardPart, ScansBackward, Holds};
+
 // How many places long a fall below the best may last before the backward scan stops; `Off` is the whole window.
 pub enum Xdrop {
     Off,
@@ -15,4 +29,626 @@ pub struct Params {
     pub limit: f64,
     pub approx: bool,
     pub test: i32,
+}
+
+pub fn drop_limit(xdrop: Xdrop, window: u32, threshold: f64) -> f64
+    ensures { λ r. ⌜ r ≡ dropLimit xdrop window threshold ⌝ }
+{
+    match xdrop {
+        Xdrop::Off => threshold * (window as f64),
+        Xdrop::Length(l) => threshold * (l as f64),
+    }
+}
+
+pub fn max_test(ln: &[f64], f: &[f64], window: u32, threshold: f64) -> i32
+    requires { ⌜ (window ≤ 65535) × (window < length (now ln)) × (window < length (now f)) ⌝ }
+    ensures { λ r. ⌜ r ≡ maxTest window threshold (now (ln .entry)) (now (f .entry)) ⌝ }
+{
+    let mut s = 0.0f64;
+    let mut i: u32 = 1;
+    while i <= window {
+        let at = i as usize;
+        s = s + (ln[at] - threshold);
+        if s - f[at] > 0.0 {
+            return floats::to_i32((i as f64) * ln[at] / threshold);
+        }
+        i += 1;
+    }
+    0
+}
+
+// Where the j-th entry of the queue from `head` on stands in a ring of `window` numbers.
+pub fn ring_index(window: usize, head: usize, j: usize) -> usize
+    requires { ⌜ (head < window) × (j ≤ window) × (window ≤ 65535) ⌝ }
+    ensures { λ r. ⌜ r ≡ ringIndex window head j ⌝ }
+{
+    let i = head + j;
+    if i < window {
+        return i;
+    }
+    i - window
+}
+
+// Counts an entry, and answers the ln entry of its raised count, 0 if ambiguous.
+pub fn count_entry(counts: &mut [u16], ln: &[f64], entry: u32) -> f64
+    requires { ⌜ (entry / 2 < length (now counts)) × (getD (now counts) (entry / 2) 0 < 65535) × (getD (now counts) (entry / 2) 0 + 1 < length (now ln)) ⌝ }
+    ensures { λ r. ⌜ CountsEntry (now (ln .entry)) (now (counts .entry)) (decode entry) r (now (counts .exit)) ⌝ }
+{
+    if entry & 1 != 0 {
+        return 0.0;
+    }
+    let kmer = (entry >> 1) as usize;
+    let c = counts[kmer] + 1;
+    counts[kmer] = c;
+    ln[c as usize]
+}
+
+pub fn extend(
+    p: Params,
+    len: usize,
+    kmer: u32,
+    ln: &[f64],
+    f: &[f64],
+    scan_counts: &mut [u16],
+) -> bool
+    requires { ⌜ (0 < len) × (len ≤ p .window) × (p .window ≤ 65535) × (p .window < length (now ln)) × (p .window < length (now f)) × (kmer < length (now «scan_counts»)) ⌝ }
+    ensures { λ r. ⌜ Extends (setupOf p (now (ln .entry)) (now (f .entry))) (now («scan_counts» .entry)) len kmer r (now («scan_counts» .exit)) ⌝ }
+{
+    let x = kmer as usize;
+    let c = scan_counts[x];
+    let n = (c as usize) + 1;
+    if n > p.window {
+        return false;
+    }
+    if ln[n] - (f[len] - f[len - 1]) < p.threshold {
+        return false;
+    }
+    scan_counts[x] = c + 1;
+    true
+}
+
+// The ln entry of an entry's window count, 0 if ambiguous.
+fn window_value(window_counts: &[u16], ln: &[f64], entry: u32) -> f64
+    requires { ⌜ (entry / 2 < length (now «window_counts»)) × (getD (now «window_counts») (entry / 2) 0 < length (now ln)) ⌝ }
+    ensures { λ r. ⌜ r ≡ countedValue (now (ln .entry)) (now («window_counts» .entry)) (decode entry) ⌝ }
+{
+    if entry & 1 != 0 {
+        return 0.0;
+    }
+    let kmer = (entry >> 1) as usize;
+    ln[window_counts[kmer] as usize]
+}
+
+impl Params {
+    // How many entries the back check reads at most.
+    fn max_steps(self, len: usize) -> usize
+        ensures { λ r. ⌜ r ≡ maxSteps (self .test) len ⌝ }
+    {
+        if self.test < 0 {
+            return len;
+        }
+        let steps = self.test as usize;
+        if steps < len {
+            return steps;
+        }
+        len
+    }
+}
+
+pub fn if_backward(
+    p: Params,
+    ring: &[u32],
+    head: usize,
+    len: usize,
+    window_counts: &[u16],
+    ln: &[f64],
+) -> bool
+    requires { ⌜ Windowed p (now ring) head len (now «window_counts») (length (now ln)) ⌝ }
+    ensures { λ r. ⌜ ((f : List Float) → r ≡ ifBackward (setupOf p (now (ln .entry)) f) (window (now (ring .entry)) head len)) ⌝ }
+{
+    let mut s = 0.0;
+    let mut left = p.max_steps(len);
+    let mut i = len;
+    while 0 < left {
+        left -= 1;
+        i -= 1;
+        let at = ring_index(ring.len(), head, i);
+        let v = window_value(window_counts, ln, ring[at]);
+        s = s + (v - p.threshold);
+        if s < 0.0 {
+            return false;
+        }
+    }
+    true
+}
+
+// Where the entries from `start` on pass the ring's end: those before the answer stand before it.
+fn seam(window: usize, head: usize, len: usize, start: usize) -> usize
+    requires { ⌜ (head < window) × (start ≤ len) ⌝ }
+    ensures { λ r. ⌜ Seam window head len start r ⌝ }
+{
+    let before = window - head;
+    if before <= start {
+        return start;
+    }
+    if before < len {
+        return before;
+    }
+    len
+}
+
+// The sum of a forward scan, its best score, one past the index that had it (0: none), and whether the scan has stopped.
+struct ForwardState {
+    s: f64,
+    best: f64,
+    found: usize,
+    done: bool,
+}
+
+impl ForwardState {
+    fn new() -> Self
+        ensures { λ r. ⌜ (forwardOf r ≡ forwardStart) × (r .done ≡ false) ⌝ }
+    {
+        Self {
+            s: 0.0,
+            best: 0.0,
+            found: 0,
+            done: false,
+        }
+    }
+
+    fn judged(mut self, s: f64, sl: f64, i: usize) -> Self
+        requires { ⌜ i < 65535 ⌝ }
+        ensures { λ r. ⌜ (forwardOf r ≡ forwardJudged (forwardOf self) s sl i) × (r .done ≡ self .done) ⌝ }
+    {
+        self.s = s;
+        if sl >= self.best {
+            self.best = sl;
+            self.found = i + 1;
+        }
+        self
+    }
+
+    fn stopped(mut self) -> Self
+        ensures { λ r. ⌜ (forwardOf r ≡ forwardOf self) × (r .done ≡ true) ⌝ }
+    {
+        self.done = true;
+        self
+    }
+}
+
+// A forward scan that began at entry `start` goes on over entries `from` to `to - 1`, entry i standing at index head + i - turn.
+fn forward_part(
+    p: Params,
+    ring: &[u32],
+    head: usize,
+    turn: usize,
+    start: usize,
+    from: usize,
+    to: usize,
+    limit: f64,
+    state: ForwardState,
+    ln: &[f64],
+    f: &[f64],
+    scan_counts: &mut [u16],
+) -> ForwardState
+    requires { ⌜ Ringed (now ring) head to (length (now ln)) (length (now f)) (length (now «scan_counts»)) ⌝ }
+    requires { ⌜ Straight (length (now ring)) head from to turn ⌝ }
+    requires { ⌜ (start ≤ from) × (from ≤ to) × (state .done ≡ false) ⌝ }
+    requires { ⌜ Within (now «scan_counts») from ⌝ }
+    ensures { λ r. ⌜ ForwardPart (setupOf p (now (ln .entry)) (now (f .entry))) limit (now (ring .entry)) head start from to state r (now («scan_counts» .entry)) (now («scan_counts» .exit)) ⌝ }
+{
+    let mut st = state;
+    let mut i = from;
+    while i < to {
+        let v = count_entry(scan_counts, ln, ring[head + i - turn]);
+        let s = st.s + (v - p.threshold);
+        let sl = s - f[i + 1 - start];
+        st = st.judged(s, sl, i);
+        if sl > limit {
+            return st.stopped();
+        }
+        i += 1;
+    }
+    st
+}
+
+// The forward scan from entry `start` on: one past the index of its best score, 0 for none.
+fn dust_forward(
+    p: Params,
+    ring: &[u32],
+    head: usize,
+    len: usize,
+    start: usize,
+    max_back: f64,
+    ln: &[f64],
+    f: &[f64],
+    scan_counts: &mut [u16],
+) -> usize
+    requires { ⌜ Ringed (now ring) head len (length (now ln)) (length (now f)) (length (now «scan_counts»)) ⌝ }
+    requires { ⌜ (length (now «scan_counts») ≡ 4 ^ p .kmer) × (start ≤ len) ⌝ }
+    ensures { λ r. ⌜ Finds (dustForward (setupOf p (now (ln .entry)) (now (f .entry))) (window (now (ring .entry)) head len) start «max_back») r (now («scan_counts» .exit)) ⌝ }
+{
+    buffers::clear(scan_counts);
+    let limit = max_back + 1e-6;
+    let mid = seam(ring.len(), head, len, start);
+    let older = forward_part(
+        p,
+        ring,
+        head,
+        0,
+        start,
+        start,
+        mid,
+        limit,
+        ForwardState::new(),
+        ln,
+        f,
+        scan_counts,
+    );
+    if older.done {
+        return older.found;
+    }
+    let newer = forward_part(
+        p,
+        ring,
+        head,
+        ring.len(),
+        start,
+        mid,
+        len,
+        limit,
+        older,
+        ln,
+        f,
+        scan_counts,
+    );
+    newer.found
+}
+
+// The two sums of a backward scan, its last and its best score, one past the index that had the best (0: none),
+// how many candidates are noted, and whether the scan has stopped.
+struct BackwardState {
+    s: f64,
+    sw: f64,
+    last: f64,
+    best: f64,
+    found: usize,
+    noted: usize,
+    done: bool,
+}
+
+// A candidate after the first `noted`; answers how many there are then.
+fn push_candidate(
+    places: &mut [u32],
+    scores: &mut [f64],
+    noted: usize,
+    place: usize,
+    score: f64,
+) -> usize
+    requires { ⌜ (noted < length (now places)) × (noted < length (now scores)) × (place ≤ 65535) ⌝ }
+    ensures { λ r. ⌜ (r ≡ noted + 1) × (candidates r (now (places .exit)) (now (scores .exit)) ≡ candidates noted (now (places .entry)) (now (scores .entry)) ++ candidate place score ∷ []) ⌝ }
+{
+    places[noted] = place as u32;
+    scores[noted] = score;
+    noted + 1
+}
+
+impl BackwardState {
+    fn new() -> Self
+        ensures { λ r. ⌜ (backwardOf r ≡ backwardStart) × (r .noted ≡ 0) × (r .done ≡ false) ⌝ }
+    {
+        Self {
+            s: 0.0,
+            sw: 0.0,
+            last: -1.0,
+            best: 0.0,
+            found: 0,
+            noted: 0,
+            done: false,
+        }
+    }
+
+    // Counts an entry, and adds to both sums.
+    fn add_entry(
+        mut self,
+        threshold: f64,
+        window_counts: &[u16],
+        ln: &[f64],
+        entry: u32,
+        scan_counts: &mut [u16],
+    ) -> Self
+        requires { ⌜ (entry / 2 < length (now «window_counts»)) × (entry / 2 < length (now «scan_counts»)) × (getD (now «window_counts») (entry / 2) 0 ≤ 65535) × (getD (now «window_counts») (entry / 2) 0 < length (now ln)) ⌝ }
+        requires { ⌜ (entry % 2 ≡ 0 → getD (now «scan_counts») (entry / 2) 0 < getD (now «window_counts») (entry / 2) 0) ⌝ }
+        ensures { λ r. ⌜ AddsEntry threshold (now («window_counts» .entry)) (now (ln .entry)) (decode entry) self r (now («scan_counts» .entry)) (now («scan_counts» .exit)) ⌝ }
+    {
+        if entry & 1 != 0 {
+            self.s = self.s + (0.0 - threshold);
+            self.sw = self.sw + (0.0 - threshold);
+            return self;
+        }
+        let kmer = (entry >> 1) as usize;
+        let c = scan_counts[kmer] + 1;
+        scan_counts[kmer] = c;
+        let left = window_counts[kmer] - c + 1;
+        self.s = self.s + (ln[c as usize] - threshold);
+        self.sw = self.sw + (ln[left as usize] - threshold);
+        self
+    }
+
+    fn raised(mut self, sl: f64, i: usize) -> Self
+        requires { ⌜ i < 65535 ⌝ }
+        ensures { λ r. ⌜ r ≡ withBestAt self sl i ⌝ }
+    {
+        self.last = sl;
+        self.best = sl;
+        self.found = i + 1;
+        self
+    }
+
+    fn fallen(mut self, sl: f64) -> Self
+        ensures { λ r. ⌜ r ≡ withLast self sl ⌝ }
+    {
+        self.last = sl;
+        self
+    }
+
+    // Whether the score falls from a peak above 0 that is as high as the best.
+    fn leaves_peak(self, sl: f64) -> bool
+        ensures { λ r. ⌜ r ≡ isNoted (backwardOf self) sl ⌝ }
+    {
+        if floats::near_zero(self.last - self.best) {
+            if sl < self.last {
+                return self.last > 0.0;
+            }
+        }
+        false
+    }
+
+    // The place of such a peak, which is one newer than entry i, is noted with the best score so far.
+    fn note(mut self, sl: f64, i: usize, places: &mut [u32], scores: &mut [f64]) -> Self
+        requires { ⌜ (self .noted < length (now places)) × (self .noted < length (now scores)) × (i < 65535) ⌝ }
+        ensures { λ r. ⌜ Notes sl i self r (candidates (self .noted) (now (places .entry)) (now (scores .entry))) (candidates (r .noted) (now (places .exit)) (now (scores .exit))) ⌝ }
+    {
+        if self.leaves_peak(sl) {
+            self.noted = push_candidate(places, scores, self.noted, i + 1, self.best);
+        }
+        self
+    }
+
+    // Whether the score is too far below the best.
+    fn too_low(self, sl: f64, limit: f64) -> bool
+        ensures { λ r. ⌜ r ≡ (not (eqb (self .found) 0) && lt limit (self .best ⊖ sl)) ⌝ }
+    {
+        if self.best - sl > limit {
+            return self.found != 0;
+        }
+        false
+    }
+
+    fn stopped(mut self) -> Self
+        ensures { λ r. ⌜ (backwardOf r ≡ backwardOf self) × (r .noted ≡ self .noted) × (r .done ≡ true) ⌝ }
+    {
+        self.done = true;
+        self
+    }
+}
+
+// A backward scan goes on over entries `to - 1` down to `from`, entry i standing at index head + i - turn.
+fn backward_part(
+    p: Params,
+    ring: &[u32],
+    head: usize,
+    len: usize,
+    turn: usize,
+    from: usize,
+    to: usize,
+    state: BackwardState,
+    window_counts: &[u16],
+    ln: &[f64],
+    f: &[f64],
+    scan_counts: &mut [u16],
+    places: &mut [u32],
+    scores: &mut [f64],
+) -> BackwardState
+    requires { ⌜ Windowed p (now ring) head len (now «window_counts») (length (now ln)) ⌝ }
+    requires { ⌜ Roomy p (length (now f)) (length (now «scan_counts»)) (length (now places)) (length (now scores)) ⌝ }
+    requires { ⌜ Straight (length (now ring)) head from to turn ⌝ }
+    requires { ⌜ (from ≤ to) × (to ≤ len) ⌝ }
+    requires { ⌜ Backs (window (now ring) head len) to state (now «scan_counts») ⌝ }
+    ensures { λ r. ⌜ BackwardPart (setupOf p (now (ln .entry)) (now (f .entry))) (window (now (ring .entry)) head len) from to state r (now («scan_counts» .entry)) (now («scan_counts» .exit)) (candidates (state .noted) (now (places .entry)) (now (scores .entry))) (candidates (r .noted) (now (places .exit)) (now (scores .exit))) ⌝ }
+{
+    let mut st = state;
+    let mut i = to;
+    while from < i {
+        i -= 1;
+        let fl = f[len - i];
+        st = st.add_entry(
+            p.threshold,
+            window_counts,
+            ln,
+            ring[head + i - turn],
+            scan_counts,
+        );
+        if st.sw - fl < 0.0 {
+            return st.stopped();
+        }
+        let sl = st.s - fl;
+        if sl >= st.best {
+            st = st.raised(sl, i);
+            continue;
+        }
+        st = st.note(sl, i, places, scores);
+        if st.too_low(sl, p.limit) {
+            return st.stopped();
+        }
+        st = st.fallen(sl);
+    }
+    st
+}
+
+// The backward scan over the whole window, the ring's newer part first.
+fn scan_backward(
+    p: Params,
+    ring: &[u32],
+    head: usize,
+    len: usize,
+    window_counts: &[u16],
+    ln: &[f64],
+    f: &[f64],
+    scan_counts: &mut [u16],
+    places: &mut [u32],
+    scores: &mut [f64],
+) -> BackwardState
+    requires { ⌜ Windowed p (now ring) head len (now «window_counts») (length (now ln)) ⌝ }
+    requires { ⌜ Roomy p (length (now f)) (length (now «scan_counts»)) (length (now places)) (length (now scores)) ⌝ }
+    ensures { λ r. ⌜ ScansBackward (setupOf p (now (ln .entry)) (now (f .entry))) (window (now (ring .entry)) head len) r (now («scan_counts» .exit)) (candidates (r .noted) (now (places .exit)) (now (scores .exit))) ⌝ }
+{
+    buffers::clear(scan_counts);
+    let mid = seam(ring.len(), head, len, 0);
+    let newer = backward_part(
+        p,
+        ring,
+        head,
+        len,
+        ring.len(),
+        mid,
+        len,
+        BackwardState::new(),
+        window_counts,
+        ln,
+        f,
+        scan_counts,
+        places,
+        scores,
+    );
+    if newer.done {
+        return newer;
+    }
+    backward_part(
+        p,
+        ring,
+        head,
+        len,
+        0,
+        0,
+        mid,
+        newer,
+        window_counts,
+        ln,
+        f,
+        scan_counts,
+        places,
+        scores,
+    )
+}
+
+// The best place joins the candidates if it is older than all noted, that is, older than the last. `found` is one past it.
+fn push_best(places: &mut [u32], scores: &mut [f64], noted: usize, found: usize, best: f64) -> usize
+    requires { ⌜ (noted < length (now places)) × (noted < length (now scores)) × (0 < found) × (found ≤ 65535) ⌝ }
+    ensures { λ r. ⌜ candidates r (now (places .exit)) (now (scores .exit)) ≡ withBest best found (candidates noted (now (places .entry)) (now (scores .entry))) ⌝ }
+{
+    if noted == 0 {
+        return push_candidate(places, scores, noted, found - 1, best);
+    }
+    if (places[noted - 1] as usize) < found {
+        return noted;
+    }
+    push_candidate(places, scores, noted, found - 1, best)
+}
+
+fn larger(a: usize, b: usize) -> usize
+    ensures { λ r. ⌜ r ≡ larger a b ⌝ }
+{
+    if a < b {
+        return b;
+    }
+    a
+}
+
+// The candidates are tried, the last noted first; answers one past the place of the first whose forward scan is best at the newest entry, 0 for none.
+fn try_candidates(
+    p: Params,
+    ring: &[u32],
+    head: usize,
+    len: usize,
+    noted: usize,
+    ln: &[f64],
+    f: &[f64],
+    places: &[u32],
+    scores: &[f64],
+    scan_counts: &mut [u16],
+) -> usize
+    requires { ⌜ Ringed (now ring) head len (length (now ln)) (length (now f)) (length (now «scan_counts»)) ⌝ }
+    requires { ⌜ length (now «scan_counts») ≡ 4 ^ p .kmer ⌝ }
+    requires { ⌜ Holds len noted (now places) (length (now scores)) ⌝ }
+    ensures { λ r. ⌜ Tells (tryFrom (setupOf p (now (ln .entry)) (now (f .entry))) (window (now (ring .entry)) head len) (candidates noted (now (places .entry)) (now (scores .entry))) noted 0 (now («scan_counts» .entry))) r (now («scan_counts» .exit)) ⌝ }
+{
+    let mut furthest = 0;
+    let mut i = noted;
+    while 0 < i {
+        i -= 1;
+        let place = places[i] as usize;
+        if place + 1 < furthest {
+            continue;
+        }
+        let found = dust_forward(p, ring, head, len, place, scores[i], ln, f, scan_counts);
+        if found == len {
+            return place + 1;
+        }
+        if p.approx {
+            return 0;
+        }
+        furthest = larger(furthest, found);
+    }
+    0
+}
+
+// One past the index in the window from which a forward scan ends best at the newest entry, and 0 where there is none.
+pub fn dust_backward(
+    p: Params,
+    ring: &[u32],
+    head: usize,
+    len: usize,
+    window_counts: &[u16],
+    ln: &[f64],
+    f: &[f64],
+    scan_counts: &mut [u16],
+    places: &mut [u32],
+    scores: &mut [f64],
+) -> usize
+    requires { ⌜ Windowed p (now ring) head len (now «window_counts») (length (now ln)) ⌝ }
+    requires { ⌜ Roomy p (length (now f)) (length (now «scan_counts»)) (length (now places)) (length (now scores)) ⌝ }
+    requires { ⌜ 0 < len ⌝ }
+    ensures { λ r. ⌜ Tells (dustBackward (setupOf p (now (ln .entry)) (now (f .entry))) (window (now (ring .entry)) head len)) r (now («scan_counts» .exit)) ⌝ }
+{
+    let st = scan_backward(
+        p,
+        ring,
+        head,
+        len,
+        window_counts,
+        ln,
+        f,
+        scan_counts,
+        places,
+        scores,
+    );
+    let found = st.found;
+    if found == 0 {
+        return 0;
+    }
+    let noted = push_best(places, scores, st.noted, found, st.best);
+    try_candidates(
+        p,
+        ring,
+        head,
+        len,
+        noted,
+        ln,
+        f,
+        places,
+        scores,
+        scan_counts,
+    )
 }
