@@ -4,3 +4,9 @@ pub mod WindowSum
 pub mod Evidence
 pub mod Range
 pub mod Theorems
+pub mod Signed
+pub mod Moving
+pub mod Searching
+pub mod Hand
+pub mod Letter
+pub mod Running

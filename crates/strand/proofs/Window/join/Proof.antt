@@ -1,0 +1,56 @@
+use borrow.Author.Needs.{needs}
+use Prim.Native.Nat.{_/_, _<_}
+use lib.ListN.{length}
+use Rattle.strand.proofs.Moving.{next-in, count-room, joined}
+use Rattle.strand.proofs.Window.join.Statement.{statement}
+use Rattle.strand.proofs.Window.join.Tie as tie
+
+abbrev start : tie.After-ring-index → tie.Start
+start c = c .before .before .before .before
+
+inside : (c : tie.After-ring-index) → c .ring-index .result < length (start c .args .ring .now)
+inside c = next-in (start c .pre .1) (start c .pre .0 .0) (c .ring-index .ensures)
+
+ring-index-requires : tie.Need-ring-index-requires
+ring-index-requires c κs = search needs
+
+mul-ring : tie.Need-mul-ring
+mul-ring c = let h = inside c in search needs
+
+slice-write-ring : tie.Need-slice-write-ring
+slice-write-ring c = inside c
+
+sum-with-requires : tie.Need-sum-with-requires
+sum-with-requires c κs =
+    let b = start (c .before) in
+    let n = count-room (b .pre .1) (b .pre .0 .0) (b .args .entry / 2) in
+    (rw (b .pre .1 .counts-long) (b .pre .0 .1), n .0, n .1)
+
+add-self : tie.Need-add-self
+add-self c = search needs
+
+same-length : tie.Need-same-length
+same-length c = search needs
+
+same-length-2 : tie.Need-same-length-2
+same-length-2 c = search needs
+
+returns : tie.Need-returns
+returns c =
+    let s = c .before .before .before in
+    let i = s .before .before in
+    let b = start i in
+    joined (b .pre .1) (b .pre .0 .0) (b .pre .0 .1) (i .ring-index .ensures) (s .sum-with .ensures .0) (s .sum-with .ensures .1)
+
+pub join-spec : {M : Type 1} → statement M
+join-spec =
+    tie.close
+    (tie.spec
+    ring-index-requires
+    mul-ring
+    slice-write-ring
+    sum-with-requires
+    add-self
+    same-length
+    same-length-2
+    returns)

@@ -1,0 +1,31 @@
+use mathlib.Core.Path.{refl}
+use borrow.Author.Needs.{needs}
+use Rattle.scans.proofs.Values.{even-plain, odd-ambiguous}
+use Rattle.strand.proofs.Moving.{more-plain}
+use Rattle.strand.proofs.sum_with.Statement.{statement}
+use Rattle.strand.proofs.sum_with.Tie as tie
+
+count-entry-requires : tie.Need-count-entry-requires
+count-entry-requires c κs = search needs
+
+same-length : tie.Need-same-length
+same-length c = search needs
+
+returns : tie.Need-returns
+returns c =
+    let n = c .before .before .before .count-entry in
+    let b = c .before .before .before .before .before .before .before in
+    (rw (odd-ambiguous (b .args .entry) (c .if1 .taken)) refl, n .ensures .counts-are)
+
+same-length-2 : tie.Need-same-length-2
+same-length-2 c = search needs
+
+returns-2 : tie.Need-returns-2
+returns-2 c =
+    let n = c .before .before .before .count-entry in
+    let b = c .before .before .before .before .before .before .before in
+    (more-plain (b .args .ln .now) (n .last .0) (b .args .sum) (even-plain (b .args .entry) (c .if1 .left)) (n .ensures .value-is), n .ensures .counts-are)
+
+pub sum-with-spec : {M : Type 1} → statement M
+sum-with-spec =
+    tie.close (tie.spec count-entry-requires same-length returns same-length-2 returns-2)

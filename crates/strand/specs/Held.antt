@@ -1,0 +1,155 @@
+-- What the code of a run holds in its state and lent buffers, what its parts ask of it, and what they make of it: the terms of their contracts.
+use mathlib.Core.Path.{_≡_}
+use Prim.Native.Nat.{ℕ, _+_, _/_, _^_, _<_, _≤_}
+use mathlib.Core.Bool.{Bool, cond, _&&_, _||_}
+use mathlib.Core.List.{List}
+use lib.ListN.{length, getD}
+use lib.Dec.{leb}
+use lib.IntN.{ℤ, pos, negsuc, _-ℤ_}
+use lib.Signed.{leZ}
+use lib.Ieee.{Float, nan, lt}
+use Rattle.floats.specs.Arithmetic.{_⊕_, _⊖_, _⊗_}
+use Rattle.floats.specs.Binary64.{zero64, number}
+use Rattle.letters.specs.Place.{Place, ambiguous, plain, places}
+use Rattle.letters.specs.Entry.{decode}
+use Rattle.intervals.specs.Interval.{Interval}
+use Rattle.intervals.specs.Rows.{rows, Room}
+use Rattle.scans.specs.declared.Params.{Params}
+use Rattle.scans.specs.Setup.{Setup, setupOf}
+use Rattle.scans.specs.Counts.{count, raise}
+use Rattle.scans.specs.Scans.{Find, none, at, Outcome, extends}
+use Rattle.scans.specs.Window.{window, Windowed, Roomy}
+use Rattle.strand.specs.Step.{Run, leave, join, isAt, search, st2, startAfter, saveFrom, savedAfter, step, run}
+use Rattle.strand.specs.declared.Window.{Window}
+use Rattle.strand.specs.declared.Open.{Open}
+use Rattle.strand.specs.declared.State.{State}
+
+-- The run that a window, an interval in hand, the ring, the scan counts and the saved intervals hold.
+abbrev pub heldBy : Window → Open → (ring counts : List ℕ) → List Interval → Run
+heldBy w o ring counts saved =
+    record {
+      window = window ring (w .head) (w .len);
+      sum = w .sum;
+      counts = counts;
+      start = o .start;
+      end = o .end;
+      last-q = w .last;
+      saved = saved;
+    }
+
+abbrev pub held : State → (ring counts starts ends : List ℕ) → Run
+held a ring counts starts ends = heldBy (a .window) (a .hand) ring counts (rows (a .hand .count) starts ends)
+
+-- ---- The window.
+-- The sum without a place that leaves and with one that joins, `counts` being the window counts with the place.
+abbrev pub sumLess : List Float → List ℕ → Float → Place → Float
+sumLess ln counts sum ambiguous = sum
+sumLess ln counts sum (plain x) = sum ⊖ getD ln (getD counts x 0) nan
+
+abbrev pub sumMore : List Float → List ℕ → Float → Place → Float
+sumMore ln counts sum ambiguous = sum
+sumMore ln counts sum (plain x) = sum ⊕ getD ln (getD counts x 0) nan
+
+-- The oldest entry has left a full queue, whatever the f table, the interval in hand and the saved ones are.
+pub record Left (p : Params) (ln : List Float) (w w′ : Window) (ring counts window-counts′ counts′ : List ℕ) : Type 0 where
+  pub run-is : (f : List Float) (o : Open) (saved : List Interval)
+      → heldBy w′ o ring counts′ saved ≡ leave (setupOf p ln f) (heldBy w o ring counts saved)
+  pub windowed : Windowed p ring (w′ .head) (w′ .len) window-counts′ (length ln)
+  pub room : w′ .len < p .window
+
+-- The entry e has joined.
+pub record Joined (p : Params) (ln : List Float) (w w′ : Window) (e : ℕ) (ring ring′ window-counts′ : List ℕ) : Type 0 where
+  pub run-is : (f : List Float) (o : Open) (counts : List ℕ) (saved : List Interval)
+      → heldBy w′ o ring′ counts saved ≡ join (setupOf p ln f) (heldBy w o ring counts saved) (decode e)
+  pub windowed : Windowed p ring′ (w′ .head) (w′ .len) window-counts′ (length ln)
+  pub some : 0 < w′ .len
+
+-- ---- The search.
+abbrev pub triedBy : Params → List Float → ℕ → State → Bool
+triedBy p f i a =
+    let len : ℕ = a .window .len in
+    isAt (a .hand .end) i
+    && (lt zero64 (a .window .sum ⊖ getD f len nan ⊖ number len ⊗ p .threshold)
+    && (isAt (a .window .last) 0 || leZ (pos len) (pos i -ℤ a .hand .start)))
+
+-- An extension that is tried and succeeds raises the k-mer's scan count.
+pub record Extended (p : Params) (ln f : List Float) (i : ℕ) (a : State) (x : ℕ) (counts : List ℕ) (r : Bool) (counts′ : List ℕ) : Type 0 where
+  pub answer : r ≡ triedBy p f i a && extends (setupOf p ln f) counts (a .window .len) x
+  pub counts-are : counts′ ≡ cond r (raise counts (plain x)) counts
+
+-- What a new entry leads to.
+unfoldable pub lookBy : Setup → ℕ → Run → Place → Outcome
+lookBy S i a ambiguous = record { find = none; counts = a .counts }
+lookBy S i a (plain x) = cond (leb (S .min-start-cnt) (count x (a .window))) (search S i a x) (record { find = none; counts = a .counts })
+
+-- ---- A find.
+abbrev pub lastBy : Window → Find → Window
+lastBy w none = w
+lastBy w (at j) = record { sum = w .sum; last = pos j; head = w .head; len = w .len }
+
+abbrev pub startBy : (k i len : ℕ) → Open → Find → ℤ
+startBy k i len o none = o .start
+startBy k i len o (at j) = startAfter (o .start) (o .end) (st2 k i len j)
+
+abbrev pub endBy : ℕ → Open → Find → ℤ
+endBy i o none = o .end
+endBy i o (at j) = pos (i + 1)
+
+abbrev pub savedBy : (k i len : ℕ) → Open → List Interval → Find → List Interval
+savedBy k i len o saved none = saved
+savedBy k i len o saved (at j) = savedAfter saved (o .start) (o .end) (st2 k i len j)
+
+pub record Found (k i len : ℕ) (o o′ : Open) (find : Find) (saved saved′ : List Interval) : Type 0 where
+  pub start-is : o′ .start ≡ startBy k i len o find
+  pub end-is : o′ .end ≡ endBy i o find
+  pub saved-is : saved′ ≡ savedBy k i len o saved find
+
+-- An interval whose start is not below 0 has an end too, and both are numbers of 32 bits.
+abbrev pub Closing : ℤ → ℤ → Type 0
+Closing (pos s) (pos e) = (s < 4294967296) × (e < 4294967296)
+Closing (pos s) (negsuc e) = ⊥
+Closing (negsuc s) end = Unit {0}
+
+-- The interval in hand can be saved.
+pub record Saving (o : Open) (starts ends : List ℕ) : Type 0 where
+  pub closing : Closing (o .start) (o .end)
+  pub room : Room (o .count) starts ends
+  pub room-after : Room (length (saveFrom (rows (o .count) starts ends) (o .start) (o .end))) starts ends
+
+-- ---- A letter.
+pub record Stepping (p : Params) (i e : ℕ) (a : State) (ring window-counts starts ends : List ℕ)
+    (n-ln n-f n-counts n-places n-scores : ℕ) : Type 0 where
+  pub kmer-small : p .kmer ≤ 12
+  pub letter-in : i < 2147483648
+  pub below : e / 2 < 4 ^ p .kmer
+  pub windowed : Windowed p ring (a .window .head) (a .window .len) window-counts n-ln
+  pub roomy : Roomy p n-f n-counts n-places n-scores
+  pub saving : Saving (a .hand) starts ends
+
+pub record Stepped (p : Params) (ln f : List Float) (i e : ℕ) (a a′ : State) (ring counts starts ends : List ℕ)
+    (ring′ window-counts′ counts′ starts′ ends′ : List ℕ) : Type 0 where
+  pub run-is : held a′ ring′ counts′ starts′ ends′ ≡ step (setupOf p ln f) i (held a ring counts starts ends) (decode e)
+  pub windowed : Windowed p ring′ (a′ .window .head) (a′ .window .len) window-counts′ (length ln)
+
+-- ---- The run over a strand of n letters.
+-- start, end and last_q at -1, sum 0, no queue entry, nothing saved.
+abbrev pub begun : State
+begun = record { window = record { sum = zero64; last = negsuc 0; head = 0; len = 0 }; hand = record { start = negsuc 0; end = negsuc 0; count = 0 } }
+
+-- The numbers lie in their ranges, and the lent slices have the sizes that the paper lists.
+pub record Lent (p : Params) (n n-ln n-f n-ring n-window-counts n-counts n-places n-scores n-starts n-ends : ℕ) : Type 0 where
+  pub kmer-some : 0 < p .kmer
+  pub kmer-small : p .kmer ≤ 12
+  pub letters-in : n < 2147483648
+  pub wide : 1 < p .window
+  pub small : p .window ≤ 65535
+  pub ln-long : p .window < n-ln
+  pub ring-is : n-ring ≡ p .window
+  pub window-counts-are : n-window-counts ≡ 4 ^ p .kmer
+  pub roomy : Roomy p n-f n-counts n-places n-scores
+  pub starts-long : (n + 1) / (p .kmer + 1) ≤ n-starts
+  pub ends-long : (n + 1) / (p .kmer + 1) ≤ n-ends
+
+pub record Ran (p : Params) (codes : List ℕ) (ln f : List Float) (a : State) (ring counts starts ends : List ℕ) : Type 0 where
+  pub run-is : held a ring counts starts ends ≡ run (setupOf p ln f) (places (p .kmer) codes)
+  pub saving : Saving (a .hand) starts ends
