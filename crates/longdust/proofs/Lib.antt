@@ -1,0 +1,10 @@
+pub mod Bytes
+pub mod Accept
+pub mod Setups
+pub mod Masks
+pub mod Strands
+pub mod Parts
+pub mod Answers
+pub mod Calls
+pub mod Theorems
+pub mod Examples

@@ -1,0 +1,90 @@
+-- Demand 3, mirror: the mask of the reverse complement is the mask read backwards, over the definition and for two requests of each call.
+-- Shape and evidence are fields of `Accepted`, in the contract of both calls.
+use mathlib.Core.Path.{_≡_, sym, ap, ap₂, _∙_, subst}
+use Prim.Native.Nat.{ℕ, _+_, _<_}
+use mathlib.Core.Bool.{Bool, false}
+use mathlib.Core.List.{List}
+use lib.ListN.{length, take, drop}
+use lib.Seq.{take-at}
+use lib.Ieee.{Float}
+use Rattle.letters.specs.Code.{codes, reverseComplement}
+use Rattle.letters.proofs.Codes.{codes-length, reverseComplement-twice, reverseComplement-length}
+use Rattle.intervals.specs.Interval.{Interval}
+use Rattle.intervals.specs.Merge.{merge, backwards}
+use Rattle.intervals.specs.Rows.{rows}
+use Rattle.intervals.proofs.Theorems.{merge-mirror}
+use Rattle.scans.specs.Setup.{Setup}
+use Rattle.strand.specs.Step.{intervalsOf}
+use Rattle.strand.proofs.Theorems.{strand-shape}
+use Rattle.tables.specs.declared.Density.{Density}
+use Rattle.tables.specs.Density.{density}
+use Rattle.tables.specs.Tables.{lnTable, fTable}
+use Rattle.tables.proofs.Tables.{ln-held, fTable-length, density-reverseComplement}
+use Rattle.longdust.specs.declared.LongdustOptions.{LongdustOptions}
+use Rattle.longdust.specs.declared.Answer.{Answer}
+use Rattle.longdust.specs.Mask.{setup, maskOf, mask}
+use Rattle.longdust.specs.Call.{Buffers, lnRead, fRead, Answered, Kept, Filled}
+use Rattle.longdust.proofs.Accept.{admitted}
+use Rattle.longdust.proofs.Masks.{other-shape}
+
+-- For any tables, any float bits.
+pub mask-mirror : (S : Setup) (s : List ℕ) → 0 < S .kmer → maskOf S false (reverseComplement s) ≡ backwards (length s) (maskOf S false s)
+unfolding maskOf
+mask-mirror S s k =
+    let n = length s in
+    let F = intervalsOf S s in
+    let G = intervalsOf S (reverseComplement s) in
+    ap₂ (λ (m : ℕ) (u : List ℕ). merge G (backwards m (intervalsOf S u))) (reverseComplement-length s) (reverseComplement-twice s)
+    ∙ merge-mirror n (S .kmer) F G k (strand-shape S s) (other-shape S s)
+
+-- The tables that the filling call's run reads are the formulas', whatever the buffers held.
+filled-ln : {o : LongdustOptions} {s : List ℕ} {b b′ : Buffers} → Filled o s b b′ → lnRead o b′ ≡ lnTable (o .«window_size»)
+filled-ln {o} {s} {b} {b′} t = ln-held (o .«window_size») (b .ln) (b′ .ln) (t .ln)
+
+filled-f : {o : LongdustOptions} {s : List ℕ} {b b′ : Buffers} → Filled o s b b′
+    → fRead o b′ ≡ fTable (o .kmer) (o .«window_size») (density (o .kmer) (o .gc) (codes s))
+filled-f {o} {s} {b} {b′} t =
+    let w = o .«window_size» in
+    let table = fTable (o .kmer) w (density (o .kmer) (o .gc) (codes s)) in
+    ap (λ (z : List Float). take (w + 2) z) (t .f)
+    ∙ take-at table (drop (length table) (b .f)) (w + 2) (fTable-length (o .kmer) w (density (o .kmer) (o .gc) (codes s)))
+
+-- Two accepted two-strand requests with the same options, where the codes of one are the reverse complement of the other's.
+module _ (o : LongdustOptions) (s t : List ℕ) (both : o .«forward_only» ≡ false) (other : codes t ≡ reverseComplement (codes s)) where
+  mirror : {Tables : LongdustOptions → List ℕ → Buffers → Buffers → Type 0} {b b′ c c′ : Buffers} {r q : Answer}
+      → Answered Tables o s b b′ r → Answered Tables o t c c′ q → r .refusal ≡ 0 → q .refusal ≡ 0
+      → lnRead o c′ ≡ lnRead o b′ → fRead o c′ ≡ fRead o b′
+      → rows (q .count) (c′ .starts) (c′ .ends) ≡ backwards (length s) (rows (r .count) (b′ .starts) (b′ .ends))
+  unfolding mask setup
+  mirror {Tables} {b} {b′} {c} {c′} {r} {q} A B ra rb ln f =
+      let S = setup o (lnRead o b′) (fRead o b′) in
+      let some = admitted o s _ (sym (A .number) ∙ ra) .bounds .kmer-low in
+      let one = A .accepted ra .buffers .list .list-is ∙ ap (λ (k : Bool). maskOf S k (codes s)) both in
+      B .accepted rb .buffers .list .list-is
+      ∙ ap₂ (λ (x : List Float) (y : List Float). maskOf (setup o x y) (o .«forward_only») (codes t)) ln f
+      ∙ ap₂ (λ (k : Bool) (z : List ℕ). maskOf S k z) both other
+      ∙ mask-mirror S (codes s) some
+      ∙ ap₂ (λ (n : ℕ) (z : List Interval). backwards n z) (codes-length s) (sym one)
+
+  -- On the same tables.
+  pub process-tables-mirror : {b b′ c c′ : Buffers} {r q : Answer} → Answered Kept o s b b′ r → Answered Kept o t c c′ q
+      → r .refusal ≡ 0 → q .refusal ≡ 0 → lnRead o c ≡ lnRead o b → fRead o c ≡ fRead o b
+      → rows (q .count) (c′ .starts) (c′ .ends) ≡ backwards (length s) (rows (r .count) (b′ .starts) (b′ .ends))
+  process-tables-mirror A B ra rb ln f =
+      let w = o .«window_size» in
+      let a = A .tables ra in
+      let b = B .tables rb in
+      mirror A B ra rb
+      (ap (λ (z : List Float). take (w + 1) z) (b .ln) ∙ ln ∙ sym (ap (λ (z : List Float). take (w + 1) z) (a .ln)))
+      (ap (λ (z : List Float). take (w + 2) z) (b .f) ∙ f ∙ sym (ap (λ (z : List Float). take (w + 2) z) (a .f)))
+
+  -- On the tables that the call fills: the GC is the same, and so are the tables.
+  pub process-mirror : {b b′ c c′ : Buffers} {r q : Answer} → Answered Filled o s b b′ r → Answered Filled o t c c′ q
+      → r .refusal ≡ 0 → q .refusal ≡ 0
+      → rows (q .count) (c′ .starts) (c′ .ends) ≡ backwards (length s) (rows (r .count) (b′ .starts) (b′ .ends))
+  process-mirror A B ra rb =
+      let w = o .«window_size» in
+      let same : density (o .kmer) (o .gc) (codes t) ≡ density (o .kmer) (o .gc) (codes s) =
+          ap (λ (z : List ℕ). density (o .kmer) (o .gc) z) other ∙ density-reverseComplement (o .kmer) (o .gc) (codes s) in
+      mirror A B ra rb (filled-ln (B .tables rb) ∙ sym (filled-ln (A .tables ra)))
+      (filled-f (B .tables rb) ∙ ap (λ (d : Density). fTable (o .kmer) w d) same ∙ sym (filled-f (A .tables ra)))

@@ -1,0 +1,12 @@
+use mathlib.Core.Path.{refl}
+use lib.Ieee.{div, ofBits}
+use Rattle.longdust.specs.Checks.{thresholdBad}
+use Rattle.longdust.proofs.checks.threshold_bad.Statement.{statement}
+use Rattle.longdust.proofs.checks.threshold_bad.Tie as tie
+
+returns : tie.Need-returns
+unfolding thresholdBad div ofBits
+returns c = refl
+
+pub threshold-bad-spec : {M : Type 1} → statement M
+threshold-bad-spec = tie.close (tie.spec returns)

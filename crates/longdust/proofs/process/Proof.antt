@@ -1,0 +1,193 @@
+-- `process`: a refusal touches nothing; an accepted request is encoded, its tables are filled, and run. Assumes nothing.
+use mathlib.Core.Path.{_≡_, refl, sym, ap, _∙_}
+use Prim.Native.Nat.{ℕ, _≤_}
+use native.Mathlib.Omega.{arith}
+use borrow.Author.Needs.{needs}
+use mathlib.Core.List.{List}
+use lib.ListN.{length, take}
+use Rattle.buffers.specs.Fill.{put}
+use Rattle.tables.specs.Density.{density}
+use Rattle.tables.specs.Tables.{fTable}
+use Rattle.longdust.specs.Checks.{refusal}
+use Rattle.longdust.specs.Call.{Buffers, buffers, lengths, Filled}
+use Rattle.longdust.specs.Inner.{Admitted}
+use Rattle.longdust.proofs.Accept.{admitted}
+use Rattle.longdust.proofs.Calls.{encoded, encoded-length, encoded-free, admitted-as, answered}
+use Rattle.longdust.proofs.process.Statement.{statement}
+use Rattle.longdust.proofs.process.Tie as tie
+
+abbrev start : tie.Else1 → tie.Start
+start c = c .before .before .before .before .before .before .before .before .before .before .before .before .before .before .before .before .before .before
+
+abbrev bytes : tie.Start → List ℕ
+bytes s = s .args .sequence .now
+
+abbrev entry : tie.Start → Buffers
+entry s =
+    buffers (s .args .ln .now) (s .args .f .now) (s .args .queue .now) (s .args .window-counts .now) (s .args .scan-counts .now) (s .args .places .now) (s .args .scores .now)
+    (s .args .codes .now) (s .args .reverse-codes .now) (s .args .forward-starts .now) (s .args .forward-ends .now) (s .args .reverse-starts .now)
+    (s .args .reverse-ends .now) (s .args .starts .now) (s .args .ends .now)
+
+-- Past the check.
+passed : (c : tie.Else1) → refusal (start c .args .options) (bytes (start c)) (lengths (entry (start c))) ≡ 0
+passed c = sym (c .before .check .ensures) ∙ c .if1 .left
+
+admit : (c : tie.Else1) → Admitted (start c .args .options) (length (bytes (start c))) (lengths (entry (start c)))
+admit c = admitted _ _ _ (passed c)
+
+-- The codes in the front of their buffer.
+abbrev at-if : tie.After-encode-sequence → tie.Else1
+at-if c = c .before .before
+
+abbrev part : tie.After-encode-sequence → List ℕ
+part c = take (length (bytes (start (at-if c)))) (c .encode-sequence .last .1 .0)
+
+part-fits : (c : tie.After-encode-sequence) → length (bytes (start (at-if c))) ≤ length (c .encode-sequence .last .1 .0)
+part-fits c = omega (arith, admit (at-if c) .enough .codes, c .encode-sequence .kept .1 .0)
+
+part-long : (c : tie.After-encode-sequence) → length (part c) ≡ length (bytes (start (at-if c)))
+part-long c = encoded-length _ _ _ (c .encode-sequence .ensures) (c .encode-sequence .kept .1 .0)
+
+abbrev at-encode : tie.After-fill-tables → tie.After-encode-sequence
+at-encode c = c .before .before .before .before .before .before
+
+abbrev at-fill : tie.After-mask-encoded → tie.After-fill-tables
+at-fill c = c .before .before .before .before .before .before .before .before .before .before .before .before .before .before .before .before .before .before .before .before
+
+-- The buffers as the run leaves them.
+abbrev left : tie.After-mask-encoded → Buffers
+left c =
+    buffers ((at-fill c) .fill-tables .last .0) ((at-fill c) .fill-tables .last .1 .0) (c .mask-encoded .last .1 .1 .1 .1 .0) (c .mask-encoded .last .1 .1 .1 .1 .1 .0) (c .mask-encoded .last .1 .1 .1 .1 .1 .1 .0) (c .mask-encoded .last .1 .1 .1 .1 .1 .1 .1 .0)
+    (c .mask-encoded .last .1 .1 .1 .1 .1 .1 .1 .1 .0) (part (at-encode (at-fill c))) (c .mask-encoded .last .1 .1 .1 .1 .1 .1 .1 .1 .1 .0) (c .mask-encoded .last .1 .1 .1 .1 .1 .1 .1 .1 .1 .1 .0) (c .mask-encoded .last .1 .1 .1 .1 .1 .1 .1 .1 .1 .1 .1 .0)
+    (c .mask-encoded .last .1 .1 .1 .1 .1 .1 .1 .1 .1 .1 .1 .1 .0) (c .mask-encoded .last .1 .1 .1 .1 .1 .1 .1 .1 .1 .1 .1 .1 .1 .0) (c .mask-encoded .last .1 .1 .1 .1 .1 .1 .1 .1 .1 .1 .1 .1 .1 .1 .0) (c .mask-encoded .last .1 .1 .1 .1 .1 .1 .1 .1 .1 .1 .1 .1 .1 .1 .1 .0)
+
+check-requires : tie.Need-check-requires
+check-requires c κs = search needs
+
+returns : tie.Need-returns
+returns c =
+    record {
+      number = c .before .check .ensures;
+      refused = λ _. record { count = refl; flag = refl; same = refl };
+      accepted = λ e. absurd (c .if1 .taken e);
+      tables = λ e. absurd (c .if1 .taken e);
+    }
+
+encode-sequence-requires : tie.Need-encode-sequence-requires
+encode-sequence-requires c κs = admit (c .before) .enough .codes
+
+slice-reshare-prefix-fill-tables : tie.Need-slice-reshare-prefix-fill-tables
+slice-reshare-prefix-fill-tables c = part-fits (c .before .before .before .before)
+
+slice-aggregate-fill-tables : tie.Need-slice-aggregate-fill-tables
+slice-aggregate-fill-tables c = sym (part-long (c .before .before .before .before .before))
+
+fill-tables-requires : tie.Need-fill-tables-requires
+fill-tables-requires c κs =
+    let a = admit (at-if (c .before .before .before .before .before)) in
+    ((a .bounds .kmer-high, a .bounds .window-high), (a .enough .ln, a .enough .f))
+
+slice-reshare-prefix-mask-encoded : tie.Need-slice-reshare-prefix-mask-encoded
+slice-reshare-prefix-mask-encoded c = part-fits (at-encode (c .before .before .before .before))
+
+slice-aggregate-mask-encoded : tie.Need-slice-aggregate-mask-encoded
+slice-aggregate-mask-encoded c = sym (part-long (at-encode (c .before .before .before .before .before)))
+
+mask-encoded-requires : tie.Need-mask-encoded-requires
+mask-encoded-requires c κs =
+    let t = c .before .before .before .before .before .before .before .before .before .before .before .before .before .before .before .before .before .before .before in
+    let e = at-encode t in
+    let i = at-if e in
+    admitted-as _ _ (entry (start i)) (admit i) (t .fill-tables .last .0) (t .fill-tables .last .1 .0) (part e) (t .fill-tables .kept .0) (t .fill-tables .kept .1 .0) (part-long e)
+
+same-length : tie.Need-same-length
+same-length c = c .before .before .before .before .before .before .before .before .before .before .before .before .before .before .before .before .before .before .before .before .before .before .before .before .before .before .before .before .before .before .before .before .before .before .before .before .before .before .before .before .before .before .before .before .fill-tables .kept .0
+
+same-length-2 : tie.Need-same-length-2
+same-length-2 c = c .before .before .before .before .before .before .before .before .before .before .before .before .before .before .before .before .before .before .before .before .before .before .before .before .before .before .before .before .before .before .before .before .before .before .before .before .before .before .before .before .before .before .before .before .fill-tables .kept .1 .0
+
+same-length-3 : tie.Need-same-length-3
+same-length-3 c = c .before .before .before .before .before .before .before .before .before .before .before .before .before .before .before .before .before .before .before .before .before .before .before .before .mask-encoded .kept .1 .1 .1 .1 .0
+
+same-length-4 : tie.Need-same-length-4
+same-length-4 c = c .before .before .before .before .before .before .before .before .before .before .before .before .before .before .before .before .before .before .before .before .before .before .before .before .mask-encoded .kept .1 .1 .1 .1 .1 .0
+
+same-length-5 : tie.Need-same-length-5
+same-length-5 c = c .before .before .before .before .before .before .before .before .before .before .before .before .before .before .before .before .before .before .before .before .before .before .before .before .mask-encoded .kept .1 .1 .1 .1 .1 .1 .0
+
+same-length-6 : tie.Need-same-length-6
+same-length-6 c = c .before .before .before .before .before .before .before .before .before .before .before .before .before .before .before .before .before .before .before .before .before .before .before .before .mask-encoded .kept .1 .1 .1 .1 .1 .1 .1 .0
+
+same-length-7 : tie.Need-same-length-7
+same-length-7 c = c .before .before .before .before .before .before .before .before .before .before .before .before .before .before .before .before .before .before .before .before .before .before .before .before .mask-encoded .kept .1 .1 .1 .1 .1 .1 .1 .1 .0
+
+same-length-8 : tie.Need-same-length-8
+same-length-8 c = c .before .before .before .before .before .before .before .before .before .before .before .before .before .before .before .before .before .before .before .before .before .before .before .before .before .before .before .before .before .before .before .before .before .before .before .before .before .before .before .before .before .before .before .before .before .before .before .before .before .before .encode-sequence .kept .1 .0
+
+same-length-9 : tie.Need-same-length-9
+same-length-9 c = c .before .before .before .before .before .before .before .before .before .before .before .before .before .before .before .before .before .before .before .before .before .before .before .before .mask-encoded .kept .1 .1 .1 .1 .1 .1 .1 .1 .1 .0
+
+same-length-10 : tie.Need-same-length-10
+same-length-10 c = c .before .before .before .before .before .before .before .before .before .before .before .before .before .before .before .before .before .before .before .before .before .before .before .before .mask-encoded .kept .1 .1 .1 .1 .1 .1 .1 .1 .1 .1 .0
+
+same-length-11 : tie.Need-same-length-11
+same-length-11 c = c .before .before .before .before .before .before .before .before .before .before .before .before .before .before .before .before .before .before .before .before .before .before .before .before .mask-encoded .kept .1 .1 .1 .1 .1 .1 .1 .1 .1 .1 .1 .0
+
+same-length-12 : tie.Need-same-length-12
+same-length-12 c = c .before .before .before .before .before .before .before .before .before .before .before .before .before .before .before .before .before .before .before .before .before .before .before .before .mask-encoded .kept .1 .1 .1 .1 .1 .1 .1 .1 .1 .1 .1 .1 .0
+
+same-length-13 : tie.Need-same-length-13
+same-length-13 c = c .before .before .before .before .before .before .before .before .before .before .before .before .before .before .before .before .before .before .before .before .before .before .before .before .mask-encoded .kept .1 .1 .1 .1 .1 .1 .1 .1 .1 .1 .1 .1 .1 .0
+
+same-length-14 : tie.Need-same-length-14
+same-length-14 c = c .before .before .before .before .before .before .before .before .before .before .before .before .before .before .before .before .before .before .before .before .before .before .before .before .mask-encoded .kept .1 .1 .1 .1 .1 .1 .1 .1 .1 .1 .1 .1 .1 .1 .0
+
+same-length-15 : tie.Need-same-length-15
+same-length-15 c = c .before .before .before .before .before .before .before .before .before .before .before .before .before .before .before .before .before .before .before .before .before .before .before .before .mask-encoded .kept .1 .1 .1 .1 .1 .1 .1 .1 .1 .1 .1 .1 .1 .1 .1 .0
+
+returns-2 : tie.Need-returns-2
+returns-2 c =
+    let t = c .before .before .before .before .before .before .before .before .before .before .before .before .before .before .before .before .before .before .before .before .before .before .before .before in
+    let u = at-fill t in
+    let e = at-encode u in
+    let i = at-if e in
+    let s = start i in
+    let o = s .args .options in
+    let cs = encoded (bytes s) (s .args .codes .now) (e .encode-sequence .last .1 .0) (e .encode-sequence .ensures) (e .encode-sequence .kept .1 .0) in
+    answered Filled o (bytes s) (entry s) (left t) (t .mask-encoded .result) (u .fill-tables .last .0) (u .fill-tables .last .1 .0) (part e) (e .encode-sequence .last .1 .0) (passed i) cs
+    (encoded-free (bytes s) (s .args .codes .now) (e .encode-sequence .last .1 .0) (e .encode-sequence .ensures) (e .encode-sequence .kept .1 .0))
+    (t .mask-encoded .ensures)
+    (record {
+      ln = u .fill-tables .ensures .0;
+      f = u .fill-tables .ensures .1 ∙ ap (λ (z : List ℕ). put (fTable (o .kmer) (o .«window_size») (density (o .kmer) (o .gc) z)) (s .args .f .now)) cs;
+    })
+
+pub process-spec : {M : Type 1} → statement M
+process-spec =
+    tie.close
+    (tie.spec
+    check-requires
+    returns
+    encode-sequence-requires
+    slice-reshare-prefix-fill-tables
+    slice-aggregate-fill-tables
+    fill-tables-requires
+    slice-reshare-prefix-mask-encoded
+    slice-aggregate-mask-encoded
+    mask-encoded-requires
+    same-length
+    same-length-2
+    same-length-3
+    same-length-4
+    same-length-5
+    same-length-6
+    same-length-7
+    same-length-8
+    same-length-9
+    same-length-10
+    same-length-11
+    same-length-12
+    same-length-13
+    same-length-14
+    same-length-15
+    returns-2)

@@ -1,0 +1,160 @@
+-- `process_tables`: a refusal touches nothing; an accepted request is encoded and run. Assumes nothing.
+use mathlib.Core.Path.{_≡_, refl, sym, _∙_}
+use Prim.Native.Nat.{ℕ, _≤_}
+use native.Mathlib.Omega.{arith}
+use borrow.Author.Needs.{needs}
+use mathlib.Core.List.{List}
+use lib.ListN.{length, take}
+use Rattle.longdust.specs.Checks.{refusal}
+use Rattle.longdust.specs.Call.{Buffers, buffers, lengths, Kept}
+use Rattle.longdust.specs.Inner.{Admitted}
+use Rattle.longdust.proofs.Accept.{admitted}
+use Rattle.longdust.proofs.Calls.{encoded, encoded-length, encoded-free, admitted-as, answered}
+use Rattle.longdust.proofs.process_tables.Statement.{statement}
+use Rattle.longdust.proofs.process_tables.Tie as tie
+
+abbrev start : tie.Else1 → tie.Start
+start c = c .before .before .before .before .before .before .before .before .before .before .before .before .before .before .before .before .before .before
+
+abbrev bytes : tie.Start → List ℕ
+bytes s = s .args .sequence .now
+
+abbrev entry : tie.Start → Buffers
+entry s =
+    buffers (s .args .ln .now) (s .args .f .now) (s .args .queue .now) (s .args .window-counts .now) (s .args .scan-counts .now) (s .args .places .now) (s .args .scores .now)
+    (s .args .codes .now) (s .args .reverse-codes .now) (s .args .forward-starts .now) (s .args .forward-ends .now) (s .args .reverse-starts .now)
+    (s .args .reverse-ends .now) (s .args .starts .now) (s .args .ends .now)
+
+-- Past the check.
+passed : (c : tie.Else1) → refusal (start c .args .options) (bytes (start c)) (lengths (entry (start c))) ≡ 0
+passed c = sym (c .before .check .ensures) ∙ c .if1 .left
+
+admit : (c : tie.Else1) → Admitted (start c .args .options) (length (bytes (start c))) (lengths (entry (start c)))
+admit c = admitted _ _ _ (passed c)
+
+-- The codes in the front of their buffer.
+abbrev at-if : tie.After-encode-sequence → tie.Else1
+at-if c = c .before .before
+
+abbrev part : tie.After-encode-sequence → List ℕ
+part c = take (length (bytes (start (at-if c)))) (c .encode-sequence .last .1 .0)
+
+part-fits : (c : tie.After-encode-sequence) → length (bytes (start (at-if c))) ≤ length (c .encode-sequence .last .1 .0)
+part-fits c = omega (arith, admit (at-if c) .enough .codes, c .encode-sequence .kept .1 .0)
+
+part-long : (c : tie.After-encode-sequence) → length (part c) ≡ length (bytes (start (at-if c)))
+part-long c = encoded-length _ _ _ (c .encode-sequence .ensures) (c .encode-sequence .kept .1 .0)
+
+abbrev at-encode : tie.After-mask-encoded → tie.After-encode-sequence
+at-encode c = c .before .before .before .before .before .before .before .before .before .before .before .before .before .before .before .before
+
+-- The buffers as the run leaves them.
+abbrev left : tie.After-mask-encoded → Buffers
+left c =
+    buffers (start (at-if (at-encode c)) .args .ln .now) (start (at-if (at-encode c)) .args .f .now) (c .mask-encoded .last .1 .1 .1 .1 .0) (c .mask-encoded .last .1 .1 .1 .1 .1 .0) (c .mask-encoded .last .1 .1 .1 .1 .1 .1 .0) (c .mask-encoded .last .1 .1 .1 .1 .1 .1 .1 .0)
+    (c .mask-encoded .last .1 .1 .1 .1 .1 .1 .1 .1 .0) (part (at-encode c)) (c .mask-encoded .last .1 .1 .1 .1 .1 .1 .1 .1 .1 .0) (c .mask-encoded .last .1 .1 .1 .1 .1 .1 .1 .1 .1 .1 .0) (c .mask-encoded .last .1 .1 .1 .1 .1 .1 .1 .1 .1 .1 .1 .0)
+    (c .mask-encoded .last .1 .1 .1 .1 .1 .1 .1 .1 .1 .1 .1 .1 .0) (c .mask-encoded .last .1 .1 .1 .1 .1 .1 .1 .1 .1 .1 .1 .1 .1 .0) (c .mask-encoded .last .1 .1 .1 .1 .1 .1 .1 .1 .1 .1 .1 .1 .1 .1 .0) (c .mask-encoded .last .1 .1 .1 .1 .1 .1 .1 .1 .1 .1 .1 .1 .1 .1 .1 .0)
+
+check-requires : tie.Need-check-requires
+check-requires c κs = search needs
+
+returns : tie.Need-returns
+returns c =
+    record {
+      number = c .before .check .ensures;
+      refused = λ _. record { count = refl; flag = refl; same = refl };
+      accepted = λ e. absurd (c .if1 .taken e);
+      tables = λ e. absurd (c .if1 .taken e);
+    }
+
+encode-sequence-requires : tie.Need-encode-sequence-requires
+encode-sequence-requires c κs = admit (c .before) .enough .codes
+
+slice-reshare-prefix-mask-encoded : tie.Need-slice-reshare-prefix-mask-encoded
+slice-reshare-prefix-mask-encoded c = part-fits (c .before .before)
+
+slice-aggregate-mask-encoded : tie.Need-slice-aggregate-mask-encoded
+slice-aggregate-mask-encoded c = sym (part-long (c .before .before .before))
+
+mask-encoded-requires : tie.Need-mask-encoded-requires
+mask-encoded-requires c κs =
+    let e = c .before .before .before .before .before .before .before .before .before .before .before .before .before .before .before in
+    let i = at-if e in
+    admitted-as _ _ (entry (start i)) (admit i) (start i .args .ln .now) (start i .args .f .now) (part e) refl refl (part-long e)
+
+same-length : tie.Need-same-length
+same-length c = c .before .before .before .before .before .before .before .before .before .before .before .before .before .before .before .before .before .before .before .before .before .before .before .before .mask-encoded .kept .1 .1 .1 .1 .0
+
+same-length-2 : tie.Need-same-length-2
+same-length-2 c = c .before .before .before .before .before .before .before .before .before .before .before .before .before .before .before .before .before .before .before .before .before .before .before .before .mask-encoded .kept .1 .1 .1 .1 .1 .0
+
+same-length-3 : tie.Need-same-length-3
+same-length-3 c = c .before .before .before .before .before .before .before .before .before .before .before .before .before .before .before .before .before .before .before .before .before .before .before .before .mask-encoded .kept .1 .1 .1 .1 .1 .1 .0
+
+same-length-4 : tie.Need-same-length-4
+same-length-4 c = c .before .before .before .before .before .before .before .before .before .before .before .before .before .before .before .before .before .before .before .before .before .before .before .before .mask-encoded .kept .1 .1 .1 .1 .1 .1 .1 .0
+
+same-length-5 : tie.Need-same-length-5
+same-length-5 c = c .before .before .before .before .before .before .before .before .before .before .before .before .before .before .before .before .before .before .before .before .before .before .before .before .mask-encoded .kept .1 .1 .1 .1 .1 .1 .1 .1 .0
+
+same-length-6 : tie.Need-same-length-6
+same-length-6 c = c .before .before .before .before .before .before .before .before .before .before .before .before .before .before .before .before .before .before .before .before .before .before .before .before .before .before .before .before .before .before .before .before .before .before .before .before .before .before .before .before .encode-sequence .kept .1 .0
+
+same-length-7 : tie.Need-same-length-7
+same-length-7 c = c .before .before .before .before .before .before .before .before .before .before .before .before .before .before .before .before .before .before .before .before .before .before .before .before .mask-encoded .kept .1 .1 .1 .1 .1 .1 .1 .1 .1 .0
+
+same-length-8 : tie.Need-same-length-8
+same-length-8 c = c .before .before .before .before .before .before .before .before .before .before .before .before .before .before .before .before .before .before .before .before .before .before .before .before .mask-encoded .kept .1 .1 .1 .1 .1 .1 .1 .1 .1 .1 .0
+
+same-length-9 : tie.Need-same-length-9
+same-length-9 c = c .before .before .before .before .before .before .before .before .before .before .before .before .before .before .before .before .before .before .before .before .before .before .before .before .mask-encoded .kept .1 .1 .1 .1 .1 .1 .1 .1 .1 .1 .1 .0
+
+same-length-10 : tie.Need-same-length-10
+same-length-10 c = c .before .before .before .before .before .before .before .before .before .before .before .before .before .before .before .before .before .before .before .before .before .before .before .before .mask-encoded .kept .1 .1 .1 .1 .1 .1 .1 .1 .1 .1 .1 .1 .0
+
+same-length-11 : tie.Need-same-length-11
+same-length-11 c = c .before .before .before .before .before .before .before .before .before .before .before .before .before .before .before .before .before .before .before .before .before .before .before .before .mask-encoded .kept .1 .1 .1 .1 .1 .1 .1 .1 .1 .1 .1 .1 .1 .0
+
+same-length-12 : tie.Need-same-length-12
+same-length-12 c = c .before .before .before .before .before .before .before .before .before .before .before .before .before .before .before .before .before .before .before .before .before .before .before .before .mask-encoded .kept .1 .1 .1 .1 .1 .1 .1 .1 .1 .1 .1 .1 .1 .1 .0
+
+same-length-13 : tie.Need-same-length-13
+same-length-13 c = c .before .before .before .before .before .before .before .before .before .before .before .before .before .before .before .before .before .before .before .before .before .before .before .before .mask-encoded .kept .1 .1 .1 .1 .1 .1 .1 .1 .1 .1 .1 .1 .1 .1 .1 .0
+
+returns-2 : tie.Need-returns-2
+returns-2 c =
+    let t = c .before .before .before .before .before .before .before .before .before .before .before .before .before .before .before .before .before .before .before .before .before .before .before .before in
+    let e = at-encode t in
+    let i = at-if e in
+    let s = start i in
+    let a = s .args in
+    answered Kept (a .options) (bytes s) (entry s) (left t) (t .mask-encoded .result) (a .ln .now) (a .f .now) (part e) (e .encode-sequence .last .1 .0) (passed i)
+    (encoded (bytes s) (a .codes .now) (e .encode-sequence .last .1 .0) (e .encode-sequence .ensures) (e .encode-sequence .kept .1 .0))
+    (encoded-free (bytes s) (a .codes .now) (e .encode-sequence .last .1 .0) (e .encode-sequence .ensures) (e .encode-sequence .kept .1 .0))
+    (t .mask-encoded .ensures)
+    (record { ln = refl; f = refl })
+
+pub process-tables-spec : {M : Type 1} → statement M
+process-tables-spec =
+    tie.close
+    (tie.spec
+    check-requires
+    returns
+    encode-sequence-requires
+    slice-reshare-prefix-mask-encoded
+    slice-aggregate-mask-encoded
+    mask-encoded-requires
+    same-length
+    same-length-2
+    same-length-3
+    same-length-4
+    same-length-5
+    same-length-6
+    same-length-7
+    same-length-8
+    same-length-9
+    same-length-10
+    same-length-11
+    same-length-12
+    same-length-13
+    returns-2)

@@ -1,0 +1,5 @@
+pub mod Options
+pub mod Checks
+pub mod Mask
+pub mod Call
+pub mod Inner

@@ -1,0 +1,51 @@
+-- The paper, 'Both strands': the mask, and what it is to be evident on a strand scanned.
+use Prim.Native.Nat.{ℕ, _+_}
+use mathlib.Core.Path.{_≡_}
+use mathlib.Core.Logic.{_⊎_}
+use mathlib.Core.Bool.{Bool, true, false, cond}
+use mathlib.Core.List.{List, []}
+use lib.ListN.{length}
+use lib.Ieee.{Float}
+use Rattle.letters.specs.Code.{codes, reverseComplement}
+use Rattle.letters.specs.Place.{places}
+use Rattle.intervals.specs.Interval.{Interval}
+use Rattle.intervals.specs.Merge.{merge, backwards}
+use Rattle.scans.specs.Setup.{Setup, dropLimit, maxTest}
+use Rattle.scans.specs.Score.{Evidence}
+use Rattle.strand.specs.Step.{intervalsOf}
+use Rattle.longdust.specs.declared.LongdustOptions.{LongdustOptions}
+
+-- What a run goes by: the options and the two tables.
+unfoldable pub setup : LongdustOptions → List Float → List Float → Setup
+setup o ln f =
+    record {
+      kmer = o .kmer;
+      window-size = o .«window_size»;
+      threshold = o .«score_threshold»;
+      min-start-cnt = o .«min_start_cnt»;
+      drop-limit = dropLimit (o .xdrop) (o .«window_size») (o .«score_threshold»);
+      approx = o .approx;
+      max-test = maxTest (o .«window_size») (o .«score_threshold») ln f;
+      ln = ln;
+      f = f;
+    }
+
+-- The forward list; unless forward-only is set, joined with the reverse complement's list read backwards.
+unfoldable pub maskOf : Setup → Bool → List ℕ → List Interval
+maskOf S forward-only s =
+    cond forward-only (intervalsOf S s) (merge (intervalsOf S s) (backwards (length s) (intervalsOf S (reverseComplement s))))
+
+-- The mask of a sequence of bytes.
+unfoldable pub mask : LongdustOptions → List ℕ → List Float → List Float → List Interval
+mask o sequence ln f = maskOf (setup o ln f) (o .«forward_only») (codes sequence)
+
+-- A letter of the reverse complement's stretch counts here as letter n-1-x.
+pub record OtherStrand (S : Setup) (forward-only : Bool) (s : List ℕ) (x : ℕ) : Type 0 where
+  pub scanned : forward-only ≡ false
+  pub letter : ℕ
+  pub across : x + letter + 1 ≡ length s
+  pub evidence : Evidence S (places (S .kmer) (reverseComplement s)) letter
+
+-- The letter x lies in the letters of a stretch with evidence on a strand scanned.
+abbrev pub Evident : Setup → Bool → List ℕ → ℕ → Type 0
+Evident S forward-only s x = Evidence S (places (S .kmer) s) x ⊎ OtherStrand S forward-only s x
