@@ -1,0 +1,60 @@
+-- `write_bytes` meets its contract. The invariant: the first i bytes are copied. Assumes nothing.
+use Prim.Native.Nat.{_-_}
+use borrow.Author.Needs.{needs}
+use lib.ListN.{length}
+use Rattle.report.proofs.Writing.{Copying, copy-none, copy-byte, copied}
+use Rattle.report.proofs.write_bytes.Statement.{statement}
+use Rattle.report.proofs.write_bytes.Tie as tie
+
+abbrev Inv-loop : tie.InvT-loop
+Inv-loop bytes text₀ from i₀ text i = Copying bytes text₀ from text i
+
+abbrev μ-loop : tie.MeasureT-loop
+μ-loop bytes text₀ from i₀ text i = length bytes - i
+
+loop-holds : tie.Need-loop-holds Inv-loop μ-loop
+loop-holds c = copy-none (c .args .bytes .now) (c .args .text .now) (c .args .from)
+
+shared-slice-read-text : tie.Need-shared-slice-read-text Inv-loop μ-loop
+shared-slice-read-text c = search needs
+
+add-text : tie.Need-add-text Inv-loop μ-loop
+add-text c = search needs
+
+slice-write-text : tie.Need-slice-write-text Inv-loop μ-loop
+slice-write-text c = search needs
+
+add-i : tie.Need-add-i Inv-loop μ-loop
+add-i c = search needs
+
+loop-less : tie.Need-loop-less Inv-loop μ-loop
+loop-less c = search needs
+
+loop-again : tie.Need-loop-again Inv-loop μ-loop
+loop-again c = copy-byte (c .before .before .loop .inv) (c .before .loop-test .taken) (c .before .before .before .pre)
+
+add-result : tie.Need-add-result Inv-loop μ-loop
+add-result c = search needs
+
+same-length : tie.Need-same-length Inv-loop μ-loop
+same-length c = search needs
+
+returns : tie.Need-returns Inv-loop μ-loop
+returns c = copied (c .before .loop .inv) (c .loop-test .left)
+
+pub write-bytes-spec : {M : Type 1} → statement M
+write-bytes-spec =
+    tie.close
+    (tie.spec
+    Inv-loop
+    μ-loop
+    loop-holds
+    shared-slice-read-text
+    add-text
+    slice-write-text
+    add-i
+    loop-less
+    loop-again
+    add-result
+    same-length
+    returns)

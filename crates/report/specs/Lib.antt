@@ -1,0 +1,4 @@
+pub mod Letters
+pub mod Ascii
+pub mod Text
+pub mod Written

@@ -1,0 +1,14 @@
+-- Room in a lent text, and what it holds after something was written into it from an index on.
+use Prim.Native.Nat.{ℕ, _+_, _≤_}
+use mathlib.Core.Path.{_≡_}
+use mathlib.Core.List.{List, _++_}
+use lib.ListN.{length, take, drop}
+
+-- The text d has room for xs from the index `from` on.
+pub record Fits (xs d : List ℕ) (from : ℕ) : Type 0 where
+  pub room : from + length xs ≤ length d
+
+-- The text d has become d′: it holds xs from the index `from` up to `end`, and every other byte is as it was.
+pub record Written (xs d : List ℕ) (from : ℕ) (d′ : List ℕ) (end : ℕ) : Type 0 where
+  pub end-is : end ≡ from + length xs
+  pub text-is : d′ ≡ take from d ++ (xs ++ drop end d)
