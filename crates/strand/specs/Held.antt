@@ -50,14 +50,14 @@ abbrev pub sumMore : List Float → List ℕ → Float → Place → Float
 sumMore ln counts sum ambiguous = sum
 sumMore ln counts sum (plain x) = sum ⊕ getD ln (getD counts x 0) nan
 
--- The oldest entry has left a full queue, whatever the f table, the interval in hand and the saved ones are.
+-- With a full queue the oldest entry has left, whatever the f table, the interval in hand and the saved ones are.
 pub record Left (p : Params) (ln : List Float) (w w′ : Window) (ring counts window-counts′ counts′ : List ℕ) : Type 0 where
   pub run-is : (f : List Float) (o : Open) (saved : List Interval)
       → heldBy w′ o ring counts′ saved ≡ leave (setupOf p ln f) (heldBy w o ring counts saved)
   pub windowed : Windowed p ring (w′ .head) (w′ .len) window-counts′ (length ln)
   pub room : w′ .len < p .window
 
--- The entry e has joined.
+-- The entry e has joined, whatever the others are.
 pub record Joined (p : Params) (ln : List Float) (w w′ : Window) (e : ℕ) (ring ring′ window-counts′ : List ℕ) : Type 0 where
   pub run-is : (f : List Float) (o : Open) (counts : List ℕ) (saved : List Interval)
       → heldBy w′ o ring′ counts saved ≡ join (setupOf p ln f) (heldBy w o ring counts saved) (decode e)
@@ -65,6 +65,7 @@ pub record Joined (p : Params) (ln : List Float) (w w′ : Window) (e : ℕ) (ri
   pub some : 0 < w′ .len
 
 -- ---- The search.
+-- Whether extend is tried at letter i, by the numbers that the code reads.
 abbrev pub triedBy : Params → List Float → ℕ → State → Bool
 triedBy p f i a =
     let len : ℕ = a .window .len in
@@ -77,12 +78,12 @@ pub record Extended (p : Params) (ln f : List Float) (i : ℕ) (a : State) (x : 
   pub answer : r ≡ triedBy p f i a && extends (setupOf p ln f) counts (a .window .len) x
   pub counts-are : counts′ ≡ cond r (raise counts (plain x)) counts
 
--- What a new entry leads to.
+-- What a new entry leads to: a search if it is plain and its count at least min_start_cnt.
 unfoldable pub lookBy : Setup → ℕ → Run → Place → Outcome
 lookBy S i a ambiguous = record { find = none; counts = a .counts }
 lookBy S i a (plain x) = cond (leb (S .min-start-cnt) (count x (a .window))) (search S i a x) (record { find = none; counts = a .counts })
 
--- ---- A find.
+-- ---- A find changes last_q, start, end and what is saved.
 abbrev pub lastBy : Window → Find → Window
 lastBy w none = w
 lastBy w (at j) = record { sum = w .sum; last = pos j; head = w .head; len = w .len }
@@ -116,7 +117,7 @@ pub record Saving (o : Open) (starts ends : List ℕ) : Type 0 where
   pub room : Room (o .count) starts ends
   pub room-after : Room (length (saveFrom (rows (o .count) starts ends) (o .start) (o .end))) starts ends
 
--- ---- A letter.
+-- ---- A letter: what it asks, and the run that it leads to.
 pub record Stepping (p : Params) (i e : ℕ) (a : State) (ring window-counts starts ends : List ℕ)
     (n-ln n-f n-counts n-places n-scores : ℕ) : Type 0 where
   pub kmer-small : p .kmer ≤ 12
@@ -150,6 +151,7 @@ pub record Lent (p : Params) (n n-ln n-f n-ring n-window-counts n-counts n-place
   pub starts-long : (n + 1) / (p .kmer + 1) ≤ n-starts
   pub ends-long : (n + 1) / (p .kmer + 1) ≤ n-ends
 
+-- The run over all letters, and its last interval can be saved.
 pub record Ran (p : Params) (codes : List ℕ) (ln f : List Float) (a : State) (ring counts starts ends : List ℕ) : Type 0 where
   pub run-is : held a ring counts starts ends ≡ run (setupOf p ln f) (places (p .kmer) codes)
   pub saving : Saving (a .hand) starts ends

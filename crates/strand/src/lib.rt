@@ -85,19 +85,19 @@ impl Window {
     fn leave(
         mut self,
         p: scans::Params,
-        ring: &[u32],
+        queue: &[u32],
         window_counts: &mut [u16],
         scan_counts: &mut [u16],
         ln: &[f64],
     ) -> Self
         requires { ⌜ (self .len ≡ p .window) × (length (now «scan_counts») ≡ 4 ^ p .kmer) ⌝ }
-        requires { ⌜ Windowed p (now ring) (self .head) (self .len) (now «window_counts») (length (now ln)) ⌝ }
-        ensures { λ r. ⌜ Left p (now (ln .entry)) self r (now (ring .entry)) (now («scan_counts» .entry))
+        requires { ⌜ Windowed p (now queue) (self .head) (self .len) (now «window_counts») (length (now ln)) ⌝ }
+        ensures { λ r. ⌜ Left p (now (ln .entry)) self r (now (queue .entry)) (now («scan_counts» .entry))
             (now («window_counts» .exit)) (now («scan_counts» .exit)) ⌝ }
     {
         let head = self.head;
         let last = self.last;
-        let entry = ring[head];
+        let entry = queue[head];
         self.sum = sum_without(self.sum, window_counts, ln, entry);
         scan_without(last, scan_counts, entry);
         self.last = last_without(last);
@@ -110,18 +110,18 @@ impl Window {
     fn make_room(
         self,
         p: scans::Params,
-        ring: &[u32],
+        queue: &[u32],
         window_counts: &mut [u16],
         scan_counts: &mut [u16],
         ln: &[f64],
     ) -> Self
         requires { ⌜ length (now «scan_counts») ≡ 4 ^ p .kmer ⌝ }
-        requires { ⌜ Windowed p (now ring) (self .head) (self .len) (now «window_counts») (length (now ln)) ⌝ }
-        ensures { λ r. ⌜ Left p (now (ln .entry)) self r (now (ring .entry)) (now («scan_counts» .entry))
+        requires { ⌜ Windowed p (now queue) (self .head) (self .len) (now «window_counts») (length (now ln)) ⌝ }
+        ensures { λ r. ⌜ Left p (now (ln .entry)) self r (now (queue .entry)) (now («scan_counts» .entry))
             (now («window_counts» .exit)) (now («scan_counts» .exit)) ⌝ }
     {
         if self.len == p.window {
-            return self.leave(p, ring, window_counts, scan_counts, ln);
+            return self.leave(p, queue, window_counts, scan_counts, ln);
         }
         self
     }
@@ -130,18 +130,18 @@ impl Window {
     fn join(
         mut self,
         p: scans::Params,
-        ring: &mut [u32],
+        queue: &mut [u32],
         window_counts: &mut [u16],
         ln: &[f64],
         entry: u32,
     ) -> Self
         requires { ⌜ (self .len < p .window) × (entry / 2 < 4 ^ p .kmer) ⌝ }
-        requires { ⌜ Windowed p (now ring) (self .head) (self .len) (now «window_counts») (length (now ln)) ⌝ }
-        ensures { λ r. ⌜ Joined p (now (ln .entry)) self r entry (now (ring .entry)) (now (ring .exit))
+        requires { ⌜ Windowed p (now queue) (self .head) (self .len) (now «window_counts») (length (now ln)) ⌝ }
+        ensures { λ r. ⌜ Joined p (now (ln .entry)) self r entry (now (queue .entry)) (now (queue .exit))
             (now («window_counts» .exit)) ⌝ }
     {
         let i = scans::ring_index(p.window, self.head, self.len);
-        ring[i] = entry;
+        queue[i] = entry;
         self.sum = sum_with(self.sum, window_counts, ln, entry);
         self.len += 1;
         self
@@ -309,7 +309,7 @@ impl State {
         p: scans::Params,
         i: usize,
         entry: u32,
-        ring: &[u32],
+        queue: &[u32],
         window_counts: &[u16],
         scan_counts: &mut [u16],
         ln: &[f64],
@@ -318,11 +318,11 @@ impl State {
         scores: &mut [f64],
     ) -> usize
         requires { ⌜ (i < 2147483648) × (0 < self .window .len) × (entry / 2 < 4 ^ p .kmer) ⌝ }
-        requires { ⌜ Windowed p (now ring) (self .window .head) (self .window .len) (now «window_counts»)
+        requires { ⌜ Windowed p (now queue) (self .window .head) (self .window .len) (now «window_counts»)
             (length (now ln)) ⌝ }
         requires { ⌜ Roomy p (length (now f)) (length (now «scan_counts»)) (length (now places)) (length (now scores)) ⌝ }
         ensures { λ r. ⌜ ((saved : List Interval) → Tells (lookBy (setupOf p (now (ln .entry)) (now (f .entry))) i
-            (heldBy (self .window) (self .hand) (now (ring .entry)) (now («scan_counts» .entry)) saved) (decode entry))
+            (heldBy (self .window) (self .hand) (now (queue .entry)) (now («scan_counts» .entry)) saved) (decode entry))
             r (now («scan_counts» .exit))) ⌝ }
     {
         if entry & 1 != 0 {
@@ -338,10 +338,10 @@ impl State {
         }
         let head = self.window.head;
         let len = self.window.len;
-        if scans::if_backward(p, ring, head, len, window_counts, ln) {
+        if scans::if_backward(p, queue, head, len, window_counts, ln) {
             return scans::dust_backward(
                 p,
-                ring,
+                queue,
                 head,
                 len,
                 window_counts,

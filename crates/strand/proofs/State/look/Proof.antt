@@ -23,7 +23,7 @@ abbrev S : tie.Start → Setup
 S b = setupOf (b .args .p) (b .args .ln .now) (b .args .f .now)
 
 abbrev A : tie.Start → List Interval → Run
-A b saved = heldBy (b .args .self .window) (b .args .self .hand) (b .args .ring .now) (b .args .scan-counts .now) saved
+A b saved = heldBy (b .args .self .window) (b .args .self .hand) (b .args .queue .now) (b .args .scan-counts .now) saved
 
 abbrev start : tie.Else1 → tie.Start
 start c = c .before .before .before .before .before .before .before .before

@@ -8,17 +8,17 @@ use Rattle.strand.proofs.Window.join.Tie as tie
 abbrev start : tie.After-ring-index → tie.Start
 start c = c .before .before .before .before
 
-inside : (c : tie.After-ring-index) → c .ring-index .result < length (start c .args .ring .now)
+inside : (c : tie.After-ring-index) → c .ring-index .result < length (start c .args .queue .now)
 inside c = next-in (start c .pre .1) (start c .pre .0 .0) (c .ring-index .ensures)
 
 ring-index-requires : tie.Need-ring-index-requires
 ring-index-requires c κs = search needs
 
-mul-ring : tie.Need-mul-ring
-mul-ring c = let h = inside c in search needs
+mul-queue : tie.Need-mul-queue
+mul-queue c = let h = inside c in search needs
 
-slice-write-ring : tie.Need-slice-write-ring
-slice-write-ring c = inside c
+slice-write-queue : tie.Need-slice-write-queue
+slice-write-queue c = inside c
 
 sum-with-requires : tie.Need-sum-with-requires
 sum-with-requires c κs =
@@ -47,8 +47,8 @@ join-spec =
     tie.close
     (tie.spec
     ring-index-requires
-    mul-ring
-    slice-write-ring
+    mul-queue
+    slice-write-queue
     sum-with-requires
     add-self
     same-length

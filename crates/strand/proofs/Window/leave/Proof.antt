@@ -26,7 +26,7 @@ sum-without-requires c κs =
     let b = start c in
     let w = b .pre .1 in (
       rw (w .counts-long) (oldest-below w (b .pre .0 .0)),
-      count-in w (getD (b .args .ring .now) (b .args .self .head) 0 / 2),
+      count-in w (getD (b .args .queue .now) (b .args .self .head) 0 / 2),
       oldest-counted w (b .pre .0 .0),
     )
 
@@ -59,7 +59,7 @@ returns c =
     let back = toZ-ofZ {w = w64} {z = a .self .last} (record { sfits = s .before .before .before .struct-told .given .1 .0 .1 }) in
     left (b .pre .1) (b .pre .0 .0) (s .sum-without .ensures .0) (c .before .before .last-without .ensures ∙ ap lastWithout back)
     (c .before .ring-index .ensures) (s .sum-without .ensures .1)
-    (n .scan-without .ensures ∙ ap (λ (z : ℤ). countsWithout z (a .scan-counts .now) (decode (getD (a .ring .now) (a .self .head) 0))) back)
+    (n .scan-without .ensures ∙ ap (λ (z : ℤ). countsWithout z (a .scan-counts .now) (decode (getD (a .queue .now) (a .self .head) 0))) back)
 
 pub leave-spec : {M : Type 1} → statement M
 leave-spec =
