@@ -89,13 +89,13 @@ admitted o s b e =
     let inside = kmer-inside k (p1 .0) in
     record {
       bounds =
-        record {
-          kmer-low = inside .0;
-          kmer-high = inside .1;
-          window-low = ltb-false w (k + 1) (p4 .0);
-          window-high = ltb-false 65535 w (p5 .0);
-          threshold-good = p6 .0;
-        };
+          record {
+            kmer-low = inside .0;
+            kmer-high = inside .1;
+            window-low = ltb-false w (k + 1) (p4 .0);
+            window-high = ltb-false 65535 w (p5 .0);
+            threshold-good = p6 .0;
+          };
       letters-low = ltb-false n (k + 1) (p3 .0);
       letters-high = ltb-false 2147483647 n (p10 .0);
       enough = enough n k w b (p11 .0);

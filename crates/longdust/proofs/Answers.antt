@@ -1,8 +1,8 @@
 -- What a run that leaves the mask in the final list answers: an accepted request, with its shape and its evidence.
 use mathlib.Core.Path.{_≡_, refl, sym, ap, ap₂, _∙_, subst}
-use mathlib.Core.Bool.{Bool, true}
+use mathlib.Core.Bool.{Bool}
 use mathlib.Core.List.{List}
-use Prim.Native.Nat.{ℕ, _+_, _/_, _^_, _≤_, _<_}
+use Prim.Native.Nat.{ℕ, _+_, _/_, _^_, _≤_}
 use native.Mathlib.Omega.{arith}
 use lib.Dec.{T}
 use lib.ListN.{length, take}
@@ -22,7 +22,7 @@ use Rattle.longdust.specs.Mask.{setup, maskOf, mask}
 use Rattle.longdust.specs.Call.{Buffers, lengths, lnRead, fRead, listSize, Masked, Accepted}
 use Rattle.longdust.specs.Inner.{Bounds, Admitted, Prepared, Ran}
 use Rattle.longdust.proofs.Masks.{mask-shape, mask-room, mask-evidence}
-use Rattle.longdust.proofs.Parts.{fronts, back, Returned, Whole, whole}
+use Rattle.longdust.proofs.Parts.{fronts, back, Returned, whole}
 
 accepted-by : (o : LongdustOptions) (s : List ℕ) (b b′ : Buffers) (r : Answer) → Bounds o → length s ≤ 2147483647
     → ranges.Accepted (setup o (lnRead o b′) (fRead o b′)) → r .«in_range» ≡ inRange (setup o (lnRead o b′) (fRead o b′)) → Masked o s b b′ (r .count) → Accepted o s b b′ r
@@ -48,7 +48,7 @@ module _ (o : LongdustOptions) (cs : List ℕ) (m : ℕ) (b : Buffers) (a : Admi
 
   pub ran : (p : Params) → Prepared o (lnRead o b) (fRead o b) p → (flag : Bool) → flag ≡ inRange (setupOf p (lnRead o b) (fRead o b)) → (count : ℕ)
       → Rows (maskOf (setupOf p (lnRead o b) (fRead o b)) (o .«forward_only») cs) (take ((length cs + 1) / (o .kmer + 1)) (b .starts))
-        (take ((length cs + 1) / (o .kmer + 1)) (b .ends)) (y .starts) (y .ends) count
+      (take ((length cs + 1) / (o .kmer + 1)) (b .ends)) (y .starts) (y .ends) count
       → Ran o cs b after (record { refusal = 0; count = count; «in_range» = flag })
   unfolding mask setup
   ran p q flag f count r =
@@ -61,7 +61,7 @@ module _ (o : LongdustOptions) (cs : List ℕ) (m : ℕ) (b : Buffers) (a : Admi
             let n-is : n ≡ length s = ap (λ (z : List ℕ). length z) c ∙ codes-length s in
             let R-is : R ≡ listSize o s = ap (λ (z : ℕ). (z + 1) / (o .kmer + 1)) n-is in
             let list : maskOf (setupOf p (lnRead o b) (fRead o b)) (o .«forward_only») cs ≡ mask o s (lnRead o b) (fRead o b) =
-                ap₂ (λ (z : Setup) (x : List ℕ). maskOf z (o .«forward_only») x) (q .setup-is) c in
+            ap₂ (λ (z : Setup) (x : List ℕ). maskOf z (o .«forward_only») x) (q .setup-is) c in
             let held = rows-as list r in
             let R-codes : R ≡ (length (codes s) + 1) / (o .kmer + 1) = ap (λ (z : List ℕ). (length z + 1) / (o .kmer + 1)) c in
             let room : length (mask o s (lnRead o b) (fRead o b)) ≤ (length (codes s) + 1) / (o .kmer + 1) = mask-room S (o .«forward_only») (codes s) (a .bounds .kmer-low) in

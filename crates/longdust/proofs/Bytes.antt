@@ -17,8 +17,10 @@ or-high a b = go (leb 128 a) refl (leb 128 b) refl
   where
     above-l : a ≤ bitOr a b
     above-l = omega (arith, or-add-and a b, and-le-r a b)
+
     above-r : b ≤ bitOr a b
     above-r = omega (arith, or-add-and a b, and-le-l a b)
+
     go : (x : Bool) → leb 128 a ≡ x → (y : Bool) → leb 128 b ≡ y → leb 128 (bitOr a b) ≡ (x || y)
     go true e y f = le-leb 128 (bitOr a b) (omega (arith, leb-true 128 a e, above-l))
     go false e true f = le-leb 128 (bitOr a b) (omega (arith, leb-true 128 b f, above-r))

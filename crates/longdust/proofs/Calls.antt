@@ -1,7 +1,7 @@
 -- From the run on an accepted request's codes to what a public call answers: the codes stand in the front of their buffer, and the tables may be new.
-use mathlib.Core.Path.{_≡_, refl, sym, ap, _∙_, subst}
+use mathlib.Core.Path.{_≡_, sym, ap, _∙_, subst}
 use mathlib.Core.List.{List}
-use Prim.Native.Nat.{ℕ, _+_, _≤_, _<_}
+use Prim.Native.Nat.{ℕ}
 use native.Mathlib.Omega.{arith}
 use lib.ListN.{length, take, drop}
 use lib.Seq.{take-at, drop-at}
@@ -65,23 +65,23 @@ admitted-as o n b a ln f cs p q e =
       letters-low = a .letters-low;
       letters-high = a .letters-high;
       enough =
-        record {
-          ln = omega (arith, g .ln);
-          f = omega (arith, g .f);
-          queue = g .queue;
-          window-counts = g .window-counts;
-          scan-counts = g .scan-counts;
-          places = g .places;
-          scores = g .scores;
-          codes = omega arith;
-          reverse-codes = g .reverse-codes;
-          forward-starts = g .forward-starts;
-          forward-ends = g .forward-ends;
-          reverse-starts = g .reverse-starts;
-          reverse-ends = g .reverse-ends;
-          starts = g .starts;
-          ends = g .ends;
-        };
+          record {
+            ln = omega (arith, g .ln);
+            f = omega (arith, g .f);
+            queue = g .queue;
+            window-counts = g .window-counts;
+            scan-counts = g .scan-counts;
+            places = g .places;
+            scores = g .scores;
+            codes = omega arith;
+            reverse-codes = g .reverse-codes;
+            forward-starts = g .forward-starts;
+            forward-ends = g .forward-ends;
+            reverse-starts = g .reverse-starts;
+            reverse-ends = g .reverse-ends;
+            starts = g .starts;
+            ends = g .ends;
+          };
     })
 
 accepted-as : (o : LongdustOptions) (s : List ℕ) (b y : Buffers) (r : Answer) (ln f : List Float) (cs d : List ℕ) → Free (length s) (b .codes) d
@@ -91,20 +91,20 @@ accepted-as o s b y r ln f cs d c a =
     record {
       flag = a .flag;
       buffers =
-        record {
-          list = m .list;
-          queue = m .queue;
-          window-counts = m .window-counts;
-          scan-counts = m .scan-counts;
-          places = m .places;
-          scores = m .scores;
-          codes = c;
-          reverse-codes = m .reverse-codes;
-          forward-starts = m .forward-starts;
-          forward-ends = m .forward-ends;
-          reverse-starts = m .reverse-starts;
-          reverse-ends = m .reverse-ends;
-        };
+          record {
+            list = m .list;
+            queue = m .queue;
+            window-counts = m .window-counts;
+            scan-counts = m .scan-counts;
+            places = m .places;
+            scores = m .scores;
+            codes = c;
+            reverse-codes = m .reverse-codes;
+            forward-starts = m .forward-starts;
+            forward-ends = m .forward-ends;
+            reverse-starts = m .reverse-starts;
+            reverse-ends = m .reverse-ends;
+          };
       shape = a .shape;
       evidence = a .evidence;
     }

@@ -1,7 +1,7 @@
 -- Worked examples of the paper: which refusal comes first, and 0.6 as a float.
 use mathlib.Core.Path.{_≡_, refl}
 use mathlib.Core.Bool.{false}
-use mathlib.Core.List.{List, [], _∷_}
+use mathlib.Core.List.{[], _∷_}
 use Prim.Native.Nat.{ℕ}
 use lib.Ieee.{binary64, ofBits, round}
 use Rattle.scans.specs.declared.Xdrop.the-variants.{Off}

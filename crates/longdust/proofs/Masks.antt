@@ -9,7 +9,7 @@ use lib.ListN.{length}
 use lib.Dec.{T}
 use Rattle.letters.specs.Code.{reverseComplement}
 use Rattle.letters.proofs.Codes.{reverseComplement-length}
-use Rattle.intervals.specs.Interval.{Interval, Canonical, Covers}
+use Rattle.intervals.specs.Interval.{Canonical, Covers}
 use Rattle.intervals.specs.Merge.{merge, backwards}
 use Rattle.intervals.proofs.Shape.{covers-below, merge-canonical, canonical-room}
 use Rattle.intervals.proofs.Covered.{merge-covers}

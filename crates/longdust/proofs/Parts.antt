@@ -1,21 +1,17 @@
 -- The front of each buffer is lent to a run of exactly the listed sizes: what the run asks holds, and when the fronts are back the whole buffers are as the contract says.
 use mathlib.Core.Path.{_≡_, ap, _∙_}
 use mathlib.Core.List.{List, _++_}
-use Prim.Native.Nat.{ℕ, _+_, _/_, _^_, _≤_, _<_}
+use Prim.Native.Nat.{ℕ, _+_, _/_, _^_, _≤_}
 use native.Mathlib.Omega.{arith}
 use lib.ListN.{length, take, drop}
 use lib.Seq.{length-take-le}
 use Rattle.buffers.specs.Free.{Free}
 use Rattle.buffers.proofs.Lent.{part-free, free-at}
-use Rattle.intervals.specs.Interval.{Interval}
-use Rattle.intervals.specs.Rows.{Rows}
-use Rattle.intervals.proofs.Rows.{part-rows, rows-count}
 use Rattle.scans.specs.declared.Params.{Params}
-use Rattle.strand.specs.Sizes.{StrandSizes}
+use Rattle.strand.specs.Held.{Lent}
 use Rattle.longdust.specs.declared.LongdustOptions.{LongdustOptions}
-use Rattle.longdust.specs.Call.{Buffers, lengths, listSize, Masked}
-use Rattle.longdust.specs.Mask.{mask}
-use Rattle.longdust.specs.Inner.{Enough, Admitted, Exact}
+use Rattle.longdust.specs.Call.{Buffers, lengths}
+use Rattle.longdust.specs.Inner.{Admitted, Exact}
 
 -- w + 1 entries of ln, w + 2 of f, w of the queue and the candidates, m of the counts, n codes and R rows of each list.
 abbrev pub fronts : (w m n R : ℕ) → Buffers → Buffers
@@ -83,27 +79,30 @@ module _ (o : LongdustOptions) (n m : ℕ) (b : Buffers) (a : Admitted o n (leng
 
   sizes : (p : Params) → p .kmer ≡ o .kmer → p .window ≡ o .«window_size» → (starts ends : List ℕ)
       → (n + 1) / (o .kmer + 1) ≤ length starts → (n + 1) / (o .kmer + 1) ≤ length ends
-      → StrandSizes p n (length (take (o .«window_size» + 1) (b .ln))) (length (take (o .«window_size» + 2) (b .f))) (length (take (o .«window_size») (b .queue))) (length (take m (b .window-counts)))
-        (length (take m (b .scan-counts))) (length (take (o .«window_size») (b .places))) (length (take (o .«window_size») (b .scores)))
-        (length (take ((n + 1) / (o .kmer + 1)) starts)) (length (take ((n + 1) / (o .kmer + 1)) ends))
+      → Lent p n (length (take (o .«window_size» + 1) (b .ln))) (length (take (o .«window_size» + 2) (b .f))) (length (take (o .«window_size») (b .queue))) (length (take m (b .window-counts)))
+      (length (take m (b .scan-counts))) (length (take (o .«window_size») (b .places))) (length (take (o .«window_size») (b .scores)))
+      (length (take ((n + 1) / (o .kmer + 1)) starts)) (length (take ((n + 1) / (o .kmer + 1)) ends))
   sizes p k w starts ends fs fe =
       let c = a .bounds in
       let g = a .enough in
       let R = (n + 1) / (o .kmer + 1) in
       let r : (n + 1) / (p .kmer + 1) ≡ R = ap (λ (z : ℕ). (n + 1) / (z + 1)) k in
       record {
-        kmer-low = omega (arith, c .kmer-low);
-        kmer-high = omega (arith, c .kmer-high);
-        letters-high = a .letters-high;
-        window-low = omega (arith, c .window-low, c .kmer-low);
-        window-high = omega (arith, c .window-high);
+        kmer-some = omega (arith, c .kmer-low);
+        kmer-small = omega (arith, c .kmer-high);
+        letters-in = omega (arith, a .letters-high);
+        wide = omega (arith, c .window-low, c .kmer-low);
+        small = omega (arith, c .window-high);
         ln-long = omega (arith, length-take-le (o .«window_size» + 1) (b .ln) (g .ln));
-        f-long = omega (arith, length-take-le (o .«window_size» + 2) (b .f) (g .f));
-        queue-is = omega (arith, length-take-le (o .«window_size») (b .queue) (g .queue));
-        window-counts-is = length-take-le m (b .window-counts) windows-fit ∙ e ∙ ap (λ (z : ℕ). 4 ^ z) (omega arith);
-        scan-counts-is = length-take-le m (b .scan-counts) scans-fit ∙ e ∙ ap (λ (z : ℕ). 4 ^ z) (omega arith);
-        places-long = omega (arith, length-take-le (o .«window_size») (b .places) (g .places));
-        scores-long = omega (arith, length-take-le (o .«window_size») (b .scores) (g .scores));
+        ring-is = omega (arith, length-take-le (o .«window_size») (b .queue) (g .queue));
+        window-counts-are = length-take-le m (b .window-counts) windows-fit ∙ e ∙ ap (λ (z : ℕ). 4 ^ z) (omega arith);
+        roomy =
+            record {
+              f-long = omega (arith, length-take-le (o .«window_size» + 2) (b .f) (g .f));
+              counts-is = length-take-le m (b .scan-counts) scans-fit ∙ e ∙ ap (λ (z : ℕ). 4 ^ z) (omega arith);
+              places-long = omega (arith, length-take-le (o .«window_size») (b .places) (g .places));
+              scores-long = omega (arith, length-take-le (o .«window_size») (b .scores) (g .scores));
+            };
         starts-long = omega (arith, length-take-le R starts fs);
         ends-long = omega (arith, length-take-le R ends fe);
       }

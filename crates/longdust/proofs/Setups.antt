@@ -21,17 +21,17 @@ pub prepared : (o : LongdustOptions) (ln f : List Float) (limit : Float) (test t
     → limit ≡ dropLimit (o .xdrop) (o .«window_size») (o .«score_threshold»)
     → test ≡ maxTest (o .«window_size») (o .«score_threshold») ln f
     → setupOf
-      (record {
-        kmer = o .kmer;
-        window = o .«window_size»;
-        least = o .«min_start_cnt»;
-        threshold = o .«score_threshold»;
-        limit = limit;
-        approx = o .approx;
-        test = test′;
-      })
-      ln
-      f
+    (record {
+      kmer = o .kmer;
+      window = o .«window_size»;
+      least = o .«min_start_cnt»;
+      threshold = o .«score_threshold»;
+      limit = limit;
+      approx = o .approx;
+      test = test′;
+    })
+    ln
+    f
     ≡ setup o ln f
 unfolding setup
 prepared o ln f limit test test′ e l t = rw (e, l, t)

@@ -1,5 +1,5 @@
 -- Both strands' lists in their slices, merged: what the merge asks, and that it leaves the mask.
-use mathlib.Core.Path.{_≡_, refl, sym, ap, _∙_}
+use mathlib.Core.Path.{_≡_, sym, ap, _∙_}
 use mathlib.Core.Bool.{Bool, true, false}
 use mathlib.Core.List.{List}
 use Prim.Native.Nat.{ℕ, _+_, _/_, _≤_, _<_}
@@ -9,7 +9,7 @@ use Rattle.buffers.specs.Fill.{put}
 use Rattle.buffers.proofs.Filling.{put-all}
 use Rattle.letters.specs.Code.{reverseComplement}
 use Rattle.letters.proofs.Codes.{reverseComplement-length}
-use Rattle.intervals.specs.Interval.{Interval, Canonical, Inside}
+use Rattle.intervals.specs.Interval.{Interval}
 use Rattle.intervals.specs.Merge.{merge, backwards}
 use Rattle.intervals.specs.Rows.{rows, Room, Rows}
 use Rattle.intervals.specs.Pick.{Mergeable}
@@ -18,15 +18,15 @@ use Rattle.intervals.proofs.Rows.{length-rows, rows-as}
 use Rattle.scans.specs.declared.Params.{Params}
 use Rattle.scans.specs.Setup.{Setup}
 use Rattle.strand.specs.Step.{intervalsOf}
-use Rattle.strand.specs.Sizes.{StrandSizes}
+use Rattle.strand.specs.Held.{Lent}
 use Rattle.strand.proofs.Theorems.{strand-room}
 use Rattle.longdust.specs.Mask.{maskOf}
 use Rattle.longdust.specs.Inner.{otherIntervals}
 use Rattle.longdust.proofs.Masks.{mask-room, mask-merged, others-shape}
 
-pub sizes-as : {p : Params} {n ln f q w s pl sc st en n′ q′ w′ s′ pl′ sc′ : ℕ} → StrandSizes p n ln f q w s pl sc st en
-    → n′ ≡ n → q′ ≡ q → w′ ≡ w → s′ ≡ s → pl′ ≡ pl → sc′ ≡ sc → StrandSizes p n′ ln f q′ w′ s′ pl′ sc′ st en
-sizes-as k en eq ew es ep ec = rw (en, eq, ew, es, ep, ec) k
+pub lent-as : {p : Params} {n ln f q w s pl sc st en n′ q′ w′ s′ pl′ sc′ : ℕ} → Lent p n ln f q w s pl sc st en
+    → n′ ≡ n → q′ ≡ q → w′ ≡ w → s′ ≡ s → pl′ ≡ pl → sc′ ≡ sc → Lent p n′ ln f q′ w′ s′ pl′ sc′ st en
+lent-as k en eq ew es ep ec = rw (en, eq, ew, es, ep, ec) k
 
 -- The reverse complement over a whole buffer.
 pub reversed-whole : (s d d′ : List ℕ) → d′ ≡ put (reverseComplement s) d → length d ≡ length s → d′ ≡ reverseComplement s

@@ -1,6 +1,6 @@
 -- Demand 3, mirror: the mask of the reverse complement is the mask read backwards, over the definition and for two requests of each call.
 -- Shape and evidence are fields of `Accepted`, in the contract of both calls.
-use mathlib.Core.Path.{_≡_, sym, ap, ap₂, _∙_, subst}
+use mathlib.Core.Path.{_≡_, sym, ap, ap₂, _∙_}
 use Prim.Native.Nat.{ℕ, _+_, _<_}
 use mathlib.Core.Bool.{Bool, false}
 use mathlib.Core.List.{List}
@@ -85,6 +85,6 @@ module _ (o : LongdustOptions) (s t : List ℕ) (both : o .«forward_only» ≡ 
   process-mirror A B ra rb =
       let w = o .«window_size» in
       let same : density (o .kmer) (o .gc) (codes t) ≡ density (o .kmer) (o .gc) (codes s) =
-          ap (λ (z : List ℕ). density (o .kmer) (o .gc) z) other ∙ density-reverseComplement (o .kmer) (o .gc) (codes s) in
+      ap (λ (z : List ℕ). density (o .kmer) (o .gc) z) other ∙ density-reverseComplement (o .kmer) (o .gc) (codes s) in
       mirror A B ra rb (filled-ln (B .tables rb) ∙ sym (filled-ln (A .tables ra)))
       (filled-f (B .tables rb) ∙ ap (λ (d : Density). fTable (o .kmer) w d) same ∙ sym (filled-f (A .tables ra)))

@@ -1,6 +1,6 @@
 -- The paper, 'Records' and 'Both strands': what the two calls answer and what they leave in the lent buffers.
 use mathlib.Core.Path.{_≡_}
-use mathlib.Core.Bool.{Bool, true, false}
+use mathlib.Core.Bool.{true, false}
 use mathlib.Core.List.{List}
 use Prim.Native.Nat.{ℕ, _+_, _^_, _/_, _<_}
 use lib.ListN.{length, take}

@@ -1,20 +1,17 @@
 -- The paper, 'Checking order': the checks as a list of number and test, read from the front; the first that fails decides.
-use Prim.Native.Nat.{ℕ, zero, suc, _+_, _^_, _/_}
-use mathlib.Core.Bool.{Bool, true, false, not, _&&_, _||_, cond}
+use Prim.Native.Nat.{ℕ, _+_, _^_, _/_}
+use mathlib.Core.Bool.{Bool, false, not, _&&_, _||_, cond}
 use mathlib.Core.List.{List, [], _∷_}
 use lib.Dec.{ltb, leb, eqb}
 use lib.ListN.{length}
-use lib.Ieee.{Float, inf, binary64, ofBits, lt, le}
-use Rattle.floats.specs.Binary64.{zero64}
+use lib.Ieee.{Float, inf, lt, le}
+use Rattle.floats.specs.Binary64.{zero64, one64}
 use Rattle.scans.specs.declared.Xdrop.{Xdrop}
 use Rattle.scans.specs.declared.Xdrop.the-variants.{Off, Length}
 use Rattle.tables.specs.declared.GcOption.{GcOption}
 use Rattle.tables.specs.declared.GcOption.the-variants.{Uniform, Fixed, Auto}
 use Rattle.longdust.specs.declared.LongdustOptions.{LongdustOptions}
 use Rattle.longdust.specs.declared.Lent.{Lent}
-
-abbrev pub one64 : Float
-one64 = ofBits binary64 0x3ff0_0000_0000_0000
 
 -- 1. k is outside 1..12.
 unfoldable pub kmerOutside : ℕ → Bool

@@ -10,7 +10,7 @@ use Rattle.scans.specs.declared.Params.{Params}
 use Rattle.scans.specs.Setup.{Setup, setupOf}
 use Rattle.strand.specs.Step.{intervalsOf}
 use Rattle.strand.specs.Range as ranges
-use Rattle.strand.specs.Sizes.{StrandSizes}
+use Rattle.strand.specs.Held.{Lent as StrandLent}
 use Rattle.longdust.specs.declared.LongdustOptions.{LongdustOptions}
 use Rattle.longdust.specs.declared.Lent.{Lent}
 use Rattle.longdust.specs.declared.Answer.{Answer}
@@ -62,8 +62,8 @@ otherIntervals S forward-only s = cond forward-only [] (intervalsOf S (reverseCo
 
 -- Both strands' buffers, at p's numbers and n letters.
 pub record Exact (p : Params) (n : ℕ) (b : Lent) : Type 0 where
-  pub forward : StrandSizes p n (b .ln) (b .f) (b .queue) (b .«window_counts») (b .«scan_counts») (b .places) (b .scores) (b .«forward_starts») (b .«forward_ends»)
-  pub reverse : StrandSizes p n (b .ln) (b .f) (b .queue) (b .«window_counts») (b .«scan_counts») (b .places) (b .scores) (b .«reverse_starts») (b .«reverse_ends»)
+  pub forward : StrandLent p n (b .ln) (b .f) (b .queue) (b .«window_counts») (b .«scan_counts») (b .places) (b .scores) (b .«forward_starts») (b .«forward_ends»)
+  pub reverse : StrandLent p n (b .ln) (b .f) (b .queue) (b .«window_counts») (b .«scan_counts») (b .places) (b .scores) (b .«reverse_starts») (b .«reverse_ends»)
   pub reverse-codes : b .«reverse_codes» ≡ n
   pub starts : (n + 1) / (p .kmer + 1) ≤ b .starts
   pub ends : (n + 1) / (p .kmer + 1) ≤ b .ends

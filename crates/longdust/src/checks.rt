@@ -3,7 +3,8 @@
 ghost use mathlib.Core.Path.{_≡_};
 ghost use Prim.Native.Nat.{_≤_};
 ghost use Rattle.longdust.specs.Checks.{kmerOutside, anyHigh, thresholdBad, gcBad, xdropBad, tooShort, refusal};
-use crate::{Lent, LongdustOptions};
+use crate::Lent;
+use crate::LongdustOptions;
 use scans::Xdrop;
 use tables::GcOption;
 

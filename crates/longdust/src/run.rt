@@ -6,11 +6,12 @@ ghost use lib.ListN.{length};
 ghost use Rattle.intervals.specs.Rows.{rows, Rows};
 ghost use Rattle.scans.specs.Setup.{setupOf};
 ghost use Rattle.strand.specs.Range.{tableInRange, inRange};
-ghost use Rattle.strand.specs.Sizes.{StrandSizes};
+ghost use Rattle.strand.specs.Held.{Lent};
 ghost use Rattle.longdust.specs.Mask.{maskOf};
 ghost use Rattle.longdust.specs.Call.{buffers, lengths};
 ghost use Rattle.longdust.specs.Inner.{Bounds, Admitted, Prepared, otherIntervals, Exact, Ran};
-use crate::{Answer, LongdustOptions};
+use crate::Answer;
+use crate::LongdustOptions;
 use scans::Params;
 
 // The numbers that a run goes by.
@@ -74,9 +75,12 @@ fn reverse_strand(
     reverse_starts: &mut [u32],
     reverse_ends: &mut [u32],
 ) -> usize
-    requires { ⌜ StrandSizes p (length (now encoded)) (length (now ln)) (length (now f)) (length (now queue)) (length (now «window_counts»)) (length (now «scan_counts»)) (length (now places)) (length (now scores)) (length (now «reverse_starts»)) (length (now «reverse_ends»)) ⌝ }
+    requires { ⌜ Lent p (length (now encoded)) (length (now ln)) (length (now f)) (length (now queue))
+        (length (now «window_counts»)) (length (now «scan_counts»)) (length (now places)) (length (now scores))
+        (length (now «reverse_starts»)) (length (now «reverse_ends»)) ⌝ }
     requires { ⌜ length (now «reverse_codes») ≡ length (now encoded) ⌝ }
-    ensures { λ r. ⌜ rows r (now («reverse_starts» .exit)) (now («reverse_ends» .exit)) ≡ otherIntervals (setupOf p (now (ln .entry)) (now (f .entry))) «forward_only» (now (encoded .entry)) ⌝ }
+    ensures { λ r. ⌜ rows r (now («reverse_starts» .exit)) (now («reverse_ends» .exit))
+        ≡ otherIntervals (setupOf p (now (ln .entry)) (now (f .entry))) «forward_only» (now (encoded .entry)) ⌝ }
 {
     if forward_only {
         return 0;
@@ -117,7 +121,11 @@ fn both_strands(
     starts: &mut [u32],
     ends: &mut [u32],
 ) -> usize
-    requires { ⌜ Exact p (length (now encoded)) (lengths (buffers (now ln) (now f) (now queue) (now «window_counts») (now «scan_counts») (now places) (now scores) (now encoded) (now «reverse_codes») (now «forward_starts») (now «forward_ends») (now «reverse_starts») (now «reverse_ends») (now starts) (now ends))) ⌝ }
+    requires { ⌜ Exact p (length (now encoded)) (lengths
+        (buffers (now ln) (now f) (now queue) (now «window_counts») (now «scan_counts»)
+        (now places) (now scores) (now encoded) (now «reverse_codes»)
+        (now «forward_starts») (now «forward_ends») (now «reverse_starts») (now «reverse_ends»)
+        (now starts) (now ends))) ⌝ }
     ensures { λ r. ⌜ Rows (maskOf (setupOf p (now (ln .entry)) (now (f .entry))) «forward_only» (now (encoded .entry)))
         (now (starts .entry)) (now (ends .entry)) (now (starts .exit)) (now (ends .exit)) r ⌝ }
 {
@@ -182,10 +190,20 @@ pub fn mask_encoded(
     starts: &mut [u32],
     ends: &mut [u32],
 ) -> Answer
-    requires { ⌜ Admitted options (length (now encoded)) (lengths (buffers (now ln) (now f) (now queue) (now «window_counts») (now «scan_counts») (now places) (now scores) (now encoded) (now «reverse_codes») (now «forward_starts») (now «forward_ends») (now «reverse_starts») (now «reverse_ends») (now starts) (now ends))) ⌝ }
+    requires { ⌜ Admitted options (length (now encoded)) (lengths
+        (buffers (now ln) (now f) (now queue) (now «window_counts») (now «scan_counts»)
+        (now places) (now scores) (now encoded) (now «reverse_codes»)
+        (now «forward_starts») (now «forward_ends») (now «reverse_starts») (now «reverse_ends»)
+        (now starts) (now ends))) ⌝ }
     ensures { λ r. ⌜ Ran options (now (encoded .entry))
-        (buffers (now (ln .entry)) (now (f .entry)) (now (queue .entry)) (now («window_counts» .entry)) (now («scan_counts» .entry)) (now (places .entry)) (now (scores .entry)) (now (encoded .entry)) (now («reverse_codes» .entry)) (now («forward_starts» .entry)) (now («forward_ends» .entry)) (now («reverse_starts» .entry)) (now («reverse_ends» .entry)) (now (starts .entry)) (now (ends .entry)))
-        (buffers (now (ln .exit)) (now (f .exit)) (now (queue .exit)) (now («window_counts» .exit)) (now («scan_counts» .exit)) (now (places .exit)) (now (scores .exit)) (now (encoded .exit)) (now («reverse_codes» .exit)) (now («forward_starts» .exit)) (now («forward_ends» .exit)) (now («reverse_starts» .exit)) (now («reverse_ends» .exit)) (now (starts .exit)) (now (ends .exit))) r ⌝ }
+        (buffers (now (ln .entry)) (now (f .entry)) (now (queue .entry)) (now («window_counts» .entry)) (now («scan_counts» .entry))
+        (now (places .entry)) (now (scores .entry)) (now (encoded .entry)) (now («reverse_codes» .entry))
+        (now («forward_starts» .entry)) (now («forward_ends» .entry)) (now («reverse_starts» .entry)) (now («reverse_ends» .entry))
+        (now (starts .entry)) (now (ends .entry)))
+        (buffers (now (ln .exit)) (now (f .exit)) (now (queue .exit)) (now («window_counts» .exit)) (now («scan_counts» .exit))
+        (now (places .exit)) (now (scores .exit)) (now (encoded .exit)) (now («reverse_codes» .exit))
+        (now («forward_starts» .exit)) (now («forward_ends» .exit)) (now («reverse_starts» .exit)) (now («reverse_ends» .exit))
+        (now (starts .exit)) (now (ends .exit))) r ⌝ }
 {
     let n = encoded.len();
     let k = options.kmer;

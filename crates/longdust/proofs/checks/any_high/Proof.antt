@@ -1,6 +1,7 @@
+-- `any_high`: the or of the bytes read, with the bytes left, tells. Assumes nothing.
 use mathlib.Core.Path.{_≡_, refl, sym, _∙_}
 use mathlib.Core.Bool.{_||_}
-use Prim.Native.Nat.{ℕ, _≤_, _<_, _-_}
+use Prim.Native.Nat.{_≤_, _<_, _-_}
 use native.Mathlib.Omega.{arith}
 use lib.Dec.{leb}
 use lib.Bits.{or-lt}

@@ -1,6 +1,6 @@
--- `call::check` meets its contract: after each test that is passed, the refusal is that of the checks left. Assumes nothing.
-use mathlib.Core.Path.{_≡_, refl, sym, _∙_}
-use Prim.Native.Nat.{ℕ, _≤_, _<_}
+-- `check`: after each test that is passed, the refusal is that of the checks left. Assumes nothing.
+use mathlib.Core.Path.{_≡_, sym, _∙_}
+use Prim.Native.Nat.{ℕ}
 use native.Mathlib.Omega.{arith}
 use borrow.Author.Needs.{needs}
 use borrow.Author.Tests.{lt-ltb, le-ltb}

@@ -1,3 +1,4 @@
+-- `gc_bad`: case by case. Assumes nothing.
 use mathlib.Core.Path.{sym, ap}
 use Rattle.longdust.specs.Checks.{gcBad}
 use borrow.Author.Needs.{needs}

@@ -1,3 +1,4 @@
+-- `threshold_bad`: the formula; 1.0 / 0.0 computes to infinity. Assumes nothing.
 use mathlib.Core.Path.{refl}
 use lib.Ieee.{div, ofBits}
 use Rattle.longdust.specs.Checks.{thresholdBad}

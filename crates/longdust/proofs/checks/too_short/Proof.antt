@@ -1,4 +1,4 @@
-use mathlib.Core.Path.{refl}
+-- `too_short`: size by size. Assumes nothing.
 use borrow.Author.Needs.{needs}
 use Rattle.longdust.specs.Checks.{tooShort}
 use Rattle.longdust.proofs.checks.too_short.Statement.{statement}

@@ -1,3 +1,4 @@
+-- `xdrop_bad`: case by case. Assumes nothing.
 use mathlib.Core.Path.{sym, ap}
 use Rattle.longdust.specs.Checks.{xdropBad}
 use borrow.Author.Needs.{needs}

@@ -1,4 +1,4 @@
-use mathlib.Core.Path.{refl}
+-- `in_range`: the formula. Assumes nothing.
 use borrow.Author.Needs.{needs}
 use Rattle.strand.specs.Range.{inRange}
 use Rattle.longdust.proofs.run.in_range.Statement.{statement}

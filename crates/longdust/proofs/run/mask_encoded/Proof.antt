@@ -1,5 +1,5 @@
 -- `mask_encoded`: the front of each buffer is lent to both strands, and the rest stays. Assumes nothing.
-use mathlib.Core.Path.{_≡_, refl, sym}
+use mathlib.Core.Path.{sym}
 use Prim.Native.Nat.{ℕ, _+_, _/_, _≤_}
 use native.Mathlib.Omega.{arith}
 use borrow.Author.Needs.{needs}
@@ -63,10 +63,13 @@ returned c =
 
 freed : (c : tie.After-both-strands)
     → Whole (start (counted c) .args .options) (letters (start (counted c))) (counted c .n-kmers .result) (entry (start (counted c))) (start (counted c) .pre) (counted c .n-kmers .ensures)
-      (back (start (counted c) .args .options .«window_size») (counted c .n-kmers .result) (letters (start (counted c))) (size (start (counted c))) (entry (start (counted c))) (left c))
+    (back (start (counted c) .args .options .«window_size») (counted c .n-kmers .result) (letters (start (counted c))) (size (start (counted c))) (entry (start (counted c))) (left c))
 freed c =
     let s = start (counted c) in
     whole (s .args .options) (letters s) (counted c .n-kmers .result) (entry s) (s .pre) (counted c .n-kmers .ensures) (left c) (returned c)
+
+abbrev done : tie.After-slice-known24 → tie.After-both-strands
+done c = c .before .before .before .before .before .before .before .before .before .before .before .before .before .before .before .before .before .before .before .before .before .before .before .before
 
 n-kmers-requires : tie.Need-n-kmers-requires
 n-kmers-requires c κs = search needs
@@ -185,44 +188,44 @@ both-strands-requires c κs =
     exact (s .args .options) (letters s) (k .n-kmers .result) (entry s) (s .pre) (k .n-kmers .ensures) (q .result) (prepared-kmer (q .ensures)) (prepared-window (q .ensures))
 
 same-length : tie.Need-same-length
-same-length c = freed (c .before .before .before .before .before .before .before .before .before .before .before .before .before .before .before .before .before .before .before .before .before .before .before .before) .queue .long
+same-length c = freed (done c) .queue .long
 
 same-length-2 : tie.Need-same-length-2
-same-length-2 c = freed (c .before .before .before .before .before .before .before .before .before .before .before .before .before .before .before .before .before .before .before .before .before .before .before .before) .window-counts .long
+same-length-2 c = freed (done c) .window-counts .long
 
 same-length-3 : tie.Need-same-length-3
-same-length-3 c = freed (c .before .before .before .before .before .before .before .before .before .before .before .before .before .before .before .before .before .before .before .before .before .before .before .before) .scan-counts .long
+same-length-3 c = freed (done c) .scan-counts .long
 
 same-length-4 : tie.Need-same-length-4
-same-length-4 c = freed (c .before .before .before .before .before .before .before .before .before .before .before .before .before .before .before .before .before .before .before .before .before .before .before .before) .places .long
+same-length-4 c = freed (done c) .places .long
 
 same-length-5 : tie.Need-same-length-5
-same-length-5 c = freed (c .before .before .before .before .before .before .before .before .before .before .before .before .before .before .before .before .before .before .before .before .before .before .before .before) .scores .long
+same-length-5 c = freed (done c) .scores .long
 
 same-length-6 : tie.Need-same-length-6
-same-length-6 c = freed (c .before .before .before .before .before .before .before .before .before .before .before .before .before .before .before .before .before .before .before .before .before .before .before .before) .reverse-codes .long
+same-length-6 c = freed (done c) .reverse-codes .long
 
 same-length-7 : tie.Need-same-length-7
-same-length-7 c = freed (c .before .before .before .before .before .before .before .before .before .before .before .before .before .before .before .before .before .before .before .before .before .before .before .before) .forward-starts .long
+same-length-7 c = freed (done c) .forward-starts .long
 
 same-length-8 : tie.Need-same-length-8
-same-length-8 c = freed (c .before .before .before .before .before .before .before .before .before .before .before .before .before .before .before .before .before .before .before .before .before .before .before .before) .forward-ends .long
+same-length-8 c = freed (done c) .forward-ends .long
 
 same-length-9 : tie.Need-same-length-9
-same-length-9 c = freed (c .before .before .before .before .before .before .before .before .before .before .before .before .before .before .before .before .before .before .before .before .before .before .before .before) .reverse-starts .long
+same-length-9 c = freed (done c) .reverse-starts .long
 
 same-length-10 : tie.Need-same-length-10
-same-length-10 c = freed (c .before .before .before .before .before .before .before .before .before .before .before .before .before .before .before .before .before .before .before .before .before .before .before .before) .reverse-ends .long
+same-length-10 c = freed (done c) .reverse-ends .long
 
 same-length-11 : tie.Need-same-length-11
-same-length-11 c = freed (c .before .before .before .before .before .before .before .before .before .before .before .before .before .before .before .before .before .before .before .before .before .before .before .before) .starts .long
+same-length-11 c = freed (done c) .starts .long
 
 same-length-12 : tie.Need-same-length-12
-same-length-12 c = freed (c .before .before .before .before .before .before .before .before .before .before .before .before .before .before .before .before .before .before .before .before .before .before .before .before) .ends .long
+same-length-12 c = freed (done c) .ends .long
 
 returns : tie.Need-returns
 returns c =
-    let t = c .before .before .before .before .before .before .before .before .before .before .before .before .before .before .before .before .before .before .before .before .before .before .before .before in
+    let t = done c in
     let k = counted t in
     let s = start k in
     let q = t .before .before .before .before .before .before .before .before .before .before .before .before .before .before .prepare in

@@ -1,12 +1,8 @@
 -- `reverse_strand`: no list in a forward-only run, else the run over the reverse complement. Assumes nothing.
-use mathlib.Core.Path.{_≡_, refl, sym, ap, _∙_}
-use mathlib.Core.List.{List}
-use Prim.Native.Nat.{ℕ}
-use lib.ListN.{length}
+use mathlib.Core.Path.{_≡_, refl, _∙_}
 use borrow.Author.Needs.{needs}
-use Rattle.intervals.specs.Rows.{rows}
 use Rattle.letters.specs.Code.{reverseComplement}
-use Rattle.longdust.proofs.Strands.{sizes-as, reversed-whole, other-none, other-some}
+use Rattle.longdust.proofs.Strands.{lent-as, reversed-whole, other-none, other-some}
 use Rattle.longdust.proofs.run.reverse_strand.Statement.{statement}
 use Rattle.longdust.proofs.run.reverse_strand.Tie as tie
 
@@ -27,7 +23,7 @@ reverse-complement-encoded-sequence-requires c κs = search needs
 inner-process-requires : tie.Need-inner-process-requires
 inner-process-requires c κs =
     let r = c .before .before .before .before .before .before .before .before .before .before in
-    sizes-as (start r .pre .0) (r .reverse-complement-encoded-sequence .kept .1 .0 ∙ start r .pre .1) refl refl refl refl refl
+    lent-as (start r .pre .0) (r .reverse-complement-encoded-sequence .kept .1 .0 ∙ start r .pre .1) refl refl refl refl refl
 
 same-length : tie.Need-same-length
 same-length c = search needs
