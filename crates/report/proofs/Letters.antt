@@ -7,7 +7,7 @@ use mathlib.Core.List.{List, [], _∷_, _++_, append-assoc, append-nil}
 use native.Mathlib.Numerals.{add-one}
 use native.Mathlib.Omega.{arith}
 use lib.Dec.{eqb}
-use lib.ListN.{length, take, drop, getD, set, length-set, take-append-drop, drop-of-length-le}
+use lib.ListN.{length, take, drop, getD, set, length-set, length-take, take-append-drop, drop-of-length-le}
 use lib.Seq.{drop-cons, drop-drop, drop-set-lt, length-take-le, take-all, take-append-le, take-suc-set}
 use borrow.Author.Tests.{eq-eqb, ne-eqb}
 use Rattle.report.specs.Letters.{lettersOf, kept, Kept}
@@ -84,6 +84,10 @@ module _ (bs d : List ℕ) (count : ℕ) (d′ : List ℕ) (at i : ℕ) (k : Kee
       ∙ ap (λ (l : List ℕ). take (length d) (take at d′ ++ lettersOf l)) (drop-of-length-le bs h)
       ∙ ap (λ (l : List ℕ). take (length d) l) (append-nil (take at d′))
       ∙ whole)
+
+pub kept-room : {bs d d′ : List ℕ} {count count′ : ℕ} → Kept bs d count d′ count′ → count′ ≤ length d
+unfolding kept
+kept-room {bs} {d} {d′} {count} k = omega (arith, k .count-is, length-take (length d) (take count d ++ lettersOf bs))
 
 letters-append : (bs cs : List ℕ) → lettersOf (bs ++ cs) ≡ lettersOf bs ++ lettersOf cs
 unfolding lettersOf

@@ -7,6 +7,7 @@ use native.Mathlib.Numerals.{add-one}
 use native.Mathlib.Omega.{arith}
 use lib.ListN.{length, take, drop, getD, set, length-append, length-set, take-append-drop}
 use lib.Seq.{take-at, drop-at, drop-drop, length-take-le, take-all, paste, paste-zero, paste-suc}
+use Rattle.io.specs.Counts.{Counts}
 use Rattle.report.specs.Written.{Fits, Written}
 
 -- Nothing was written yet.
@@ -79,3 +80,9 @@ fits-first xs ys h = record { room = omega (arith, length-append xs ys) }
 
 pub fits-next : {xs ys d d′ : List ℕ} {from at : ℕ} → Fits (xs ++ ys) d from → length d′ ≡ length d → Written xs d from d′ at → Fits ys d′ at
 fits-next {xs} {ys} h l w = record { room = omega (arith, length-append xs ys, w .end-is) }
+
+-- Both facts that lending what was written to the front asks.
+pub front-counts : {xs d d′ : List ℕ} {end : ℕ} → Written xs d 0 d′ end → Counts end d′
+front-counts {xs} {d} {d′} {end} w =
+    let e : end ≤ length d′ = omega (arith, w .end-is, ap (λ (l : List ℕ). length l) (w .text-is), length-append xs (drop end d)) in
+    (e, sym (length-take-le end d′ e))

@@ -1,0 +1,75 @@
+-- What is printed in each case of a run, and that it fits a text of 49,167 bytes: 4,096 lines of 12 bytes and the count's line of 15. Assumes nothing.
+use Prim.Native.Nat.{ℕ, zero, suc, _≤_, _<_}
+use mathlib.Core.Path.{_≡_, refl, sym, ap, subst, _∙_}
+use mathlib.Core.Logic.{⊎-elim}
+use mathlib.Core.List.{List, []}
+use native.Mathlib.Omega.{arith}
+use lib.ListN.{length, take, length-append}
+use lib.Seq.{length-take-le, take-all}
+use borrow.Author.Tests.{lt-ltb, le-ltb}
+use Rattle.intervals.specs.Interval.{Interval, Canonical}
+use Rattle.intervals.specs.Rows.{rows, Room}
+use Rattle.intervals.proofs.Rows.{length-rows}
+use Rattle.intervals.proofs.Shape.{ascending-inside, canonical-room}
+use Rattle.intervals.proofs.Order.{lt-or-le}
+use Rattle.report.specs.Letters.{lettersOf, kept}
+use Rattle.report.specs.Text.{report, refusalLine, sizeLine}
+use Rattle.report.specs.Written.{Fits}
+use Rattle.report.proofs.Decimal.{length-decimal}
+use Rattle.report.proofs.Lines.{length-report}
+use Rattle.contig.specs.declared.Outcome.{Outcome}
+use Rattle.contig.specs.Run.{refusalOf, maskOf, unless, Ran}
+use Rattle.contig.specs.Printed.{answered, printed}
+
+pub too-many : (s : List ℕ) → 32768 < length s → sizeLine ≡ printed s
+unfolding printed
+too-many s h = rw (lt-ltb 32768 (length s) h)
+
+few : (s : List ℕ) → length s ≤ 32768 → answered (refusalOf s) (maskOf s) ≡ printed s
+unfolding printed
+few s h = rw (le-ltb 32768 (length s) h)
+
+pub refusal-fits : (n : ℕ) (d : List ℕ) → n < 4294967296 → 49167 ≤ length d → Fits (refusalLine n) d 0
+refusal-fits n d h l = record { room = simp length-append (omega (arith, length-decimal n 10 (omega arith) (omega arith))) }
+
+module _ {s starts ends starts′ ends′ : List ℕ} {r : Outcome} (few-letters : length s ≤ 32768) (run : Ran s starts ends starts′ ends′ r) where
+  pub refused : 0 < r .refusal → refusalLine (r .refusal) ≡ printed s
+  refused h = go (refusalOf s) (run .number) ∙ few s few-letters
+    where
+      go : (n : ℕ) → r .refusal ≡ n → refusalLine (r .refusal) ≡ answered n (maskOf s)
+      go zero e = absurd (omega arith)
+      go (suc n) e = ap refusalLine e
+
+  pub accepted : r .refusal ≡ 0 → report (rows (r .count) starts′ ends′) ≡ printed s
+  accepted h = ap report (run .list .list-is) ∙ go (refusalOf s) (sym (run .number) ∙ h) ∙ few s few-letters
+    where
+      go : (n : ℕ) → n ≡ 0 → report (unless n (maskOf s)) ≡ answered n (maskOf s)
+      go zero e = refl
+      go (suc n) e = absurd (omega arith)
+
+  shape : Canonical (length s) 7 (rows (r .count) starts′ ends′)
+  shape = subst (λ (is : List Interval). Canonical (length s) 7 is) (sym (run .list .list-is)) (run .shape)
+
+  count-small : r .count ≤ 4096
+  count-small = omega (arith, canonical-room (length s) 7 (rows (r .count) starts′ ends′) shape, length-rows starts′ ends′ (r .count))
+
+  pub count-room : length starts′ ≡ 4096 → length ends′ ≡ 4096 → Room (r .count) starts′ ends′
+  count-room ls le = let h = count-small in (omega arith, omega arith)
+
+  pub report-fits : (d : List ℕ) → 49167 ≤ length d → Fits (report (rows (r .count) starts′ ends′)) d 0
+  report-fits d l =
+      let is : List Interval = rows (r .count) starts′ ends′ in
+      let c : length is ≡ r .count = length-rows starts′ ends′ (r .count) in
+      let h = count-small in
+      record { room = omega (arith, length-report (length s) is (omega arith) (ascending-inside (length s) 7 0 is shape) (omega arith)) }
+
+-- A buffer for more than 32,768 letters loses none that matter.
+pub printed-kept : (size : ℕ) (bytes : List ℕ) → 32768 < size → printed (kept size [] bytes) ≡ printed (lettersOf bytes)
+unfolding kept
+printed-kept size bytes h =
+    ⊎-elim
+    (λ (more : size < length (lettersOf bytes)).
+    let l : length (take size (lettersOf bytes)) ≡ size = length-take-le size (lettersOf bytes) (omega arith) in
+    sym (too-many (take size (lettersOf bytes)) (omega arith)) ∙ too-many (lettersOf bytes) (omega arith))
+    (λ (all : length (lettersOf bytes) ≤ size). ap printed (take-all size (lettersOf bytes) all))
+    (lt-or-le size (length (lettersOf bytes)))

@@ -1,0 +1,56 @@
+-- The paper, 'Tables and the program': the run of the program `track` on its letters.
+use Prim.Native.Nat.{ℕ, zero, suc}
+use mathlib.Core.Path.{_≡_}
+use mathlib.Core.List.{List, []}
+use lib.ListN.{length}
+use Rattle.letters.specs.Code.{codes}
+use Rattle.intervals.specs.Interval.{Interval, Canonical}
+use Rattle.intervals.specs.Rows.{Rows}
+use Rattle.tables.specs.declared.GcOption.the-variants.{Uniform}
+use Rattle.tables.specs.Density.{density}
+use Rattle.tables.specs.Tables.{lnTable, fTable}
+use Rattle.longdust.specs.declared.Lent.{Lent}
+use Rattle.longdust.specs.Options.{defaults}
+use Rattle.longdust.specs.Checks.{refusal}
+use Rattle.longdust.specs.Mask.{mask}
+use Rattle.contig.specs.declared.Outcome.{Outcome}
+
+-- The buffers' sizes for 32,768 letters, k = 7 and w = 5,000.
+abbrev pub lent : Lent
+lent =
+    record {
+      ln = 5001;
+      f = 5002;
+      queue = 5000;
+      «window_counts» = 16384;
+      «scan_counts» = 16384;
+      places = 5000;
+      scores = 5000;
+      codes = 32768;
+      «reverse_codes» = 32768;
+      «forward_starts» = 4096;
+      «forward_ends» = 4096;
+      «reverse_starts» = 4096;
+      «reverse_ends» = 4096;
+      starts = 4096;
+      ends = 4096;
+    }
+
+-- The refusal number of the letters s, 0 if they are accepted.
+unfoldable pub refusalOf : List ℕ → ℕ
+refusalOf s = refusal defaults s lent
+
+-- The mask of the letters s, by the tables that the formulas give for k = 7 and w = 5,000.
+unfoldable pub maskOf : List ℕ → List Interval
+maskOf s = mask defaults s (lnTable 5000) (fTable 7 5000 (density 7 Uniform (codes s)))
+
+-- No interval for a refused request.
+abbrev pub unless : ℕ → List Interval → List Interval
+unless zero is = is
+unless (suc number) is = []
+
+-- The run on the letters s left its list in starts and ends.
+pub record Ran (s starts ends starts′ ends′ : List ℕ) (r : Outcome) : Type 0 where
+  pub number : r .refusal ≡ refusalOf s
+  pub list : Rows (unless (refusalOf s) (maskOf s)) starts ends starts′ ends′ (r .count)
+  pub shape : Canonical (length s) 7 (unless (refusalOf s) (maskOf s))

@@ -1,0 +1,42 @@
+-- An answer of either call: its count is small, and it is what the exported call answers. Assumes nothing.
+use Prim.Native.Nat.{ℕ, zero, suc, _+_, _/_, _≤_, _<_}
+use mathlib.Core.Path.{_≡_, refl, sym, subst, _∙_}
+use mathlib.Core.List.{List}
+use native.Mathlib.Nat.{div-le-self}
+use native.Mathlib.Omega.{arith}
+use lib.IntN.{ℤ}
+use lib.ListN.{length}
+use mir.Syntax.{w64}
+use mir.Val.{SFits, toZ, ofZ}
+use mir.ValLaws.{toZ-ofZ}
+use Rattle.intervals.specs.Rows.{rows}
+use Rattle.intervals.proofs.Rows.{length-rows}
+use Rattle.intervals.proofs.Shape.{canonical-room}
+use Rattle.longdust.specs.declared.LongdustOptions.{LongdustOptions}
+use Rattle.longdust.specs.declared.Answer.{Answer}
+use Rattle.longdust.specs.Call.{Buffers, lengths, Answered}
+use Rattle.longdust.proofs.Accept.{admitted}
+use Rattle.longdust_c.specs.Exported.{countOr, flag, Exported}
+
+module _ {Tables : LongdustOptions → List ℕ → Buffers → Buffers → Type 0} {o : LongdustOptions} {s : List ℕ} {b b′ : Buffers} {a : Answer} (r : Answered Tables o s b b′ a) where
+  pub count-small : a .count < 9223372036854775808
+  count-small = go (a .refusal) refl
+    where
+      go : (n : ℕ) → a .refusal ≡ n → a .count < 9223372036854775808
+      go zero e =
+          let letters : length s ≤ 2147483647 = admitted o s (lengths b) (sym (r .number) ∙ e) .letters-high in
+          let room : length (rows (a .count) (b′ .starts) (b′ .ends)) ≤ (length s + 1) / (o .kmer + 1) =
+              canonical-room (length s) (o .kmer) (rows (a .count) (b′ .starts) (b′ .ends)) (r .accepted e .shape) in
+          omega (arith, length-rows (b′ .starts) (b′ .ends) (a .count), div-le-self (length s + 1) (o .kmer + 1))
+      go (suc n) e = omega (arith, r .refused (omega arith) .count)
+
+  -- The number comes back through the machine's bits.
+  pub exported : {o′ : LongdustOptions} {z : ℤ} {in-range : ℕ} → o ≡ o′ → SFits w64 z → z ≡ countOr (a .refusal) (a .count) → in-range ≡ flag (a .«in_range»)
+      → Exported Tables o′ s b b′ (toZ w64 (ofZ w64 z)) in-range
+  exported {o′} {z} e h c f =
+      record {
+        answer = a;
+        answered = subst (λ (p : LongdustOptions). Answered Tables p s b b′ a) e r;
+        result-is = toZ-ofZ w64 z h ∙ c;
+        flag-is = f;
+      }

@@ -1,0 +1,21 @@
+-- `gc_of` meets its contract: each return is a case of the definition. Assumes nothing.
+use borrow.Author.Tests.{eq-eqb, ne-eqb}
+use lib.Ieee.{ofBits, div}
+use Rattle.longdust_c.proofs.gc_of.Statement.{statement}
+use Rattle.longdust_c.proofs.gc_of.Tie as tie
+
+returns : tie.Need-returns
+returns c = rw (eq-eqb _ 0 (c .if1 .taken))
+
+returns-2 : tie.Need-returns-2
+returns-2 c = rw (ne-eqb _ 0 (c .before .if1 .left), eq-eqb _ 1 (c .if2 .taken))
+
+returns-3 : tie.Need-returns-3
+returns-3 c = rw (ne-eqb _ 0 (c .before .before .if1 .left), ne-eqb _ 1 (c .before .if2 .left), eq-eqb _ 2 (c .if3 .taken))
+
+returns-4 : tie.Need-returns-4
+unfolding ofBits div
+returns-4 c = rw (ne-eqb _ 0 (c .before .before .if1 .left), ne-eqb _ 1 (c .before .if2 .left), ne-eqb _ 2 (c .if3 .left))
+
+pub gc-of-spec : {M : Type 1} → statement M
+gc-of-spec = tie.close (tie.spec returns returns-2 returns-3 returns-4)

@@ -1,0 +1,13 @@
+-- `xdrop_of` meets its contract: each return is a case of the definition. Assumes nothing.
+use borrow.Author.Tests.{eq-eqb, ne-eqb}
+use Rattle.longdust_c.proofs.xdrop_of.Statement.{statement}
+use Rattle.longdust_c.proofs.xdrop_of.Tie as tie
+
+returns : tie.Need-returns
+returns c = rw (eq-eqb _ 0 (c .if1 .taken))
+
+returns-2 : tie.Need-returns-2
+returns-2 c = rw (ne-eqb _ 0 (c .if1 .left))
+
+pub xdrop-of-spec : {M : Type 1} → statement M
+xdrop-of-spec = tie.close (tie.spec returns returns-2)
