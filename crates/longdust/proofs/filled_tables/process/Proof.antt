@@ -61,9 +61,10 @@ at-fill c = c .before .before .before .before .before .before .before .before .b
 -- The buffers as the run leaves them.
 abbrev left : tie.After-mask-encoded → Buffers
 left c =
-    buffers ((at-fill c) .fill-tables .last .0) ((at-fill c) .fill-tables .last .1 .0) (c .mask-encoded .last .1 .1 .1 .1 .0) (c .mask-encoded .last .1 .1 .1 .1 .1 .0) (c .mask-encoded .last .1 .1 .1 .1 .1 .1 .0) (c .mask-encoded .last .1 .1 .1 .1 .1 .1 .1 .0)
-    (c .mask-encoded .last .1 .1 .1 .1 .1 .1 .1 .1 .0) (part (at-encode (at-fill c))) (c .mask-encoded .last .1 .1 .1 .1 .1 .1 .1 .1 .1 .0) (c .mask-encoded .last .1 .1 .1 .1 .1 .1 .1 .1 .1 .1 .0) (c .mask-encoded .last .1 .1 .1 .1 .1 .1 .1 .1 .1 .1 .1 .0)
-    (c .mask-encoded .last .1 .1 .1 .1 .1 .1 .1 .1 .1 .1 .1 .1 .0) (c .mask-encoded .last .1 .1 .1 .1 .1 .1 .1 .1 .1 .1 .1 .1 .1 .0) (c .mask-encoded .last .1 .1 .1 .1 .1 .1 .1 .1 .1 .1 .1 .1 .1 .1 .0) (c .mask-encoded .last .1 .1 .1 .1 .1 .1 .1 .1 .1 .1 .1 .1 .1 .1 .1 .0)
+    let l = c .mask-encoded .last .1 .1 .1 .1 in
+    let m = l .1 .1 .1 .1 .1 .1 in
+    buffers (at-fill c .fill-tables .last .0) (at-fill c .fill-tables .last .1 .0) (l .0) (l .1 .0) (l .1 .1 .0) (l .1 .1 .1 .0) (l .1 .1 .1 .1 .0)
+    (part (at-encode (at-fill c))) (l .1 .1 .1 .1 .1 .0) (m .0) (m .1 .0) (m .1 .1 .0) (m .1 .1 .1 .0) (m .1 .1 .1 .1 .0) (m .1 .1 .1 .1 .1 .0)
 
 abbrev done : tie.After-slice-known30 → tie.After-mask-encoded
 done c = c .before .before .before .before .before .before .before .before .before .before .before .before .before .before .before .before .before .before .before .before .before .before .before .before

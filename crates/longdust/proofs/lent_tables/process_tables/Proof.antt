@@ -55,9 +55,10 @@ at-encode c = c .before .before .before .before .before .before .before .before 
 -- The buffers as the run leaves them.
 abbrev left : tie.After-mask-encoded → Buffers
 left c =
-    buffers (start (at-if (at-encode c)) .args .ln .now) (start (at-if (at-encode c)) .args .f .now) (c .mask-encoded .last .1 .1 .1 .1 .0) (c .mask-encoded .last .1 .1 .1 .1 .1 .0) (c .mask-encoded .last .1 .1 .1 .1 .1 .1 .0) (c .mask-encoded .last .1 .1 .1 .1 .1 .1 .1 .0)
-    (c .mask-encoded .last .1 .1 .1 .1 .1 .1 .1 .1 .0) (part (at-encode c)) (c .mask-encoded .last .1 .1 .1 .1 .1 .1 .1 .1 .1 .0) (c .mask-encoded .last .1 .1 .1 .1 .1 .1 .1 .1 .1 .1 .0) (c .mask-encoded .last .1 .1 .1 .1 .1 .1 .1 .1 .1 .1 .1 .0)
-    (c .mask-encoded .last .1 .1 .1 .1 .1 .1 .1 .1 .1 .1 .1 .1 .0) (c .mask-encoded .last .1 .1 .1 .1 .1 .1 .1 .1 .1 .1 .1 .1 .1 .0) (c .mask-encoded .last .1 .1 .1 .1 .1 .1 .1 .1 .1 .1 .1 .1 .1 .1 .0) (c .mask-encoded .last .1 .1 .1 .1 .1 .1 .1 .1 .1 .1 .1 .1 .1 .1 .1 .0)
+    let l = c .mask-encoded .last .1 .1 .1 .1 in
+    let m = l .1 .1 .1 .1 .1 .1 in
+    buffers (start (at-if (at-encode c)) .args .ln .now) (start (at-if (at-encode c)) .args .f .now) (l .0) (l .1 .0) (l .1 .1 .0) (l .1 .1 .1 .0) (l .1 .1 .1 .1 .0)
+    (part (at-encode c)) (l .1 .1 .1 .1 .1 .0) (m .0) (m .1 .0) (m .1 .1 .0) (m .1 .1 .1 .0) (m .1 .1 .1 .1 .0) (m .1 .1 .1 .1 .1 .0)
 
 abbrev done : tie.After-slice-known26 → tie.After-mask-encoded
 done c = c .before .before .before .before .before .before .before .before .before .before .before .before .before .before .before .before .before .before .before .before .before .before .before .before

@@ -18,7 +18,8 @@ by s = setupOf (s .args .p) (s .args .ln .now) (s .args .f .now)
 
 scanned : (c : tie.After-reverse-strand)
     → Scanned (by (start (forward c))) (start (forward c) .args .forward-only) (start (forward c) .args .encoded .now)
-    (forward c .inner-process .last .1 .1 .1 .1 .1 .1 .1 .1 .1 .0) (forward c .inner-process .last .1 .1 .1 .1 .1 .1 .1 .1 .1 .1 .0) (c .reverse-strand .last .1 .1 .1 .1 .1 .1 .1 .1 .1 .1 .1 .0) (c .reverse-strand .last .1 .1 .1 .1 .1 .1 .1 .1 .1 .1 .1 .1 .0)
+    (forward c .inner-process .last .1 .1 .1 .1 .1 .1 .1 .1 .1 .0) (forward c .inner-process .last .1 .1 .1 .1 .1 .1 .1 .1 .1 .1 .0)
+    (c .reverse-strand .last .1 .1 .1 .1 .1 .1 .1 .1 .1 .1 .1 .0) (c .reverse-strand .last .1 .1 .1 .1 .1 .1 .1 .1 .1 .1 .1 .1 .0)
     (forward c .inner-process .result) (c .reverse-strand .result)
 scanned c =
     record { some = start (forward c) .pre .forward .kmer-some; forward = forward c .inner-process .ensures; reverse = c .reverse-strand .ensures }

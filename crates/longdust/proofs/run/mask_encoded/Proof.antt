@@ -39,26 +39,32 @@ counted c = c .before .before .before .before .before .before .before .before .b
 
 abbrev left : tie.After-both-strands → Buffers
 left c =
-    buffers (start (counted c) .args .ln .now) (start (counted c) .args .f .now) (c .both-strands .last .1 .1 .1 .1 .1 .0) (c .both-strands .last .1 .1 .1 .1 .1 .1 .0) (c .both-strands .last .1 .1 .1 .1 .1 .1 .1 .0)
-    (c .both-strands .last .1 .1 .1 .1 .1 .1 .1 .1 .0) (c .both-strands .last .1 .1 .1 .1 .1 .1 .1 .1 .1 .0) (start (counted c) .args .encoded .now) (c .both-strands .last .1 .1 .1 .1 .1 .1 .1 .1 .1 .1 .0) (c .both-strands .last .1 .1 .1 .1 .1 .1 .1 .1 .1 .1 .1 .0)
-    (c .both-strands .last .1 .1 .1 .1 .1 .1 .1 .1 .1 .1 .1 .1 .0) (c .both-strands .last .1 .1 .1 .1 .1 .1 .1 .1 .1 .1 .1 .1 .1 .0) (c .both-strands .last .1 .1 .1 .1 .1 .1 .1 .1 .1 .1 .1 .1 .1 .1 .0) (c .both-strands .last .1 .1 .1 .1 .1 .1 .1 .1 .1 .1 .1 .1 .1 .1 .1 .0) (c .both-strands .last .1 .1 .1 .1 .1 .1 .1 .1 .1 .1 .1 .1 .1 .1 .1 .1 .0)
+    let a = start (counted c) .args in
+    let l = c .both-strands .last .1 .1 .1 .1 .1 in
+    let m = l .1 .1 .1 .1 .1 .1 in
+    buffers (a .ln .now) (a .f .now) (l .0) (l .1 .0) (l .1 .1 .0) (l .1 .1 .1 .0) (l .1 .1 .1 .1 .0) (a .encoded .now) (l .1 .1 .1 .1 .1 .0)
+    (m .0) (m .1 .0) (m .1 .1 .0) (m .1 .1 .1 .0) (m .1 .1 .1 .1 .0) (m .1 .1 .1 .1 .1 .0)
 
 returned : (c : tie.After-both-strands)
-    → Returned (fronts (start (counted c) .args .options .«window_size») (counted c .n-kmers .result) (letters (start (counted c))) (size (start (counted c))) (entry (start (counted c)))) (left c)
+    → Returned
+    (fronts (start (counted c) .args .options .«window_size») (counted c .n-kmers .result) (letters (start (counted c))) (size (start (counted c))) (entry (start (counted c))))
+    (left c)
 returned c =
+    let k = c .both-strands .kept .1 .1 .1 .1 .1 in
+    let m = k .1 .1 .1 .1 .1 .1 in
     record {
-      queue = c .both-strands .kept .1 .1 .1 .1 .1 .0;
-      window-counts = c .both-strands .kept .1 .1 .1 .1 .1 .1 .0;
-      scan-counts = c .both-strands .kept .1 .1 .1 .1 .1 .1 .1 .0;
-      places = c .both-strands .kept .1 .1 .1 .1 .1 .1 .1 .1 .0;
-      scores = c .both-strands .kept .1 .1 .1 .1 .1 .1 .1 .1 .1 .0;
-      reverse-codes = c .both-strands .kept .1 .1 .1 .1 .1 .1 .1 .1 .1 .1 .0;
-      forward-starts = c .both-strands .kept .1 .1 .1 .1 .1 .1 .1 .1 .1 .1 .1 .0;
-      forward-ends = c .both-strands .kept .1 .1 .1 .1 .1 .1 .1 .1 .1 .1 .1 .1 .0;
-      reverse-starts = c .both-strands .kept .1 .1 .1 .1 .1 .1 .1 .1 .1 .1 .1 .1 .1 .0;
-      reverse-ends = c .both-strands .kept .1 .1 .1 .1 .1 .1 .1 .1 .1 .1 .1 .1 .1 .1 .0;
-      starts = c .both-strands .kept .1 .1 .1 .1 .1 .1 .1 .1 .1 .1 .1 .1 .1 .1 .1 .0;
-      ends = c .both-strands .kept .1 .1 .1 .1 .1 .1 .1 .1 .1 .1 .1 .1 .1 .1 .1 .1 .0;
+      queue = k .0;
+      window-counts = k .1 .0;
+      scan-counts = k .1 .1 .0;
+      places = k .1 .1 .1 .0;
+      scores = k .1 .1 .1 .1 .0;
+      reverse-codes = k .1 .1 .1 .1 .1 .0;
+      forward-starts = m .0;
+      forward-ends = m .1 .0;
+      reverse-starts = m .1 .1 .0;
+      reverse-ends = m .1 .1 .1 .0;
+      starts = m .1 .1 .1 .1 .0;
+      ends = m .1 .1 .1 .1 .1 .0;
     }
 
 freed : (c : tie.After-both-strands)
