@@ -1,0 +1,50 @@
+-- `replay::call::call` is safe: each of the two calls keeps the length of what it is lent. Assumes nothing.
+use mathlib.Core.Path.{refl}
+use Rattle.replay.proofs.call.call.Statement.{statement}
+use Rattle.replay.proofs.call.call.Tie as tie
+
+-- After each of the two calls.
+abbrev tables : tie.After-slice-known28 → tie.After-process-tables
+tables c = c .before .before .before .before .before .before .before .before .before .before .before .before .before .before .before .before .before .before .before .before .before .before .before .before .before .before
+
+abbrev filling : tie.After-slice-known43 → tie.After-process
+filling c = c .before .before .before .before .before .before .before .before .before .before .before .before .before .before .before .before .before .before .before .before .before .before .before .before .before .before .before .before .before .before
+
+pub call-spec : {M : Type 1} → statement M
+call-spec =
+    tie.close
+    (tie.spec
+    (λ c κs. tt)
+    (λ c. refl)
+    (λ c. refl)
+    (λ c. tables c .process-tables .kept .1 .1 .1 .1 .0)
+    (λ c. tables c .process-tables .kept .1 .1 .1 .1 .1 .0)
+    (λ c. tables c .process-tables .kept .1 .1 .1 .1 .1 .1 .0)
+    (λ c. tables c .process-tables .kept .1 .1 .1 .1 .1 .1 .1 .0)
+    (λ c. tables c .process-tables .kept .1 .1 .1 .1 .1 .1 .1 .1 .0)
+    (λ c. tables c .process-tables .kept .1 .1 .1 .1 .1 .1 .1 .1 .1 .0)
+    (λ c. tables c .process-tables .kept .1 .1 .1 .1 .1 .1 .1 .1 .1 .1 .0)
+    (λ c. tables c .process-tables .kept .1 .1 .1 .1 .1 .1 .1 .1 .1 .1 .1 .0)
+    (λ c. tables c .process-tables .kept .1 .1 .1 .1 .1 .1 .1 .1 .1 .1 .1 .1 .0)
+    (λ c. tables c .process-tables .kept .1 .1 .1 .1 .1 .1 .1 .1 .1 .1 .1 .1 .1 .0)
+    (λ c. tables c .process-tables .kept .1 .1 .1 .1 .1 .1 .1 .1 .1 .1 .1 .1 .1 .1 .0)
+    (λ c. tables c .process-tables .kept .1 .1 .1 .1 .1 .1 .1 .1 .1 .1 .1 .1 .1 .1 .1 .0)
+    (λ c. tables c .process-tables .kept .1 .1 .1 .1 .1 .1 .1 .1 .1 .1 .1 .1 .1 .1 .1 .1 .0)
+    (λ c. tt)
+    (λ c κs. tt)
+    (λ c. filling c .process .kept .1 .1 .0)
+    (λ c. filling c .process .kept .1 .1 .1 .0)
+    (λ c. filling c .process .kept .1 .1 .1 .1 .0)
+    (λ c. filling c .process .kept .1 .1 .1 .1 .1 .0)
+    (λ c. filling c .process .kept .1 .1 .1 .1 .1 .1 .0)
+    (λ c. filling c .process .kept .1 .1 .1 .1 .1 .1 .1 .0)
+    (λ c. filling c .process .kept .1 .1 .1 .1 .1 .1 .1 .1 .0)
+    (λ c. filling c .process .kept .1 .1 .1 .1 .1 .1 .1 .1 .1 .0)
+    (λ c. filling c .process .kept .1 .1 .1 .1 .1 .1 .1 .1 .1 .1 .0)
+    (λ c. filling c .process .kept .1 .1 .1 .1 .1 .1 .1 .1 .1 .1 .1 .0)
+    (λ c. filling c .process .kept .1 .1 .1 .1 .1 .1 .1 .1 .1 .1 .1 .1 .0)
+    (λ c. filling c .process .kept .1 .1 .1 .1 .1 .1 .1 .1 .1 .1 .1 .1 .1 .0)
+    (λ c. filling c .process .kept .1 .1 .1 .1 .1 .1 .1 .1 .1 .1 .1 .1 .1 .1 .0)
+    (λ c. filling c .process .kept .1 .1 .1 .1 .1 .1 .1 .1 .1 .1 .1 .1 .1 .1 .1 .0)
+    (λ c. filling c .process .kept .1 .1 .1 .1 .1 .1 .1 .1 .1 .1 .1 .1 .1 .1 .1 .1 .0)
+    (λ c. tt))

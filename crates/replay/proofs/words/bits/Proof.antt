@@ -1,0 +1,34 @@
+-- `replay::words::bits` is safe: a shift is below 64, since at most 16 digits are taken. Assumes nothing.
+use Prim.Native.Nat.{_-_, _≤_}
+use borrow.Author.Needs.{needs}
+use lib.ListN.{length}
+use Rattle.replay.proofs.words.bits.Statement.{statement}
+use Rattle.replay.proofs.words.bits.Tie as tie
+
+abbrev Inv-loop : tie.InvT-loop
+Inv-loop text c from at₀ word₀ left₀ at word left = left ≤ 16
+
+abbrev μ-loop : tie.MeasureT-loop
+μ-loop text c from at₀ word₀ left₀ at word left = length text - at
+
+pub bits-spec : {M : Type 1} → statement M
+bits-spec =
+    tie.close
+    (tie.spec
+    Inv-loop
+    μ-loop
+    (λ c. search needs)
+    (λ c. search needs)
+    (λ c κs. search needs)
+    (λ c κs. search needs)
+    (λ c. search needs)
+    (λ c κs. search needs)
+    (λ c. search needs)
+    (λ c. search needs)
+    (λ c. search needs)
+    (λ c. search needs)
+    (λ c. search needs)
+    (λ c. search needs)
+    (λ c. search needs)
+    (λ c κs. search needs)
+    (λ c. search needs))

@@ -1,0 +1,33 @@
+-- `replay::words::number` meets its contract: what is read so far is at most `most`. Assumes nothing.
+use Prim.Native.Nat.{_-_, _≤_}
+use borrow.Author.Needs.{needs}
+use lib.ListN.{length}
+use Rattle.replay.proofs.words.number.Statement.{statement}
+use Rattle.replay.proofs.words.number.Tie as tie
+
+abbrev Inv-loop : tie.InvT-loop
+Inv-loop text c most from at₀ word₀ at word = word ≤ most
+
+abbrev μ-loop : tie.MeasureT-loop
+μ-loop text c most from at₀ word₀ at word = length text - at
+
+pub number-spec : {M : Type 1} → statement M
+number-spec =
+    tie.close
+    (tie.spec
+    Inv-loop
+    μ-loop
+    (λ c. search needs)
+    (λ c. search needs)
+    (λ c κs. search needs)
+    (λ c κs. search needs)
+    (λ c. search needs)
+    (λ c. search needs)
+    (λ c. search needs)
+    (λ c κs. search needs)
+    (λ c. search needs)
+    (λ c. search needs)
+    (λ c. search needs)
+    (λ c. search needs)
+    (λ c κs. search needs)
+    (λ c. search needs))
