@@ -26,7 +26,7 @@ module _ {Tables : LongdustOptions → List ℕ → Buffers → Buffers → Type
       go zero e =
           let letters : length s ≤ 2147483647 = admitted o s (lengths b) (sym (r .number) ∙ e) .letters-high in
           let room : length (rows (a .count) (b′ .starts) (b′ .ends)) ≤ (length s + 1) / (o .kmer + 1) =
-              canonical-room (length s) (o .kmer) (rows (a .count) (b′ .starts) (b′ .ends)) (r .accepted e .shape) in
+          canonical-room (length s) (o .kmer) (rows (a .count) (b′ .starts) (b′ .ends)) (r .accepted e .shape) in
           omega (arith, length-rows (b′ .starts) (b′ .ends) (a .count), div-le-self (length s + 1) (o .kmer + 1))
       go (suc n) e = omega (arith, r .refused (omega arith) .count)
 

@@ -4,7 +4,8 @@ ghost use mathlib.Core.Path.{_≡_};
 ghost use Prim.Native.Nat.{_<_};
 ghost use Rattle.longdust.specs.Call.{buffers, Kept, Filled};
 ghost use Rattle.longdust_c.specs.Exported.{gcOf, xdropOf, optionsOf, countOr, flag, Exported};
-use longdust::{Answer, LongdustOptions};
+use longdust::Answer;
+use longdust::LongdustOptions;
 use scans::Xdrop;
 use tables::GcOption;
 

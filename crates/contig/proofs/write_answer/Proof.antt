@@ -51,8 +51,7 @@ write-report-requires : tie.Need-write-report-requires
 write-report-requires c κs =
     let M = c .before .before .before .before .before .before .before in
     let few = M .before .before .before .if1 .left in
-    let K = M .mask-letters .kept .1 in
-    (
+    let K = M .mask-letters .kept .1 in (
       count-room few (M .mask-letters .ensures) (K .0 ∙ length-replicate {A = ℕ} 4096 0) (K .1 .0 ∙ length-replicate {A = ℕ} 4096 0),
       report-fits few (M .mask-letters .ensures) _ (M .before .before .before .before .before .before .pre),
     )
