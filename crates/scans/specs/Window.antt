@@ -1,8 +1,10 @@
 -- The window in a ring of w numbers: `len` entries, the oldest at `head`; what the scans ask of it and how they answer.
 use mathlib.Core.Path.{_≡_}
-use Prim.Native.Nat.{ℕ, zero, suc, _/_, _^_, _<_, _≤_}
+use Prim.Native.Nat.{ℕ, zero, suc, _+_, _-_, _/_, _^_, _<_, _≤_}
+use mathlib.Core.Bool.{Bool, cond}
 use mathlib.Core.List.{List, _++_}
 use lib.ListN.{length, getD, take, drop}
+use lib.Dec.{ltb}
 use Rattle.letters.specs.Place.{Place}
 use Rattle.letters.specs.Entry.{decoded}
 use Rattle.scans.specs.Counts.{count}
@@ -11,6 +13,10 @@ use Rattle.scans.specs.declared.Params.{Params}
 
 unfoldable pub queue : List ℕ → ℕ → ℕ → List ℕ
 queue ring head len = take len (drop head ring ++ take head ring)
+
+-- Where the j-th entry stands in a ring of w numbers.
+abbrev pub ringIndex : ℕ → ℕ → ℕ → ℕ
+ringIndex w head j = cond (ltb (head + j) w) (head + j) (head + j - w)
 
 -- The places of the window, the oldest first.
 abbrev pub window : List ℕ → ℕ → ℕ → List Place
