@@ -5,10 +5,13 @@ use mathlib.Core.Bool.{Bool, cond}
 use mathlib.Core.List.{List, _++_}
 use lib.ListN.{length, getD, take, drop}
 use lib.Dec.{ltb}
-use Rattle.letters.specs.Place.{Place}
+use lib.Ieee.{Float, nan}
+use Rattle.floats.specs.Binary64.{zero64}
+use Rattle.letters.specs.Place.{Place, ambiguous, plain}
 use Rattle.letters.specs.Entry.{decoded}
-use Rattle.scans.specs.Counts.{count}
-use Rattle.scans.specs.Scans.{Find, none, at, Outcome}
+use Rattle.scans.specs.Setup.{Setup}
+use Rattle.scans.specs.Counts.{count, raise}
+use Rattle.scans.specs.Scans.{Find, none, at, Outcome, extends}
 use Rattle.scans.specs.declared.Params.{Params}
 
 unfoldable pub queue : List ℕ → ℕ → ℕ → List ℕ
@@ -33,6 +36,21 @@ pub record Windowed (p : Params) (ring : List ℕ) (head len : ℕ) (window-coun
   pub counts-long : length window-counts ≡ 4 ^ p .kmer
   pub below : (j : ℕ) → j < len → getD (queue ring head len) j 0 / 2 < 4 ^ p .kmer
   pub counted : (x : ℕ) → getD window-counts x 0 ≡ count x (window ring head len)
+
+-- The ln entry of a place's count, 0 if ambiguous.
+abbrev pub countedValue : List Float → List ℕ → Place → Float
+countedValue ln counts ambiguous = zero64
+countedValue ln counts (plain x) = getD ln (getD counts x 0) nan
+
+-- A place is counted, and r is the ln entry of its raised count.
+pub record CountsEntry (ln : List Float) (counts : List ℕ) (e : Place) (r : Float) (counts′ : List ℕ) : Type 0 where
+  pub counts-are : counts′ ≡ raise counts e
+  pub value-is : r ≡ countedValue ln counts′ e
+
+-- An extension raises the k-mer's scan count if it succeeds.
+pub record Extends (S : Setup) (counts : List ℕ) (len x : ℕ) (r : Bool) (counts′ : List ℕ) : Type 0 where
+  pub answer : r ≡ extends S counts len x
+  pub counts-are : counts′ ≡ cond r (raise counts (plain x)) counts
 
 -- The f table, the scan counts and the candidates are long enough.
 pub record Roomy (p : Params) (f-length counts-length places-length scores-length : ℕ) : Type 0 where

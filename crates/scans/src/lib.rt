@@ -1,5 +1,15 @@
 // The back check, the extension and the two scans over a window of places.
 
+ghost use mathlib.Core.Path.{_≡_};
+ghost use mathlib.Core.List.{List};
+ghost use Prim.Native.Nat.{_+_, _/_, _<_, _≤_};
+ghost use lib.ListN.{length, getD};
+ghost use lib.Ieee.{Float};
+ghost use Rattle.letters.specs.Entry.{decode};
+ghost use Rattle.scans.specs.Setup.{dropLimit, maxTest, setupOf};
+ghost use Rattle.scans.specs.Scans.{maxSteps, ifBackward, dustBackward};
+ghost use Rattle.scans.specs.Window.{ringIndex, window, countedValue, Windowed, Roomy, CountsEntry, Extends, Tells};
+
 // How many places long a fall below the best may last before the backward scan stops; `Off` is the whole window.
 pub enum Xdrop {
     Off,
@@ -15,4 +25,142 @@ pub struct Params {
     pub limit: f64,
     pub approx: bool,
     pub test: i32,
+}
+
+pub fn drop_limit(xdrop: Xdrop, window: u32, threshold: f64) -> f64
+    ensures { λ r. ⌜ r ≡ dropLimit xdrop window threshold ⌝ }
+{
+    match xdrop {
+        Xdrop::Off => threshold * (window as f64),
+        Xdrop::Length(l) => threshold * (l as f64),
+    }
+}
+
+pub fn max_test(ln: &[f64], f: &[f64], window: u32, threshold: f64) -> i32
+    requires { ⌜ (window ≤ 65535) × (window < length (now ln)) × (window < length (now f)) ⌝ }
+    ensures { λ r. ⌜ r ≡ maxTest window threshold (now (ln .entry)) (now (f .entry)) ⌝ }
+{
+    let mut s = 0.0f64;
+    let mut i: u32 = 1;
+    while i <= window {
+        let at = i as usize;
+        s = s + (ln[at] - threshold);
+        if s - f[at] > 0.0 {
+            return floats::to_i32((i as f64) * ln[at] / threshold);
+        }
+        i += 1;
+    }
+    0
+}
+
+// Where the j-th entry of the queue from `head` on stands in a ring of `window` numbers.
+pub fn ring_index(window: usize, head: usize, j: usize) -> usize
+    requires { ⌜ (head < window) × (j ≤ window) × (window ≤ 65535) ⌝ }
+    ensures { λ r. ⌜ r ≡ ringIndex window head j ⌝ }
+{
+    let i = head + j;
+    if i < window {
+        return i;
+    }
+    i - window
+}
+
+// Counts an entry, and answers the ln entry of its raised count, 0 if ambiguous.
+pub fn count_entry(counts: &mut [u16], ln: &[f64], entry: u32) -> f64
+    requires { ⌜ (entry / 2 < length (now counts)) × (getD (now counts) (entry / 2) 0 < 65535) × (getD (now counts) (entry / 2) 0 + 1 < length (now ln)) ⌝ }
+    ensures { λ r. ⌜ CountsEntry (now (ln .entry)) (now (counts .entry)) (decode entry) r (now (counts .exit)) ⌝ }
+{
+    if entry & 1 != 0 {
+        return 0.0;
+    }
+    let kmer = (entry >> 1) as usize;
+    let c = counts[kmer] + 1;
+    counts[kmer] = c;
+    ln[c as usize]
+}
+
+pub fn extend(p: Params, len: usize, kmer: u32, ln: &[f64], f: &[f64], scan_counts: &mut [u16]) -> bool
+    requires { ⌜ (0 < len) × (len ≤ p .window) × (p .window ≤ 65535) × (p .window < length (now ln)) × (p .window < length (now f)) × (kmer < length (now «scan_counts»)) ⌝ }
+    ensures { λ r. ⌜ Extends (setupOf p (now (ln .entry)) (now (f .entry))) (now («scan_counts» .entry)) len kmer r (now («scan_counts» .exit)) ⌝ }
+{
+    let x = kmer as usize;
+    let c = scan_counts[x];
+    let n = (c as usize) + 1;
+    if n > p.window {
+        return false;
+    }
+    if ln[n] - (f[len] - f[len - 1]) < p.threshold {
+        return false;
+    }
+    scan_counts[x] = c + 1;
+    true
+}
+
+// The ln entry of an entry's window count, 0 if ambiguous.
+fn window_value(window_counts: &[u16], ln: &[f64], entry: u32) -> f64
+    requires { ⌜ (entry / 2 < length (now «window_counts»)) × (getD (now «window_counts») (entry / 2) 0 < length (now ln)) ⌝ }
+    ensures { λ r. ⌜ r ≡ countedValue (now (ln .entry)) (now («window_counts» .entry)) (decode entry) ⌝ }
+{
+    if entry & 1 != 0 {
+        return 0.0;
+    }
+    let kmer = (entry >> 1) as usize;
+    ln[window_counts[kmer] as usize]
+}
+
+impl Params {
+    // How many entries the back check reads at most.
+    fn max_steps(self, len: usize) -> usize
+        ensures { λ r. ⌜ r ≡ maxSteps (self .test) len ⌝ }
+    {
+        if self.test < 0 {
+            return len;
+        }
+        let steps = self.test as usize;
+        if steps < len {
+            return steps;
+        }
+        len
+    }
+}
+
+pub fn if_backward(p: Params, ring: &[u32], head: usize, len: usize, window_counts: &[u16], ln: &[f64]) -> bool
+    requires { ⌜ Windowed p (now ring) head len (now «window_counts») (length (now ln)) ⌝ }
+    ensures { λ r. ⌜ ((f : List Float) → r ≡ ifBackward (setupOf p (now (ln .entry)) f) (window (now (ring .entry)) head len)) ⌝ }
+{
+    let mut s = 0.0;
+    let mut left = p.max_steps(len);
+    let mut i = len;
+    while 0 < left {
+        left -= 1;
+        i -= 1;
+        let at = ring_index(ring.len(), head, i);
+        let v = window_value(window_counts, ln, ring[at]);
+        s = s + (v - p.threshold);
+        if s < 0.0 {
+            return false;
+        }
+    }
+    true
+}
+
+// One past the index in the window from which a forward scan ends best at the newest entry, and 0 where there is none.
+pub fn dust_backward(
+    p: Params,
+    ring: &[u32],
+    head: usize,
+    len: usize,
+    window_counts: &[u16],
+    ln: &[f64],
+    f: &[f64],
+    scan_counts: &mut [u16],
+    places: &mut [u32],
+    scores: &mut [f64],
+) -> usize
+    requires { ⌜ Windowed p (now ring) head len (now «window_counts») (length (now ln)) ⌝ }
+    requires { ⌜ Roomy p (length (now f)) (length (now «scan_counts»)) (length (now places)) (length (now scores)) ⌝ }
+    requires { ⌜ 0 < len ⌝ }
+    ensures { λ r. ⌜ Tells (dustBackward (setupOf p (now (ln .entry)) (now (f .entry))) (window (now (ring .entry)) head len)) r (now («scan_counts» .exit)) ⌝ }
+{
+    0
 }
