@@ -1,0 +1,21 @@
+use borrow.Author.Tests.{lt-ltb, le-ltb}
+use borrow.Author.Needs.{needs}
+use Rattle.scans.proofs.ring_index.Statement.{statement}
+use Rattle.scans.proofs.ring_index.Tie as tie
+use Rattle.scans.proofs.ring_index.Reads as reads
+use Rattle.scans.proofs.ring_index.Lts as lts
+
+-- src/lib.rt:61:13
+add-i : tie.Need-add-i
+add-i c = search needs
+
+-- src/lib.rt:63:9
+returns : tie.Need-returns
+returns c = rw (lt-ltb _ _ (c .if1 .taken))
+
+-- src/lib.rt:57:1
+returns-2 : tie.Need-returns-2
+returns-2 c = rw (le-ltb _ _ (c .if1 .left))
+
+pub ring-index-spec : {M : Type 1} → statement M
+ring-index-spec = tie.close (tie.spec add-i returns returns-2)
