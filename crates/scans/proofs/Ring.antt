@@ -14,11 +14,7 @@ use borrow.Author.Tests.{ltb-true, ltb-false}
 use Rattle.letters.specs.Place.{Place, ambiguous}
 use Rattle.letters.specs.Entry.{decode, decoded}
 use Rattle.letters.proofs.Entries.{decoded-length, decoded-at}
-use Rattle.scans.specs.Window.{queue, ringIndex, window}
-
--- The index i of a ring of w numbers is that of the j-th entry.
-abbrev pub At : ℕ → ℕ → ℕ → ℕ → Type 0
-At w head j i = (i < w) × ((i ≡ head + j) ⊎ (i + w ≡ head + j))
+use Rattle.scans.specs.Window.{queue, ringIndex, At, window}
 
 at-by : (w head j : ℕ) (b : Bool) → ltb (head + j) w ≡ b → head < w → j ≤ w → At w head j (cond b (head + j) (head + j - w))
 at-by w head j true e h k = (ltb-true _ _ e, inl refl)

@@ -1,9 +1,11 @@
 -- What a queue entry is worth by its bits and its count: the tests of the code against the definitions' values. Assumes nothing.
 use mathlib.Core.Path.{_≡_, refl, sym, ap, _∙_}
+use mathlib.Core.Bool.{Bool, true, false, cond}
 use mathlib.Core.List.{List}
-use Prim.Native.Nat.{ℕ, _+_, _/_, _<_}
+use Prim.Native.Nat.{ℕ, _+_, _/_, _%_, _<_}
 use lib.ListN.{length, getD}
 use lib.Seq.{getD-set-same}
+use lib.Dec.{eqb}
 use lib.Bits.{bitAnd, and-mask}
 use lib.Ieee.{Float, nan}
 use Rattle.letters.specs.Place.{Place, ambiguous, plain, BelowAt}
@@ -19,6 +21,14 @@ even-plain e h = decode-plain e (rw (and-mask e 1) at h)
 
 pub odd-ambiguous : (e : ℕ) → (bitAnd e 1 ≡ 0 → ⊥) → decode e ≡ ambiguous
 odd-ambiguous e h = decode-ambiguous e (rw (and-mask e 1) at h)
+
+pub decode-below : (m e : ℕ) → e / 2 < m → BelowAt m (decode e)
+unfolding decode
+decode-below m e h = go (eqb (e % 2) 0)
+  where
+    go : (b : Bool) → BelowAt m (cond b (plain (e / 2)) ambiguous)
+    go true = h
+    go false = tt
 
 -- Window counts that are the window's.
 pub window-value : (S : Setup) (counts : List ℕ) (q : List Place) (e : Place) → ((x : ℕ) → getD counts x 0 ≡ count x q) → countedValue (S .ln) counts e ≡ windowValue S q e

@@ -8,9 +8,9 @@ use Rattle.letters.specs.Place.{Place, ambiguous}
 use Rattle.letters.specs.Entry.{decode}
 use Rattle.scans.specs.declared.Params.{Params}
 use Rattle.scans.specs.Counts.{count}
-use Rattle.scans.specs.Window.{queue, window, ringIndex, Windowed}
+use Rattle.scans.specs.Window.{At, queue, window, ringIndex, Windowed}
 use Rattle.scans.proofs.Counting.{count-le}
-use Rattle.scans.proofs.Ring.{At, ring-index-at, queue-at, window-at, window-length}
+use Rattle.scans.proofs.Ring.{ring-index-at, queue-at, window-at, window-length}
 
 module _ {p : Params} {ring : List ℕ} {head len : ℕ} {counts : List ℕ} {n : ℕ} (w : Windowed p ring head len counts n) where
   abbrev q : List Place

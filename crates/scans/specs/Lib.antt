@@ -3,3 +3,4 @@ pub mod Counts
 pub mod Scans
 pub mod Score
 pub mod Window
+pub mod Parts

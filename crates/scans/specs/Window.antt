@@ -2,6 +2,7 @@
 use mathlib.Core.Path.{_≡_}
 use Prim.Native.Nat.{ℕ, zero, suc, _+_, _-_, _/_, _^_, _<_, _≤_}
 use mathlib.Core.Bool.{Bool, cond}
+use mathlib.Core.Logic.{_⊎_}
 use mathlib.Core.List.{List, _++_}
 use lib.ListN.{length, getD, take, drop}
 use lib.Dec.{ltb}
@@ -20,6 +21,10 @@ queue ring head len = take len (drop head ring ++ take head ring)
 -- Where the j-th entry stands in a ring of w numbers.
 abbrev pub ringIndex : ℕ → ℕ → ℕ → ℕ
 ringIndex w head j = cond (ltb (head + j) w) (head + j) (head + j - w)
+
+-- The index i of the ring is that of the j-th entry.
+abbrev pub At : ℕ → ℕ → ℕ → ℕ → Type 0
+At w head j i = (i < w) × ((i ≡ head + j) ⊎ (i + w ≡ head + j))
 
 -- The places of the window, the oldest first.
 abbrev pub window : List ℕ → ℕ → ℕ → List Place

@@ -1,14 +1,16 @@
 // The back check, the extension and the two scans over a window of places.
 
 ghost use mathlib.Core.Path.{_≡_};
+ghost use mathlib.Core.Bool.{true, false};
 ghost use mathlib.Core.List.{List};
-ghost use Prim.Native.Nat.{_+_, _/_, _<_, _≤_};
+ghost use Prim.Native.Nat.{_+_, _/_, _^_, _<_, _≤_};
 ghost use lib.ListN.{length, getD};
 ghost use lib.Ieee.{Float};
 ghost use Rattle.letters.specs.Entry.{decode};
 ghost use Rattle.scans.specs.Setup.{dropLimit, maxTest, setupOf};
-ghost use Rattle.scans.specs.Scans.{maxSteps, ifBackward, dustBackward};
+ghost use Rattle.scans.specs.Scans.{maxSteps, ifBackward, forwardStart, forwardJudged, dustForward, dustBackward};
 ghost use Rattle.scans.specs.Window.{ringIndex, window, countedValue, Windowed, Roomy, CountsEntry, Extends, Tells};
+ghost use Rattle.scans.specs.Parts.{Seam, Straight, Ringed, Within, forwardOf, ForwardPart, Finds};
 
 // How many places long a fall below the best may last before the backward scan stops; `Off` is the whole window.
 pub enum Xdrop {
@@ -79,7 +81,14 @@ pub fn count_entry(counts: &mut [u16], ln: &[f64], entry: u32) -> f64
     ln[c as usize]
 }
 
-pub fn extend(p: Params, len: usize, kmer: u32, ln: &[f64], f: &[f64], scan_counts: &mut [u16]) -> bool
+pub fn extend(
+    p: Params,
+    len: usize,
+    kmer: u32,
+    ln: &[f64],
+    f: &[f64],
+    scan_counts: &mut [u16],
+) -> bool
     requires { ⌜ (0 < len) × (len ≤ p .window) × (p .window ≤ 65535) × (p .window < length (now ln)) × (p .window < length (now f)) × (kmer < length (now «scan_counts»)) ⌝ }
     ensures { λ r. ⌜ Extends (setupOf p (now (ln .entry)) (now (f .entry))) (now («scan_counts» .entry)) len kmer r (now («scan_counts» .exit)) ⌝ }
 {
@@ -124,7 +133,14 @@ impl Params {
     }
 }
 
-pub fn if_backward(p: Params, ring: &[u32], head: usize, len: usize, window_counts: &[u16], ln: &[f64]) -> bool
+pub fn if_backward(
+    p: Params,
+    ring: &[u32],
+    head: usize,
+    len: usize,
+    window_counts: &[u16],
+    ln: &[f64],
+) -> bool
     requires { ⌜ Windowed p (now ring) head len (now «window_counts») (length (now ln)) ⌝ }
     ensures { λ r. ⌜ ((f : List Float) → r ≡ ifBackward (setupOf p (now (ln .entry)) f) (window (now (ring .entry)) head len)) ⌝ }
 {
@@ -142,6 +158,150 @@ pub fn if_backward(p: Params, ring: &[u32], head: usize, len: usize, window_coun
         }
     }
     true
+}
+
+// Where the entries from `start` on pass the ring's end: those before the answer stand before it.
+fn seam(window: usize, head: usize, len: usize, start: usize) -> usize
+    requires { ⌜ (head < window) × (start ≤ len) ⌝ }
+    ensures { λ r. ⌜ Seam window head len start r ⌝ }
+{
+    let before = window - head;
+    if before <= start {
+        return start;
+    }
+    if before < len {
+        return before;
+    }
+    len
+}
+
+// The sum of a forward scan, its best score, one past the index that had it (0: none), and whether the scan has stopped.
+struct ForwardState {
+    s: f64,
+    best: f64,
+    found: usize,
+    done: bool,
+}
+
+impl ForwardState {
+    fn new() -> Self
+        ensures { λ r. ⌜ (forwardOf r ≡ forwardStart) × (r .done ≡ false) ⌝ }
+    {
+        Self {
+            s: 0.0,
+            best: 0.0,
+            found: 0,
+            done: false,
+        }
+    }
+
+    fn judged(mut self, s: f64, sl: f64, i: usize) -> Self
+        requires { ⌜ i < 65535 ⌝ }
+        ensures { λ r. ⌜ (forwardOf r ≡ forwardJudged (forwardOf self) s sl i) × (r .done ≡ self .done) ⌝ }
+    {
+        self.s = s;
+        if sl >= self.best {
+            self.best = sl;
+            self.found = i + 1;
+        }
+        self
+    }
+
+    fn stopped(mut self) -> Self
+        ensures { λ r. ⌜ (forwardOf r ≡ forwardOf self) × (r .done ≡ true) ⌝ }
+    {
+        self.done = true;
+        self
+    }
+}
+
+// A forward scan that began at entry `start` goes on over entries `from` to `to - 1`, entry i standing at index head + i - turn.
+fn forward_part(
+    p: Params,
+    ring: &[u32],
+    head: usize,
+    turn: usize,
+    start: usize,
+    from: usize,
+    to: usize,
+    limit: f64,
+    state: ForwardState,
+    ln: &[f64],
+    f: &[f64],
+    scan_counts: &mut [u16],
+) -> ForwardState
+    requires { ⌜ Ringed (now ring) head to (length (now ln)) (length (now f)) (length (now «scan_counts»)) ⌝ }
+    requires { ⌜ Straight (length (now ring)) head from to turn ⌝ }
+    requires { ⌜ (start ≤ from) × (from ≤ to) × (state .done ≡ false) ⌝ }
+    requires { ⌜ Within (now «scan_counts») from ⌝ }
+    ensures { λ r. ⌜ ForwardPart (setupOf p (now (ln .entry)) (now (f .entry))) limit (now (ring .entry)) head start from to state r (now («scan_counts» .entry)) (now («scan_counts» .exit)) ⌝ }
+{
+    let mut st = state;
+    let mut i = from;
+    while i < to {
+        let v = count_entry(scan_counts, ln, ring[head + i - turn]);
+        let s = st.s + (v - p.threshold);
+        let sl = s - f[i + 1 - start];
+        st = st.judged(s, sl, i);
+        if sl > limit {
+            return st.stopped();
+        }
+        i += 1;
+    }
+    st
+}
+
+// The forward scan from entry `start` on: one past the index of its best score, 0 for none.
+fn dust_forward(
+    p: Params,
+    ring: &[u32],
+    head: usize,
+    len: usize,
+    start: usize,
+    max_back: f64,
+    ln: &[f64],
+    f: &[f64],
+    scan_counts: &mut [u16],
+) -> usize
+    requires { ⌜ Ringed (now ring) head len (length (now ln)) (length (now f)) (length (now «scan_counts»)) ⌝ }
+    requires { ⌜ (length (now «scan_counts») ≡ 4 ^ p .kmer) × (start ≤ len) ⌝ }
+    ensures { λ r. ⌜ Finds (dustForward (setupOf p (now (ln .entry)) (now (f .entry))) (window (now (ring .entry)) head len) start «max_back») r (now («scan_counts» .exit)) ⌝ }
+{
+    buffers::clear(scan_counts);
+    let limit = max_back + 1e-6;
+    let mid = seam(ring.len(), head, len, start);
+    let older = forward_part(
+        p,
+        ring,
+        head,
+        0,
+        start,
+        start,
+        mid,
+        limit,
+        ForwardState::new(),
+        ln,
+        f,
+        scan_counts,
+    );
+    if older.done {
+        return older.found;
+    }
+    let newer = forward_part(
+        p,
+        ring,
+        head,
+        ring.len(),
+        start,
+        mid,
+        len,
+        limit,
+        older,
+        ln,
+        f,
+        scan_counts,
+    );
+    newer.found
 }
 
 // One past the index in the window from which a forward scan ends best at the newest entry, and 0 where there is none.

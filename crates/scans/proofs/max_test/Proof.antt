@@ -56,7 +56,7 @@ to-i32-requires c κs = search needs
 
 -- src/lib.rt:49:13
 returns : tie.Need-returns Inv-loop μ-loop
-returns c = 
+returns c =
     let d = c .before .before .before in
     let a = d .before .before .before .before in
     testing-found _ _ _ _ _ _ (a .loop .inv) (d .before .before .before .loop-test .taken) _ (c .to-i32 .ensures) (d .if1 .taken)
@@ -71,7 +71,7 @@ loop-less c = search needs
 
 -- src/lib.rt:45:5
 loop-again : tie.Need-loop-again Inv-loop μ-loop
-loop-again c = 
+loop-again c =
     let a = c .before .before .before .before in
     testing-turn _ _ _ _ _ _ (a .loop .inv) (c .before .before .before .loop-test .taken) (c .if1 .left)
 

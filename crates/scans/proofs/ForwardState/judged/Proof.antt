@@ -1,0 +1,21 @@
+use mathlib.Core.Path.{refl}
+use borrow.Author.Needs.{needs}
+use Rattle.scans.proofs.ForwardState.judged.Statement.{statement}
+use Rattle.scans.proofs.ForwardState.judged.Tie as tie
+use Rattle.scans.proofs.ForwardState.judged.Reads as reads
+use Rattle.scans.proofs.ForwardState.judged.Lts as lts
+
+-- src/lib.rt:191:26
+add-self : tie.Need-add-self
+add-self c = search needs
+
+-- src/lib.rt:184:5
+returns : tie.Need-returns
+returns c = rw (c .if1 .taken) (refl, refl)
+
+-- src/lib.rt:184:5
+returns-2 : tie.Need-returns-2
+returns-2 c = rw (c .if1 .left) (refl, refl)
+
+pub judged-spec : {M : Type 1} → statement M
+judged-spec = tie.close (tie.spec add-self returns returns-2)
