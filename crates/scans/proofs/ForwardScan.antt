@@ -19,7 +19,7 @@ use Rattle.scans.specs.Counts.{raise}
 use Rattle.scans.specs.Scans.{value, ForwardSums, Forward, forwardStart, forwardJudged, forwardFrom, dustForward}
 use Rattle.scans.specs.Window.{At, queue, window, countedValue, CountsEntry}
 use Rattle.scans.specs.Parts.{Seam, Straight, Ringed, Within, forwardOf, ForwardPart, Finds}
-use Rattle.scans.proofs.Counting.{replicate-zero}
+use Rattle.scans.proofs.Counting.{cleared-counted}
 use Rattle.scans.proofs.Ring.{ring-index-at, queue-at, window-at, window-length}
 use Rattle.scans.proofs.Values.{raised-value, decode-below}
 
@@ -48,7 +48,7 @@ within-set (b ∷ counts) (suc x) c n w h zero = w .at-most zero
 within-set (b ∷ counts) (suc x) c n w h (suc y) = within-set counts x c n (record { at-most = λ z. w .at-most (suc z) }) h y
 
 pub within-cleared : (counts : List ℕ) (m n : ℕ) → counts ≡ replicate m 0 → Within counts n
-within-cleared counts m n e = rw e (record { at-most = λ x. omega (arith, replicate-zero m x) })
+within-cleared counts m n e = rw e (record { at-most = λ x. omega (arith, cleared-counted m .counted x) })
 
 within-more : (counts : List ℕ) (n : ℕ) → Within counts n → Within counts (n + 1)
 within-more counts n w = record { at-most = λ x. omega (arith, w .at-most x) }

@@ -2,22 +2,28 @@
 use mathlib.Core.Path.{_≡_, refl, sym, ap, _∙_}
 use mathlib.Core.Bool.{Bool, true, false, cond}
 use mathlib.Core.List.{List}
-use Prim.Native.Nat.{ℕ, _+_, _/_, _%_, _<_}
-use lib.ListN.{length, getD}
+use Prim.Native.Nat.{ℕ, _+_, _-_, _/_, _%_, _<_}
+use lib.ListN.{length, getD, set}
 use lib.Seq.{getD-set-same}
 use lib.Dec.{eqb}
 use lib.Bits.{bitAnd, and-mask}
-use lib.Ieee.{Float, nan}
+use lib.Ieee.{Float, nan, binary64, add, sub}
+use Rattle.floats.specs.Binary64.{zero64}
 use Rattle.letters.specs.Place.{Place, ambiguous, plain, BelowAt}
 use Rattle.letters.specs.Entry.{decode}
 use Rattle.letters.proofs.Entries.{decode-plain, decode-ambiguous}
+use Rattle.scans.specs.declared.BackwardState.{BackwardState}
 use Rattle.scans.specs.Setup.{Setup}
 use Rattle.scans.specs.Counts.{count, raise}
 use Rattle.scans.specs.Scans.{windowValue, value}
 use Rattle.scans.specs.Window.{countedValue}
+use Rattle.scans.specs.Parts.{withSums, AddsEntry}
+
+pub even : (e : ℕ) → bitAnd e 1 ≡ 0 → e % 2 ≡ 0
+even e h = rw (and-mask e 1) at h
 
 pub even-plain : (e : ℕ) → bitAnd e 1 ≡ 0 → decode e ≡ plain (e / 2)
-even-plain e h = decode-plain e (rw (and-mask e 1) at h)
+even-plain e h = decode-plain e (even e h)
 
 pub odd-ambiguous : (e : ℕ) → (bitAnd e 1 ≡ 0 → ⊥) → decode e ≡ ambiguous
 odd-ambiguous e h = decode-ambiguous e (rw (and-mask e 1) at h)
@@ -42,3 +48,19 @@ raised-plain ln counts x h = ap (λ (c : ℕ). getD ln c nan) (getD-set-same cou
 pub raised-value : (S : Setup) (counts : List ℕ) (e : Place) → BelowAt (length counts) e → countedValue (S .ln) (raise counts e) e ≡ value S counts e
 raised-value S counts ambiguous h = refl
 raised-value S counts (plain x) h = raised-plain (S .ln) counts x h
+
+-- Both values of an entry, by its bits.
+module _ (t : Float) (window-counts : List ℕ) (ln : List Float) (e : ℕ) (a : BackwardState) (counts : List ℕ) where
+  pub adds-ambiguous : (bitAnd e 1 ≡ 0 → ⊥) → AddsEntry t window-counts ln (decode e) a (withSums a (add binary64 (a .s) (sub binary64 zero64 t)) (add binary64 (a .sw) (sub binary64 zero64 t))) counts counts
+  adds-ambiguous h = rw (odd-ambiguous e h) (record { counts-are = refl; sums-are = refl })
+
+  abbrev c : ℕ
+  c = getD counts (e / 2) 0 + 1
+
+  pub adds-plain : bitAnd e 1 ≡ 0 → e / 2 < length counts
+      → AddsEntry t window-counts ln (decode e) a
+        (withSums a (add binary64 (a .s) (sub binary64 (getD ln c nan) t)) (add binary64 (a .sw) (sub binary64 (getD ln (getD window-counts (e / 2) 0 - c + 1) nan) t)))
+        counts (set counts (e / 2) c)
+  adds-plain h l =
+      let same : getD (set counts (e / 2) c) (e / 2) 0 ≡ c = getD-set-same counts (e / 2) c 0 l in
+      rw (even-plain e h) (record { counts-are = refl; sums-are = rw same })

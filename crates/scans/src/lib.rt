@@ -1,16 +1,17 @@
 // The back check, the extension and the two scans over a window of places.
 
 ghost use mathlib.Core.Path.{_≡_};
-ghost use mathlib.Core.Bool.{true, false};
-ghost use mathlib.Core.List.{List};
-ghost use Prim.Native.Nat.{_+_, _/_, _^_, _<_, _≤_};
+ghost use mathlib.Core.Bool.{true, false, not, _&&_};
+ghost use mathlib.Core.List.{List, [], _∷_, _++_};
+ghost use Prim.Native.Nat.{_+_, _/_, _%_, _^_, _<_, _≤_};
 ghost use lib.ListN.{length, getD};
-ghost use lib.Ieee.{Float};
+ghost use lib.Dec.{eqb};
+ghost use lib.Ieee.{Float, binary64, sub, lt};
 ghost use Rattle.letters.specs.Entry.{decode};
 ghost use Rattle.scans.specs.Setup.{dropLimit, maxTest, setupOf};
-ghost use Rattle.scans.specs.Scans.{maxSteps, ifBackward, forwardStart, forwardJudged, dustForward, dustBackward};
+ghost use Rattle.scans.specs.Scans.{maxSteps, ifBackward, forwardStart, forwardJudged, dustForward, candidate, backwardStart, isNoted, dustBackward};
 ghost use Rattle.scans.specs.Window.{ringIndex, window, countedValue, Windowed, Roomy, CountsEntry, Extends, Tells};
-ghost use Rattle.scans.specs.Parts.{Seam, Straight, Ringed, Within, forwardOf, ForwardPart, Finds};
+ghost use Rattle.scans.specs.Parts.{Seam, Straight, Ringed, Within, forwardOf, ForwardPart, Finds, backwardOf, candidates, AddsEntry, withBestAt, withLast, Notes, Backs, BackwardPart};
 
 // How many places long a fall below the best may last before the backward scan stops; `Off` is the whole window.
 pub enum Xdrop {
@@ -302,6 +303,168 @@ fn dust_forward(
         scan_counts,
     );
     newer.found
+}
+
+// The two sums of a backward scan, its last and its best score, one past the index that had the best (0: none),
+// how many candidates are noted, and whether the scan has stopped.
+struct BackwardState {
+    s: f64,
+    sw: f64,
+    last: f64,
+    best: f64,
+    found: usize,
+    noted: usize,
+    done: bool,
+}
+
+// A candidate after the first `noted`; answers how many there are then.
+fn push_candidate(places: &mut [u32], scores: &mut [f64], noted: usize, place: usize, score: f64) -> usize
+    requires { ⌜ (noted < length (now places)) × (noted < length (now scores)) × (place ≤ 65535) ⌝ }
+    ensures { λ r. ⌜ (r ≡ noted + 1) × (candidates r (now (places .exit)) (now (scores .exit)) ≡ candidates noted (now (places .entry)) (now (scores .entry)) ++ candidate place score ∷ []) ⌝ }
+{
+    places[noted] = place as u32;
+    scores[noted] = score;
+    noted + 1
+}
+
+impl BackwardState {
+    fn new() -> Self
+        ensures { λ r. ⌜ (backwardOf r ≡ backwardStart) × (r .noted ≡ 0) × (r .done ≡ false) ⌝ }
+    {
+        Self {
+            s: 0.0,
+            sw: 0.0,
+            last: -1.0,
+            best: 0.0,
+            found: 0,
+            noted: 0,
+            done: false,
+        }
+    }
+
+    // Counts an entry, and adds to both sums.
+    fn add_entry(mut self, threshold: f64, window_counts: &[u16], ln: &[f64], entry: u32, scan_counts: &mut [u16]) -> Self
+        requires { ⌜ (entry / 2 < length (now «window_counts»)) × (entry / 2 < length (now «scan_counts»)) × (getD (now «window_counts») (entry / 2) 0 ≤ 65535) × (getD (now «window_counts») (entry / 2) 0 < length (now ln)) ⌝ }
+        requires { ⌜ (entry % 2 ≡ 0 → getD (now «scan_counts») (entry / 2) 0 < getD (now «window_counts») (entry / 2) 0) ⌝ }
+        ensures { λ r. ⌜ AddsEntry threshold (now («window_counts» .entry)) (now (ln .entry)) (decode entry) self r (now («scan_counts» .entry)) (now («scan_counts» .exit)) ⌝ }
+    {
+        if entry & 1 != 0 {
+            self.s = self.s + (0.0 - threshold);
+            self.sw = self.sw + (0.0 - threshold);
+            return self;
+        }
+        let kmer = (entry >> 1) as usize;
+        let c = scan_counts[kmer] + 1;
+        scan_counts[kmer] = c;
+        let left = window_counts[kmer] - c + 1;
+        self.s = self.s + (ln[c as usize] - threshold);
+        self.sw = self.sw + (ln[left as usize] - threshold);
+        self
+    }
+
+    fn raised(mut self, sl: f64, i: usize) -> Self
+        requires { ⌜ i < 65535 ⌝ }
+        ensures { λ r. ⌜ r ≡ withBestAt self sl i ⌝ }
+    {
+        self.last = sl;
+        self.best = sl;
+        self.found = i + 1;
+        self
+    }
+
+    fn fallen(mut self, sl: f64) -> Self
+        ensures { λ r. ⌜ r ≡ withLast self sl ⌝ }
+    {
+        self.last = sl;
+        self
+    }
+
+    // Whether the score falls from a peak above 0 that is as high as the best.
+    fn leaves_peak(self, sl: f64) -> bool
+        ensures { λ r. ⌜ r ≡ isNoted (backwardOf self) sl ⌝ }
+    {
+        if floats::near_zero(self.last - self.best) {
+            if sl < self.last {
+                return self.last > 0.0;
+            }
+        }
+        false
+    }
+
+    // The place of such a peak, which is one newer than entry i, is noted with the best score so far.
+    fn note(mut self, sl: f64, i: usize, places: &mut [u32], scores: &mut [f64]) -> Self
+        requires { ⌜ (self .noted < length (now places)) × (self .noted < length (now scores)) × (i < 65535) ⌝ }
+        ensures { λ r. ⌜ Notes sl i self r (candidates (self .noted) (now (places .entry)) (now (scores .entry))) (candidates (r .noted) (now (places .exit)) (now (scores .exit))) ⌝ }
+    {
+        if self.leaves_peak(sl) {
+            self.noted = push_candidate(places, scores, self.noted, i + 1, self.best);
+        }
+        self
+    }
+
+    // Whether the score is too far below the best.
+    fn too_low(self, sl: f64, limit: f64) -> bool
+        ensures { λ r. ⌜ r ≡ (not (eqb (self .found) 0) && lt limit (sub binary64 (self .best) sl)) ⌝ }
+    {
+        if self.best - sl > limit {
+            return self.found != 0;
+        }
+        false
+    }
+
+    fn stopped(mut self) -> Self
+        ensures { λ r. ⌜ (backwardOf r ≡ backwardOf self) × (r .noted ≡ self .noted) × (r .done ≡ true) ⌝ }
+    {
+        self.done = true;
+        self
+    }
+}
+
+// A backward scan goes on over entries `to - 1` down to `from`, entry i standing at index head + i - turn.
+fn backward_part(
+    p: Params,
+    ring: &[u32],
+    head: usize,
+    len: usize,
+    turn: usize,
+    from: usize,
+    to: usize,
+    state: BackwardState,
+    window_counts: &[u16],
+    ln: &[f64],
+    f: &[f64],
+    scan_counts: &mut [u16],
+    places: &mut [u32],
+    scores: &mut [f64],
+) -> BackwardState
+    requires { ⌜ Windowed p (now ring) head len (now «window_counts») (length (now ln)) ⌝ }
+    requires { ⌜ Roomy p (length (now f)) (length (now «scan_counts»)) (length (now places)) (length (now scores)) ⌝ }
+    requires { ⌜ Straight (length (now ring)) head from to turn ⌝ }
+    requires { ⌜ (from ≤ to) × (to ≤ len) ⌝ }
+    requires { ⌜ Backs (window (now ring) head len) to state (now «scan_counts») ⌝ }
+    ensures { λ r. ⌜ BackwardPart (setupOf p (now (ln .entry)) (now (f .entry))) (window (now (ring .entry)) head len) from to state r (now («scan_counts» .entry)) (now («scan_counts» .exit)) (candidates (state .noted) (now (places .entry)) (now (scores .entry))) (candidates (r .noted) (now (places .exit)) (now (scores .exit))) ⌝ }
+{
+    let mut st = state;
+    let mut i = to;
+    while from < i {
+        i -= 1;
+        let fl = f[len - i];
+        st = st.add_entry(p.threshold, window_counts, ln, ring[head + i - turn], scan_counts);
+        if st.sw - fl < 0.0 {
+            return st.stopped();
+        }
+        let sl = st.s - fl;
+        if sl >= st.best {
+            st = st.raised(sl, i);
+            continue;
+        }
+        st = st.note(sl, i, places, scores);
+        if st.too_low(sl, p.limit) {
+            return st.stopped();
+        }
+        st = st.fallen(sl);
+    }
+    st
 }
 
 // One past the index in the window from which a forward scan ends best at the newest entry, and 0 where there is none.
