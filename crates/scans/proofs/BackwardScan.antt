@@ -2,12 +2,12 @@
 use mathlib.Core.Path.{_≡_, refl, sym, ap, ap₂, _∙_, subst}
 use mathlib.Core.Bool.{Bool, true, false, cond, not, _&&_, _||_, true≢false}
 use mathlib.Core.List.{List, [], _∷_, _++_}
-use Prim.Native.Nat.{ℕ, zero, suc, _+_, _-_, _/_, _%_, _<_, _≤_}
+use Prim.Native.Nat.{ℕ, zero, suc, _+_, _-_, _/_, _%_, _^_, _<_, _≤_}
 use native.Mathlib.Omega.{arith}
-use lib.ListN.{length, getD, drop}
+use lib.ListN.{length, getD, drop, replicate, drop-of-length-le}
 use lib.Seq.{drop-cons}
 use lib.Dec.{T, eqb}
-use lib.Ieee.{Float, nan, binary64, add, sub, lt, le, eq}
+use lib.Ieee.{Float, nan, binary64, add, sub, neg, lt, le, eq, ofBits, ofFields}
 use Rattle.floats.specs.Binary64.{zero64, nearZero}
 use Rattle.letters.specs.Place.{Place, ambiguous, plain}
 use Rattle.letters.specs.Entry.{decode}
@@ -15,11 +15,11 @@ use Rattle.letters.proofs.Entries.{decode-plain}
 use Rattle.scans.specs.declared.Params.{Params}
 use Rattle.scans.specs.declared.BackwardState.{BackwardState}
 use Rattle.scans.specs.Setup.{Setup, fAt, setupOf}
-use Rattle.scans.specs.Counts.{count, raise}
-use Rattle.scans.specs.Scans.{value, secondValue, Candidate, candidate, BackwardSums, isNoted, noted, isDropped, backwardJudged, Backward, backwardFrom}
+use Rattle.scans.specs.Counts.{count, raise, cleared}
+use Rattle.scans.specs.Scans.{value, secondValue, Candidate, candidate, BackwardSums, backwardStart, isNoted, noted, isDropped, backwardJudged, Backward, backwardFrom}
 use Rattle.scans.specs.Window.{At, window, countedValue, Windowed, Roomy}
-use Rattle.scans.specs.Parts.{Straight, backwardOf, candidates, leftValue, AddsEntry, withSums, withBestAt, withLast, withNoted, Notes, Backs, BackwardPart}
-use Rattle.scans.proofs.Counting.{Counted, hit-self, count-snoc, count-le, raise-counted}
+use Rattle.scans.specs.Parts.{Straight, backwardOf, candidates, leftValue, AddsEntry, withSums, withBestAt, withLast, withNoted, Notes, Backs, BackwardPart, ScansBackward}
+use Rattle.scans.proofs.Counting.{hit-self, count-snoc, count-le, raise-counted, cleared-counted}
 use Rattle.scans.proofs.Order.{lt-self, le-lt}
 use Rattle.scans.proofs.Values.{raised-value, decode-below}
 use Rattle.scans.proofs.Windows.{long, count-in, entry-in, entry-place}
@@ -304,3 +304,48 @@ module _ (p : Params) (ring : List ℕ) (head len : ℕ) (ln f : List Float) (fr
                   rest = c .rest ∙ turn-fallen S′ q′ i (length q′ + 1 - i) (backwardOf b) counts cs (decode entry) v vw (omega arith) place value-is second-is on′ (compared false h) (limited false d)
                       ∙ on-with _ (backwardOf b₃) _ (candidates (b₃ .noted) places′ scores′) (rw (e, kept, score-is, k .sums-are)) (sym (ap (λ (z : ℕ). candidates z places′ scores′) m ∙ noted-are));
                 }
+
+-- ---- Both straight parts: the whole scan.
+pub roomy-as : {p : Params} {f-length n-counts n-places n-scores : ℕ} (counts′ places′ scores′ : ℕ) → counts′ ≡ n-counts → places′ ≡ n-places → scores′ ≡ n-scores
+    → Roomy p f-length n-counts n-places n-scores → Roomy p f-length counts′ places′ scores′
+roomy-as counts′ places′ scores′ ec ep es r = record { f-long = r .f-long; counts-is = ec ∙ r .counts-is; places-long = omega (arith, r .places-long); scores-long = omega (arith, r .scores-long) }
+
+start-peak : lt (backwardStart .best) (backwardStart .last) ≡ false
+unfolding lt neg ofBits ofFields
+start-peak = refl
+
+cond-same : (b : Bool) (x : Backward) → cond b x x ≡ x
+cond-same true x = refl
+cond-same false x = refl
+
+abbrev Fresh : BackwardState → Type 0
+Fresh a = (backwardOf a ≡ backwardStart) × (a .noted ≡ 0) × (a .done ≡ false)
+
+pub backs-start : (q : List Place) (len m : ℕ) (a : BackwardState) (counts : List ℕ) → length q ≡ len → Fresh a → counts ≡ replicate m 0 → Backs q len a counts
+backs-start q len m a counts l fresh clear =
+    let e : drop len q ≡ [] = drop-of-length-le q {i = len} (omega arith) in
+    record {
+      going = fresh .2;
+      few = omega (arith, fresh .1);
+      counted = λ x. rw (clear, e) (cleared-counted m .counted x);
+      peak = ap (λ (z : BackwardSums). lt (z .best) (z .last)) (fresh .0) ∙ start-peak;
+    }
+
+module _ (p : Params) (ln f : List Float) (q : List Place) (len : ℕ) (l : length q ≡ len) (a : BackwardState) (counts₀ places₀ : List ℕ) (scores₀ : List Float) (fresh : Fresh a) (clear : counts₀ ≡ replicate (4 ^ p .kmer) 0)
+    (mid : ℕ) (b : BackwardState) (counts : List ℕ) (cs : List Candidate) (part : BackwardPart (setupOf p ln f) q mid len a b counts₀ counts (candidates (a .noted) places₀ scores₀) cs) where
+  abbrev S″ : Setup
+  S″ = setupOf p ln f
+
+  begun : backwardFrom S″ q (length q) 1 backwardStart (cleared S″) [] ≡ backwardFrom S″ q len (length q + 1 - len) (backwardOf a) counts₀ (candidates (a .noted) places₀ scores₀)
+  unfolding candidates
+  begun =
+      let one : length q + 1 - len ≡ 1 = omega arith in
+      rw (one, fresh .0, fresh .1, clear) (ap (λ (n : ℕ). backwardFrom S″ q n 1 backwardStart (cleared S″) []) l)
+
+  pub scans-stopped : b .done ≡ true → ScansBackward S″ q b counts cs
+  scans-stopped d = record { scanned = begun ∙ part .scanned ∙ rw d }
+
+  pub scans-both : b .done ≡ false → (c : BackwardState) (counts′ : List ℕ) (cs′ : List Candidate) → BackwardPart S″ q 0 mid b c counts counts′ cs cs′ → ScansBackward S″ q c counts′ cs′
+  unfolding backwardFrom
+  scans-both d c counts′ cs′ next =
+      record { scanned = begun ∙ part .scanned ∙ rw d (next .scanned ∙ cond-same (c .done) (record { best = c .best; found = c .found; counts = counts′; candidates = cs′ })) }

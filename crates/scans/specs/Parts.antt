@@ -10,8 +10,8 @@ use Rattle.letters.specs.Place.{Place, ambiguous, plain}
 use Rattle.scans.specs.declared.ForwardState.{ForwardState}
 use Rattle.scans.specs.declared.BackwardState.{BackwardState}
 use Rattle.scans.specs.Setup.{Setup}
-use Rattle.scans.specs.Counts.{count, raise}
-use Rattle.scans.specs.Scans.{ForwardSums, Forward, forwardFrom, Candidate, candidate, BackwardSums, noted, backwardFrom}
+use Rattle.scans.specs.Counts.{count, raise, cleared}
+use Rattle.scans.specs.Scans.{ForwardSums, Forward, forwardFrom, Candidate, candidate, BackwardSums, backwardStart, noted, backwardFrom}
 use Rattle.scans.specs.Window.{At, queue, window, countedValue}
 
 -- Of the entries from `start` on, those before r stand before the ring's end, and those from r on past it, from the ring's first number on.
@@ -104,3 +104,13 @@ pub record BackwardPart (S : Setup) (q : List Place) (from to : ℕ) (a b : Back
   pub scanned : backwardFrom S q to (length q + 1 - to) (backwardOf a) counts cs
       ≡ cond (b .done) (record { best = b .best; found = b .found; counts = counts′; candidates = cs′ }) (backwardFrom S q from (length q + 1 - from) (backwardOf b) counts′ cs′)
   pub next : b .done ≡ false → Backs q from b counts′
+
+-- The whole backward scan has ended at b.
+pub record ScansBackward (S : Setup) (q : List Place) (b : BackwardState) (counts : List ℕ) (cs : List Candidate) : Type 0 where
+  pub scanned : backwardFrom S q (length q) 1 backwardStart (cleared S) [] ≡ record { best = b .best; found = b .found; counts = counts; candidates = cs }
+
+-- Two slices hold n candidates or more, the first n places being entries of the window.
+pub record Holds (len n : ℕ) (places : List ℕ) (scores-length : ℕ) : Type 0 where
+  pub in-places : n ≤ length places
+  pub in-scores : n ≤ scores-length
+  pub inside : (j : ℕ) → j < n → getD places j 0 < len

@@ -9,9 +9,9 @@ ghost use lib.Dec.{eqb};
 ghost use lib.Ieee.{Float, binary64, sub, lt};
 ghost use Rattle.letters.specs.Entry.{decode};
 ghost use Rattle.scans.specs.Setup.{dropLimit, maxTest, setupOf};
-ghost use Rattle.scans.specs.Scans.{maxSteps, ifBackward, forwardStart, forwardJudged, dustForward, candidate, backwardStart, isNoted, dustBackward};
+ghost use Rattle.scans.specs.Scans.{maxSteps, ifBackward, forwardStart, forwardJudged, dustForward, candidate, backwardStart, isNoted, withBest, larger, tryFrom, dustBackward};
 ghost use Rattle.scans.specs.Window.{ringIndex, window, countedValue, Windowed, Roomy, CountsEntry, Extends, Tells};
-ghost use Rattle.scans.specs.Parts.{Seam, Straight, Ringed, Within, forwardOf, ForwardPart, Finds, backwardOf, candidates, AddsEntry, withBestAt, withLast, Notes, Backs, BackwardPart};
+ghost use Rattle.scans.specs.Parts.{Seam, Straight, Ringed, Within, forwardOf, ForwardPart, Finds, backwardOf, candidates, AddsEntry, withBestAt, withLast, Notes, Backs, BackwardPart, ScansBackward, Holds};
 
 // How many places long a fall below the best may last before the backward scan stops; `Off` is the whole window.
 pub enum Xdrop {
@@ -467,6 +467,93 @@ fn backward_part(
     st
 }
 
+// The backward scan over the whole window, the ring's newer part first.
+fn scan_backward(
+    p: Params,
+    ring: &[u32],
+    head: usize,
+    len: usize,
+    window_counts: &[u16],
+    ln: &[f64],
+    f: &[f64],
+    scan_counts: &mut [u16],
+    places: &mut [u32],
+    scores: &mut [f64],
+) -> BackwardState
+    requires { ⌜ Windowed p (now ring) head len (now «window_counts») (length (now ln)) ⌝ }
+    requires { ⌜ Roomy p (length (now f)) (length (now «scan_counts»)) (length (now places)) (length (now scores)) ⌝ }
+    ensures { λ r. ⌜ ScansBackward (setupOf p (now (ln .entry)) (now (f .entry))) (window (now (ring .entry)) head len) r (now («scan_counts» .exit)) (candidates (r .noted) (now (places .exit)) (now (scores .exit))) ⌝ }
+{
+    buffers::clear(scan_counts);
+    let mid = seam(ring.len(), head, len, 0);
+    let newer = backward_part(p, ring, head, len, ring.len(), mid, len, BackwardState::new(), window_counts, ln, f, scan_counts, places, scores);
+    if newer.done {
+        return newer;
+    }
+    backward_part(p, ring, head, len, 0, 0, mid, newer, window_counts, ln, f, scan_counts, places, scores)
+}
+
+// The best place joins the candidates if it is older than all noted, that is, older than the last. `found` is one past it.
+fn push_best(places: &mut [u32], scores: &mut [f64], noted: usize, found: usize, best: f64) -> usize
+    requires { ⌜ (noted < length (now places)) × (noted < length (now scores)) × (0 < found) × (found ≤ 65535) ⌝ }
+    ensures { λ r. ⌜ candidates r (now (places .exit)) (now (scores .exit)) ≡ withBest best found (candidates noted (now (places .entry)) (now (scores .entry))) ⌝ }
+{
+    if noted == 0 {
+        return push_candidate(places, scores, noted, found - 1, best);
+    }
+    if (places[noted - 1] as usize) < found {
+        return noted;
+    }
+    push_candidate(places, scores, noted, found - 1, best)
+}
+
+fn larger(a: usize, b: usize) -> usize
+    ensures { λ r. ⌜ r ≡ larger a b ⌝ }
+{
+    if a < b {
+        return b;
+    }
+    a
+}
+
+// The candidates are tried, the last noted first; answers one past the place of the first whose forward scan is best at the newest entry, 0 for none.
+fn try_candidates(
+    p: Params,
+    ring: &[u32],
+    head: usize,
+    len: usize,
+    noted: usize,
+    ln: &[f64],
+    f: &[f64],
+    places: &[u32],
+    scores: &[f64],
+    scan_counts: &mut [u16],
+) -> usize
+    requires { ⌜ Ringed (now ring) head len (length (now ln)) (length (now f)) (length (now «scan_counts»)) ⌝ }
+    requires { ⌜ length (now «scan_counts») ≡ 4 ^ p .kmer ⌝ }
+    requires { ⌜ Holds len noted (now places) (length (now scores)) ⌝ }
+    ensures { λ r. ⌜ Tells (tryFrom (setupOf p (now (ln .entry)) (now (f .entry))) (window (now (ring .entry)) head len) (candidates noted (now (places .entry)) (now (scores .entry))) noted 0 (now («scan_counts» .entry))) r (now («scan_counts» .exit)) ⌝ }
+{
+    let mut furthest = 0;
+    let mut i = noted;
+    while 0 < i {
+        i -= 1;
+        let place = places[i] as usize;
+        if place + 1 < furthest {
+            continue;
+        }
+        let found = dust_forward(p, ring, head, len, place, scores[i], ln, f, scan_counts);
+        if found == len {
+            return place + 1;
+        }
+        if p.approx {
+            return 0;
+        }
+        furthest = larger(furthest, found);
+    }
+    0
+}
+
 // One past the index in the window from which a forward scan ends best at the newest entry, and 0 where there is none.
 pub fn dust_backward(
     p: Params,
@@ -485,5 +572,11 @@ pub fn dust_backward(
     requires { ⌜ 0 < len ⌝ }
     ensures { λ r. ⌜ Tells (dustBackward (setupOf p (now (ln .entry)) (now (f .entry))) (window (now (ring .entry)) head len)) r (now («scan_counts» .exit)) ⌝ }
 {
-    0
+    let st = scan_backward(p, ring, head, len, window_counts, ln, f, scan_counts, places, scores);
+    let found = st.found;
+    if found == 0 {
+        return 0;
+    }
+    let noted = push_best(places, scores, st.noted, found, st.best);
+    try_candidates(p, ring, head, len, noted, ln, f, places, scores, scan_counts)
 }
