@@ -72,8 +72,8 @@ module _ (S : Setup) (q : List Place) (i l : ℕ) (a : BackwardSums) (counts : L
 
   turn : backwardFrom S q i l a counts cs
       ≡ cond (lt (sub binary64 sw (fAt S l)) zero64) (answer a cs)
-        (cond (isDropped S a sl) (answer (backwardJudged a s sw sl (i - 1)) (noted a sl (i - 1) cs))
-        (backwardFrom S q (i - 1) (l + 1) (backwardJudged a s sw sl (i - 1)) (raise counts e) (noted a sl (i - 1) cs)))
+      (cond (isDropped S a sl) (answer (backwardJudged a s sw sl (i - 1)) (noted a sl (i - 1) cs))
+      (backwardFrom S q (i - 1) (l + 1) (backwardJudged a s sw sl (i - 1)) (raise counts e) (noted a sl (i - 1) cs)))
   unfolding backwardFrom
   turn =
       let m : i ≡ suc (i - 1) = omega arith in

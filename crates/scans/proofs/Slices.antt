@@ -65,15 +65,8 @@ module _ (best : Float) (found n : ℕ) (places : List ℕ) (scores : List Float
     not-none : eqb (length held) 0 ≡ false
     not-none = ne-eqb (length held) 0 (λ (z : length held ≡ 0). some (sym (candidates-length n places scores) ∙ z))
 
-    positive : 0 < n
-    positive = go n some
-      where
-        go : (m : ℕ) → (m ≡ 0 → ⊥) → 0 < m
-        go zero h = absurd (h refl)
-        go (suc m) h = omega arith
-
     pub best-older : found ≤ getD places (n - 1) 0 → withBest best found held ≡ held ++ candidate (found - 1) best ∷ []
-    best-older h = rw (not-none, lt-ltb found (getD held (length held - 1) noCandidate .place + 1) (omega (arith, last-place positive)))
+    best-older h = rw (not-none, lt-ltb found (getD held (length held - 1) noCandidate .place + 1) (omega (arith, last-place (let d : n ≢ 0 = some in omega arith))))
 
     pub best-newer : getD places (n - 1) 0 < found → withBest best found held ≡ held
-    best-newer h = rw (not-none, le-ltb found (getD held (length held - 1) noCandidate .place + 1) (omega (arith, last-place positive)))
+    best-newer h = rw (not-none, le-ltb found (getD held (length held - 1) noCandidate .place + 1) (omega (arith, last-place (let d : n ≢ 0 = some in omega arith))))

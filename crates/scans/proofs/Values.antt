@@ -59,8 +59,8 @@ module _ (t : Float) (window-counts : List ℕ) (ln : List Float) (e : ℕ) (a :
 
   pub adds-plain : bitAnd e 1 ≡ 0 → e / 2 < length counts
       → AddsEntry t window-counts ln (decode e) a
-        (withSums a (add binary64 (a .s) (sub binary64 (getD ln c nan) t)) (add binary64 (a .sw) (sub binary64 (getD ln (getD window-counts (e / 2) 0 - c + 1) nan) t)))
-        counts (set counts (e / 2) c)
+      (withSums a (add binary64 (a .s) (sub binary64 (getD ln c nan) t)) (add binary64 (a .sw) (sub binary64 (getD ln (getD window-counts (e / 2) 0 - c + 1) nan) t)))
+      counts (set counts (e / 2) c)
   adds-plain h l =
       let same : getD (set counts (e / 2) c) (e / 2) 0 ≡ c = getD-set-same counts (e / 2) c 0 l in
       rw (even-plain e h) (record { counts-are = refl; sums-are = rw same })

@@ -318,7 +318,13 @@ struct BackwardState {
 }
 
 // A candidate after the first `noted`; answers how many there are then.
-fn push_candidate(places: &mut [u32], scores: &mut [f64], noted: usize, place: usize, score: f64) -> usize
+fn push_candidate(
+    places: &mut [u32],
+    scores: &mut [f64],
+    noted: usize,
+    place: usize,
+    score: f64,
+) -> usize
     requires { ⌜ (noted < length (now places)) × (noted < length (now scores)) × (place ≤ 65535) ⌝ }
     ensures { λ r. ⌜ (r ≡ noted + 1) × (candidates r (now (places .exit)) (now (scores .exit)) ≡ candidates noted (now (places .entry)) (now (scores .entry)) ++ candidate place score ∷ []) ⌝ }
 {
@@ -343,7 +349,14 @@ impl BackwardState {
     }
 
     // Counts an entry, and adds to both sums.
-    fn add_entry(mut self, threshold: f64, window_counts: &[u16], ln: &[f64], entry: u32, scan_counts: &mut [u16]) -> Self
+    fn add_entry(
+        mut self,
+        threshold: f64,
+        window_counts: &[u16],
+        ln: &[f64],
+        entry: u32,
+        scan_counts: &mut [u16],
+    ) -> Self
         requires { ⌜ (entry / 2 < length (now «window_counts»)) × (entry / 2 < length (now «scan_counts»)) × (getD (now «window_counts») (entry / 2) 0 ≤ 65535) × (getD (now «window_counts») (entry / 2) 0 < length (now ln)) ⌝ }
         requires { ⌜ (entry % 2 ≡ 0 → getD (now «scan_counts») (entry / 2) 0 < getD (now «window_counts») (entry / 2) 0) ⌝ }
         ensures { λ r. ⌜ AddsEntry threshold (now («window_counts» .entry)) (now (ln .entry)) (decode entry) self r (now («scan_counts» .entry)) (now («scan_counts» .exit)) ⌝ }
@@ -449,7 +462,13 @@ fn backward_part(
     while from < i {
         i -= 1;
         let fl = f[len - i];
-        st = st.add_entry(p.threshold, window_counts, ln, ring[head + i - turn], scan_counts);
+        st = st.add_entry(
+            p.threshold,
+            window_counts,
+            ln,
+            ring[head + i - turn],
+            scan_counts,
+        );
         if st.sw - fl < 0.0 {
             return st.stopped();
         }
@@ -486,11 +505,41 @@ fn scan_backward(
 {
     buffers::clear(scan_counts);
     let mid = seam(ring.len(), head, len, 0);
-    let newer = backward_part(p, ring, head, len, ring.len(), mid, len, BackwardState::new(), window_counts, ln, f, scan_counts, places, scores);
+    let newer = backward_part(
+        p,
+        ring,
+        head,
+        len,
+        ring.len(),
+        mid,
+        len,
+        BackwardState::new(),
+        window_counts,
+        ln,
+        f,
+        scan_counts,
+        places,
+        scores,
+    );
     if newer.done {
         return newer;
     }
-    backward_part(p, ring, head, len, 0, 0, mid, newer, window_counts, ln, f, scan_counts, places, scores)
+    backward_part(
+        p,
+        ring,
+        head,
+        len,
+        0,
+        0,
+        mid,
+        newer,
+        window_counts,
+        ln,
+        f,
+        scan_counts,
+        places,
+        scores,
+    )
 }
 
 // The best place joins the candidates if it is older than all noted, that is, older than the last. `found` is one past it.
@@ -572,11 +621,33 @@ pub fn dust_backward(
     requires { ⌜ 0 < len ⌝ }
     ensures { λ r. ⌜ Tells (dustBackward (setupOf p (now (ln .entry)) (now (f .entry))) (window (now (ring .entry)) head len)) r (now («scan_counts» .exit)) ⌝ }
 {
-    let st = scan_backward(p, ring, head, len, window_counts, ln, f, scan_counts, places, scores);
+    let st = scan_backward(
+        p,
+        ring,
+        head,
+        len,
+        window_counts,
+        ln,
+        f,
+        scan_counts,
+        places,
+        scores,
+    );
     let found = st.found;
     if found == 0 {
         return 0;
     }
     let noted = push_best(places, scores, st.noted, found, st.best);
-    try_candidates(p, ring, head, len, noted, ln, f, places, scores, scan_counts)
+    try_candidates(
+        p,
+        ring,
+        head,
+        len,
+        noted,
+        ln,
+        f,
+        places,
+        scores,
+        scan_counts,
+    )
 }

@@ -42,9 +42,16 @@ backward-part-requires c κs =
     let n = c .before .before .before in
     let s = n .before in
     let w = start s .pre .0 in
-    let t = s .seam .ensures in
-    (w, (roomy-as _ _ _ (s .before .before .before .clear .kept .0) refl refl (start s .pre .1), (past-seam _ _ _ _ _ t (omega (arith, w .ring-is, w .head-in)) (omega (arith, w .ring-is, w .len-in)),
-    ((t .to, omega arith), backs-start _ _ (4 ^ start s .args .p .kmer) _ _ (long w) (n .new .ensures) (cleared s)))))
+    let t = s .seam .ensures in (
+      w,
+      (
+        roomy-as _ _ _ (s .before .before .before .clear .kept .0) refl refl (start s .pre .1),
+        (
+          past-seam _ _ _ _ _ t (omega (arith, w .ring-is, w .head-in)) (omega (arith, w .ring-is, w .len-in)),
+          ((t .to, omega arith), backs-start _ _ (4 ^ start s .args .p .kmer) _ _ (long w) (n .new .ensures) (cleared s)),
+        ),
+      ),
+    )
 
 same-length : tie.Need-same-length
 same-length c = search needs
