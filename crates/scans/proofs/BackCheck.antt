@@ -8,7 +8,8 @@ use lib.ListN.{length, getD}
 use lib.Dec.{T}
 use lib.IntN.{ℤ, pos, negsuc, natAbs}
 use lib.Signed.{ltZ, nonNeg}
-use lib.Ieee.{Float, binary64, add, sub, lt}
+use lib.Ieee.{Float, lt}
+use Rattle.floats.specs.Arithmetic.{_⊕_, _⊖_}
 use borrow.Author.Tests.{ltb-true}
 use Rattle.floats.specs.Binary64.{zero64}
 use Rattle.letters.specs.Place.{Place, ambiguous}
@@ -75,7 +76,7 @@ module _ (p : Params) (ring : List ℕ) (head len : ℕ) (counts : List ℕ) (ln
 
   module _ (left i : ℕ) (s : Float) (c : Checking p ln q left i s) (h : 0 < left) (at : ℕ) (a : at ≡ ringIndex (length ring) head (i - 1)) (v : Float) (pv : v ≡ countedValue ln counts (decode (getD ring at 0))) where
     abbrev s′ : Float
-    s′ = add binary64 s (sub binary64 v (p .threshold))
+    s′ = s ⊕ (v ⊖ p .threshold)
 
     here : At (length ring) head (i - 1) at
     here = rw a (ring-index-at (length ring) head (i - 1) (omega (arith, w .ring-is, w .head-in)) (omega (arith, c .inside, long w, w .ring-is, w .len-in)))

@@ -7,7 +7,8 @@ use native.Mathlib.Omega.{arith}
 use lib.ListN.{length, getD, drop, replicate, drop-of-length-le}
 use lib.Seq.{drop-cons}
 use lib.Dec.{T, eqb}
-use lib.Ieee.{Float, nan, binary64, add, sub, neg, lt, le, eq, ofBits, ofFields}
+use lib.Ieee.{Float, nan, neg, lt, le, eq, ofBits, ofFields}
+use Rattle.floats.specs.Arithmetic.{_⊕_, _⊖_}
 use Rattle.floats.specs.Binary64.{zero64, nearZero}
 use Rattle.letters.specs.Place.{Place, ambiguous, plain}
 use Rattle.letters.specs.Entry.{decode}
@@ -59,19 +60,19 @@ module _ (sl : Float) (i : ℕ) (a : BackwardState) (cs : List Candidate) where
 module _ (S : Setup) (q : List Place) (i l : ℕ) (a : BackwardSums) (counts : List ℕ) (cs : List Candidate) (e : Place) (v vw : Float)
     (some : 0 < i) (pe : getD q (i - 1) ambiguous ≡ e) (pv : v ≡ value S counts e) (pw : vw ≡ secondValue S q (raise counts e) e) where
   abbrev s : Float
-  s = add binary64 (a .s) (sub binary64 v (S .threshold))
+  s = a .s ⊕ (v ⊖ S .threshold)
 
   abbrev sw : Float
-  sw = add binary64 (a .sw) (sub binary64 vw (S .threshold))
+  sw = a .sw ⊕ (vw ⊖ S .threshold)
 
   abbrev sl : Float
-  sl = sub binary64 s (fAt S l)
+  sl = s ⊖ fAt S l
 
   abbrev answer : BackwardSums → List Candidate → Backward
   answer b cs′ = record { best = b .best; found = b .found; counts = raise counts e; candidates = cs′ }
 
   turn : backwardFrom S q i l a counts cs
-      ≡ cond (lt (sub binary64 sw (fAt S l)) zero64) (answer a cs)
+      ≡ cond (lt (sw ⊖ fAt S l) zero64) (answer a cs)
       (cond (isDropped S a sl) (answer (backwardJudged a s sw sl (i - 1)) (noted a sl (i - 1) cs))
       (backwardFrom S q (i - 1) (l + 1) (backwardJudged a s sw sl (i - 1)) (raise counts e) (noted a sl (i - 1) cs)))
   unfolding backwardFrom
@@ -79,10 +80,10 @@ module _ (S : Setup) (q : List Place) (i l : ℕ) (a : BackwardSums) (counts : L
       let m : i ≡ suc (i - 1) = omega arith in
       ap (λ (x : ℕ). backwardFrom S q x l a counts cs) m ∙ rw (pw, pv, pe)
 
-  pub turn-ended : lt (sub binary64 sw (fAt S l)) zero64 ≡ true → backwardFrom S q i l a counts cs ≡ answer a cs
+  pub turn-ended : lt (sw ⊖ fAt S l) zero64 ≡ true → backwardFrom S q i l a counts cs ≡ answer a cs
   turn-ended t = turn ∙ rw t
 
-  module _ (on : lt (sub binary64 sw (fAt S l)) zero64 ≡ false) where
+  module _ (on : lt (sw ⊖ fAt S l) zero64 ≡ false) where
     -- A new best: it falls from no peak, since the last score is not above the best before.
     pub turn-raised : lt (a .best) (a .last) ≡ false → le (a .best) sl ≡ true
         → backwardFrom S q i l a counts cs ≡ backwardFrom S q (i - 1) (l + 1) (record { s = s; sw = sw; last = sl; best = sl; found = i - 1 + 1 }) (raise counts e) cs
@@ -91,10 +92,10 @@ module _ (S : Setup) (q : List Place) (i l : ℕ) (a : BackwardSums) (counts : L
         turn ∙ rw (on, h, z)
 
     module _ (h : le (a .best) sl ≡ false) where
-      pub turn-dropped : not (eqb (a .found) 0) && lt (S .drop-limit) (sub binary64 (a .best) sl) ≡ true → backwardFrom S q i l a counts cs ≡ answer a (noted a sl (i - 1) cs)
+      pub turn-dropped : not (eqb (a .found) 0) && lt (S .drop-limit) (a .best ⊖ sl) ≡ true → backwardFrom S q i l a counts cs ≡ answer a (noted a sl (i - 1) cs)
       turn-dropped d = turn ∙ rw (on, h, d)
 
-      pub turn-fallen : not (eqb (a .found) 0) && lt (S .drop-limit) (sub binary64 (a .best) sl) ≡ false
+      pub turn-fallen : not (eqb (a .found) 0) && lt (S .drop-limit) (a .best ⊖ sl) ≡ false
           → backwardFrom S q i l a counts cs ≡ backwardFrom S q (i - 1) (l + 1) (record { s = s; sw = sw; last = sl; best = a .best; found = a .found }) (raise counts e) (noted a sl (i - 1) cs)
       turn-fallen d = turn ∙ rw (on, h, d)
 
@@ -182,7 +183,7 @@ module _ (p : Params) (ring : List ℕ) (head len : ℕ) (ln f : List Float) (fr
         fl = getD f (len - (i - 1)) nan
 
         abbrev score : Float
-        score = sub binary64 (b₁ .s) fl
+        score = b₁ .s ⊖ fl
 
         pub note-ready : (b₁ .noted < length places) × (b₁ .noted < length scores) × (i - 1 < 65535)
         note-ready =
@@ -205,11 +206,11 @@ module _ (p : Params) (ring : List ℕ) (head len : ℕ) (ln f : List Float) (fr
         nth : len - (i - 1) ≡ length q′ + 1 - i
         nth = omega (arith, long w, in-window)
 
-        score-is : score ≡ sub binary64 (add binary64 (b .s) (sub binary64 v (p .threshold))) (fAt S′ (length q′ + 1 - i))
-        score-is = ap₂ (λ (z : BackwardState) (l : ℕ). sub binary64 (z .s) (getD f l nan)) (k .sums-are) nth
+        score-is : score ≡ (b .s ⊕ (v ⊖ p .threshold)) ⊖ fAt S′ (length q′ + 1 - i)
+        score-is = ap₂ (λ (z : BackwardState) (l : ℕ). z .s ⊖ getD f l nan) (k .sums-are) nth
 
-        second-score-is : sub binary64 (b₁ .sw) fl ≡ sub binary64 (add binary64 (b .sw) (sub binary64 vw (p .threshold))) (fAt S′ (length q′ + 1 - i))
-        second-score-is = ap₂ (λ (z : BackwardState) (l : ℕ). sub binary64 (z .sw) (getD f l nan)) (k .sums-are) nth
+        second-score-is : b₁ .sw ⊖ fl ≡ (b .sw ⊕ (vw ⊖ p .threshold)) ⊖ fAt S′ (length q′ + 1 - i)
+        second-score-is = ap₂ (λ (z : BackwardState) (l : ℕ). z .sw ⊖ getD f l nan) (k .sums-are) nth
 
         abbrev cs : List Candidate
         cs = candidates (b .noted) places scores
@@ -222,7 +223,7 @@ module _ (p : Params) (ring : List ℕ) (head len : ℕ) (ln f : List Float) (fr
         counts-long : length counts′ ≡ length counts₀
         counts-long = ap length (k .counts-are) ∙ raise-counted (length counts) counts (drop i q′) (decode entry) (decode-below (length counts) entry below) (record { long = refl; counted = c .here .counted }) .long ∙ c .same-counts
 
-        pub backing-ended : (b′ : BackwardState) → backwardOf b′ ≡ backwardOf b₁ → b′ .noted ≡ b₁ .noted → b′ .done ≡ true → lt (sub binary64 (b₁ .sw) fl) zero64 ≡ true
+        pub backing-ended : (b′ : BackwardState) → backwardOf b′ ≡ backwardOf b₁ → b′ .noted ≡ b₁ .noted → b′ .done ≡ true → lt (b₁ .sw ⊖ fl) zero64 ≡ true
             → BackwardPart S′ q′ from to a b′ counts₀ counts′ (candidates (a .noted) places₀ scores₀) (candidates (b′ .noted) places scores)
         backing-ended b′ e n d h =
             record {
@@ -231,11 +232,11 @@ module _ (p : Params) (ring : List ℕ) (head len : ℕ) (ln f : List Float) (fr
               next = λ g. absurd (true≢false (sym d ∙ g));
             }
 
-        module _ (on : lt (sub binary64 (b₁ .sw) fl) zero64 ≡ false) where
-          on′ : lt (sub binary64 (add binary64 (b .sw) (sub binary64 vw (p .threshold))) (fAt S′ (length q′ + 1 - i))) zero64 ≡ false
+        module _ (on : lt (b₁ .sw ⊖ fl) zero64 ≡ false) where
+          on′ : lt ((b .sw ⊕ (vw ⊖ p .threshold)) ⊖ fAt S′ (length q′ + 1 - i)) zero64 ≡ false
           on′ = rw second-score-is at on
 
-          compared : (t : Bool) → le (b₁ .best) score ≡ t → le (b .best) (sub binary64 (add binary64 (b .s) (sub binary64 v (p .threshold))) (fAt S′ (length q′ + 1 - i))) ≡ t
+          compared : (t : Bool) → le (b₁ .best) score ≡ t → le (b .best) ((b .s ⊕ (v ⊖ p .threshold)) ⊖ fAt S′ (length q′ + 1 - i)) ≡ t
           compared t h = ap₂ (λ (z : BackwardState) (x : Float). le (z .best) x) (sym (k .sums-are)) (sym score-is) ∙ h
 
           -- One entry on, with the same sums and candidates.
@@ -265,17 +266,17 @@ module _ (p : Params) (ring : List ℕ) (head len : ℕ) (ln f : List Float) (fr
               }
 
           module _ (h : le (b₁ .best) score ≡ false) (b₂ : BackwardState) (places′ : List ℕ) (scores′ : List Float) (n : Notes score (i - 1) b₁ b₂ (candidates (b₁ .noted) places scores) (candidates (b₂ .noted) places′ scores′)) where
-            noted-are : candidates (b₂ .noted) places′ scores′ ≡ noted (backwardOf b) (sub binary64 (add binary64 (b .s) (sub binary64 v (p .threshold))) (fAt S′ (length q′ + 1 - i))) (i - 1) cs
+            noted-are : candidates (b₂ .noted) places′ scores′ ≡ noted (backwardOf b) ((b .s ⊕ (v ⊖ p .threshold)) ⊖ fAt S′ (length q′ + 1 - i)) (i - 1) cs
             noted-are = n .candidates-are ∙ rw (score-is, k .sums-are)
 
             kept : b₂ ≡ withNoted (withSums b (b₁ .s) (b₁ .sw)) (b₂ .noted)
             kept = n .state-is ∙ rw (k .sums-are)
 
-            limited : (t : Bool) → not (eqb (b₂ .found) 0) && lt (p .limit) (sub binary64 (b₂ .best) score) ≡ t
-                → not (eqb (b .found) 0) && lt (p .limit) (sub binary64 (b .best) (sub binary64 (add binary64 (b .s) (sub binary64 v (p .threshold))) (fAt S′ (length q′ + 1 - i)))) ≡ t
-            limited t d = ap₂ (λ (z : BackwardState) (x : Float). not (eqb (z .found) 0) && lt (p .limit) (sub binary64 (z .best) x)) (sym kept) (sym score-is) ∙ d
+            limited : (t : Bool) → not (eqb (b₂ .found) 0) && lt (p .limit) (b₂ .best ⊖ score) ≡ t
+                → not (eqb (b .found) 0) && lt (p .limit) (b .best ⊖ ((b .s ⊕ (v ⊖ p .threshold)) ⊖ fAt S′ (length q′ + 1 - i))) ≡ t
+            limited t d = ap₂ (λ (z : BackwardState) (x : Float). not (eqb (z .found) 0) && lt (p .limit) (z .best ⊖ x)) (sym kept) (sym score-is) ∙ d
 
-            pub backing-dropped : not (eqb (b₂ .found) 0) && lt (p .limit) (sub binary64 (b₂ .best) score) ≡ true → (b′ : BackwardState) → backwardOf b′ ≡ backwardOf b₂ → b′ .noted ≡ b₂ .noted → b′ .done ≡ true
+            pub backing-dropped : not (eqb (b₂ .found) 0) && lt (p .limit) (b₂ .best ⊖ score) ≡ true → (b′ : BackwardState) → backwardOf b′ ≡ backwardOf b₂ → b′ .noted ≡ b₂ .noted → b′ .done ≡ true
                 → BackwardPart S′ q′ from to a b′ counts₀ counts′ (candidates (a .noted) places₀ scores₀) (candidates (b′ .noted) places′ scores′)
             backing-dropped d b′ e m g =
                 record {
@@ -284,7 +285,7 @@ module _ (p : Params) (ring : List ℕ) (head len : ℕ) (ln f : List Float) (fr
                   next = λ z. absurd (true≢false (sym g ∙ z));
                 }
 
-            pub backing-fallen : not (eqb (b₂ .found) 0) && lt (p .limit) (sub binary64 (b₂ .best) score) ≡ false → (b₃ : BackwardState) → b₃ ≡ withLast b₂ score → length places′ ≡ length places → length scores′ ≡ length scores
+            pub backing-fallen : not (eqb (b₂ .found) 0) && lt (p .limit) (b₂ .best ⊖ score) ≡ false → (b₃ : BackwardState) → b₃ ≡ withLast b₂ score → length places′ ≡ length places → length scores′ ≡ length scores
                 → Backing S′ q′ from to a counts₀ places₀ scores₀ (i - 1) b₃ counts′ places′ scores′
             backing-fallen d b₃ e lp ls =
                 let m : b₃ .noted ≡ b₂ .noted = ap (λ (z : BackwardState). z .noted) e in

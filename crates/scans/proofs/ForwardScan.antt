@@ -8,7 +8,8 @@ use native.Mathlib.Numerals.{add-one}
 use native.Mathlib.Omega.{arith}
 use lib.ListN.{length, getD, set, drop, replicate, length-set, drop-of-length-le}
 use lib.Seq.{drop-cons}
-use lib.Ieee.{Float, binary64, add, sub, lt}
+use lib.Ieee.{Float, lt}
+use Rattle.floats.specs.Arithmetic.{_⊕_, _⊖_}
 use Rattle.floats.specs.Binary64.{slack}
 use Rattle.letters.specs.Place.{Place, ambiguous, plain}
 use Rattle.letters.specs.Entry.{decode}
@@ -24,10 +25,10 @@ use Rattle.scans.proofs.Ring.{ring-index-at, queue-at, window-at, windo
 use Rattle.scans.proofs.Values.{raised-value, decode-below}
 
 abbrev pub nextSum : Setup → ForwardSums → Float → Float
-nextSum S a v = add binary64 (a .s) (sub binary64 v (S .threshold))
+nextSum S a v = a .s ⊕ (v ⊖ S .threshold)
 
 abbrev pub nextScore : Setup → ℕ → ℕ → ForwardSums → Float → Float
-nextScore S start i a v = sub binary64 (nextSum S a v) (fAt S (i + 1 - start))
+nextScore S start i a v = nextSum S a v ⊖ fAt S (i + 1 - start)
 
 -- ---- The definition, one entry on; e is the entry at index i.
 forward-turn : (S : Setup) (limit : Float) (q : List Place) (start i : ℕ) (a : ForwardSums) (counts : List ℕ) (e : Place) (v : Float) → i < length q → start ≤ i → getD q i ambiguous ≡ e → v ≡ value S counts e
@@ -162,7 +163,7 @@ ringed-less {ring} {head} {len} {n} {m} {k} to k′ l ek r =
           subst (λ (z : ℕ). z / 2 < k′) e (omega (arith, r .below j (omega arith)));
     }
 
-module _ (p : Params) (ln f : List Float) (ring : List ℕ) (head len start mid : ℕ) (h : head < length ring) (l : len ≤ length ring) (s : Seam (length ring) head len start mid) (max-back limit : Float) (e : limit ≡ add binary64 max-back slack)
+module _ (p : Params) (ln f : List Float) (ring : List ℕ) (head len start mid : ℕ) (h : head < length ring) (l : len ≤ length ring) (s : Seam (length ring) head len start mid) (max-back limit : Float) (e : limit ≡ max-back ⊕ slack)
     (a b : ForwardState) (counts₀ counts : List ℕ) (fresh : forwardOf a ≡ forwardStart) (clear : counts₀ ≡ replicate (4 ^ p .kmer) 0)
     (part : ForwardPart (setupOf p ln f) limit ring head start start mid a b counts₀ counts) where
   abbrev S : Setup

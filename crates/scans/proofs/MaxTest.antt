@@ -7,8 +7,9 @@ use native.Mathlib.Numerals.{add-one}
 use native.Mathlib.Omega.{arith}
 use lib.ListN.{getD}
 use lib.IntN.{ℤ, pos}
-use lib.Ieee.{Float, nan, binary64, add, sub, mul, div, lt, toSigned}
+use lib.Ieee.{Float, nan, lt, toSigned}
 use lib.Ieee.Casts.{toSigned-in}
+use Rattle.floats.specs.Arithmetic.{_⊕_, _⊖_, _⊗_, _⊘_}
 use mir.Syntax.{w32}
 use mir.Val.{SFits, toZ, ofZ}
 use mir.Facts.{toZ-ofZ}
@@ -40,12 +41,12 @@ module _ (ln f : List Float) (w : ℕ) (t : Float) where
 
     module _ (h : i ≤ w) where
       abbrev s′ : Float
-      s′ = add binary64 s (sub binary64 (getD ln i nan) t)
+      s′ = s ⊕ (getD ln i nan ⊖ t)
 
       more : w + 1 - i ≡ suc (w + 1 - (i + 1))
       more = omega arith
 
-      pub testing-turn : lt zero64 (sub binary64 s′ (getD f i nan)) ≡ false → Testing ln f w t s′ (i + 1)
+      pub testing-turn : lt zero64 (s′ ⊖ getD f i nan) ≡ false → Testing ln f w t s′ (i + 1)
       unfolding maxTestFrom
       testing-turn on =
           record {
@@ -55,9 +56,9 @@ module _ (ln f : List Float) (w : ℕ) (t : Float) where
           }
 
       -- A signed answer r goes through its bits.
-      pub testing-found : (r : ℤ) → r ≡ toSigned 31 (div binary64 (mul binary64 (number i) (getD ln i nan)) t) → lt zero64 (sub binary64 s′ (getD f i nan)) ≡ true
+      pub testing-found : (r : ℤ) → r ≡ toSigned 31 (number i ⊗ getD ln i nan ⊘ t) → lt zero64 (s′ ⊖ getD f i nan) ≡ true
           → toZ w32 (ofZ w32 r) ≡ maxTest w t ln f
       unfolding maxTestFrom
       testing-found r e over =
-          toZ-ofZ (subst (SFits w32) (sym e) (record { sfits = toSigned-in 31 (div binary64 (mul binary64 (number i) (getD ln i nan)) t) })) ∙ e
+          toZ-ofZ (subst (SFits w32) (sym e) (record { sfits = toSigned-in 31 (number i ⊗ getD ln i nan ⊘ t) })) ∙ e
           ∙ sym (c .whole ∙ ap (λ (m : ℕ). maxTestFrom t ln f m i s) more ∙ rw over)

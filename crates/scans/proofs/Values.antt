@@ -7,7 +7,8 @@ use lib.ListN.{length, getD, set}
 use lib.Seq.{getD-set-same}
 use lib.Dec.{eqb}
 use lib.Bits.{bitAnd, and-mask}
-use lib.Ieee.{Float, nan, binary64, add, sub}
+use lib.Ieee.{Float, nan}
+use Rattle.floats.specs.Arithmetic.{_⊕_, _⊖_}
 use Rattle.floats.specs.Binary64.{zero64}
 use Rattle.letters.specs.Place.{Place, ambiguous, plain, BelowAt}
 use Rattle.letters.specs.Entry.{decode}
@@ -51,7 +52,7 @@ raised-value S counts (plain x) h = raised-plain (S .ln) counts x h
 
 -- Both values of an entry, by its bits.
 module _ (t : Float) (window-counts : List ℕ) (ln : List Float) (e : ℕ) (a : BackwardState) (counts : List ℕ) where
-  pub adds-ambiguous : (bitAnd e 1 ≡ 0 → ⊥) → AddsEntry t window-counts ln (decode e) a (withSums a (add binary64 (a .s) (sub binary64 zero64 t)) (add binary64 (a .sw) (sub binary64 zero64 t))) counts counts
+  pub adds-ambiguous : (bitAnd e 1 ≡ 0 → ⊥) → AddsEntry t window-counts ln (decode e) a (withSums a (a .s ⊕ (zero64 ⊖ t)) (a .sw ⊕ (zero64 ⊖ t))) counts counts
   adds-ambiguous h = rw (odd-ambiguous e h) (record { counts-are = refl; sums-are = refl })
 
   abbrev c : ℕ
@@ -59,7 +60,7 @@ module _ (t : Float) (window-counts : List ℕ) (ln : List Float) (e : ℕ) (a :
 
   pub adds-plain : bitAnd e 1 ≡ 0 → e / 2 < length counts
       → AddsEntry t window-counts ln (decode e) a
-      (withSums a (add binary64 (a .s) (sub binary64 (getD ln c nan) t)) (add binary64 (a .sw) (sub binary64 (getD ln (getD window-counts (e / 2) 0 - c + 1) nan) t)))
+      (withSums a (a .s ⊕ (getD ln c nan ⊖ t)) (a .sw ⊕ (getD ln (getD window-counts (e / 2) 0 - c + 1) nan ⊖ t)))
       counts (set counts (e / 2) c)
   adds-plain h l =
       let same : getD (set counts (e / 2) c) (e / 2) 0 ≡ c = getD-set-same counts (e / 2) c 0 l in

@@ -4,7 +4,8 @@ use mathlib.Core.Bool.{false, cond}
 use mathlib.Core.List.{List, [], _∷_, _++_}
 use Prim.Native.Nat.{ℕ, zero, suc, _+_, _-_, _/_, _<_, _≤_}
 use lib.ListN.{length, getD, drop}
-use lib.Ieee.{Float, nan, binary64, add, sub, lt}
+use lib.Ieee.{Float, nan, lt}
+use Rattle.floats.specs.Arithmetic.{_⊕_, _⊖_}
 use Rattle.floats.specs.Binary64.{zero64}
 use Rattle.letters.specs.Place.{Place, ambiguous, plain}
 use Rattle.scans.specs.declared.ForwardState.{ForwardState}
@@ -74,7 +75,7 @@ leftValue ln window-counts raised (plain x) = getD ln (getD window-counts x 0 - 
 -- A place is counted, and adds to both sums.
 pub record AddsEntry (t : Float) (window-counts : List ℕ) (ln : List Float) (e : Place) (a b : BackwardState) (counts counts′ : List ℕ) : Type 0 where
   pub counts-are : counts′ ≡ raise counts e
-  pub sums-are : b ≡ withSums a (add binary64 (a .s) (sub binary64 (countedValue ln counts′ e) t)) (add binary64 (a .sw) (sub binary64 (leftValue ln window-counts counts′ e) t))
+  pub sums-are : b ≡ withSums a (a .s ⊕ (countedValue ln counts′ e ⊖ t)) (a .sw ⊕ (leftValue ln window-counts counts′ e ⊖ t))
 
 -- The score sl of entry i is the new best, or is below the best.
 abbrev pub withBestAt : BackwardState → Float → ℕ → BackwardState

@@ -6,7 +6,8 @@ ghost use mathlib.Core.List.{List, [], _∷_, _++_};
 ghost use Prim.Native.Nat.{_+_, _/_, _%_, _^_, _<_, _≤_};
 ghost use lib.ListN.{length, getD};
 ghost use lib.Dec.{eqb};
-ghost use lib.Ieee.{Float, binary64, sub, lt};
+ghost use lib.Ieee.{Float, lt};
+ghost use Rattle.floats.specs.Arithmetic.{_⊖_};
 ghost use Rattle.letters.specs.Entry.{decode};
 ghost use Rattle.scans.specs.Setup.{dropLimit, maxTest, setupOf};
 ghost use Rattle.scans.specs.Scans.{maxSteps, ifBackward, forwardStart, forwardJudged, dustForward, candidate, backwardStart, isNoted, withBest, larger, tryFrom, dustBackward};
@@ -417,7 +418,7 @@ impl BackwardState {
 
     // Whether the score is too far below the best.
     fn too_low(self, sl: f64, limit: f64) -> bool
-        ensures { λ r. ⌜ r ≡ (not (eqb (self .found) 0) && lt limit (sub binary64 (self .best) sl)) ⌝ }
+        ensures { λ r. ⌜ r ≡ (not (eqb (self .found) 0) && lt limit (self .best ⊖ sl)) ⌝ }
     {
         if self.best - sl > limit {
             return self.found != 0;
