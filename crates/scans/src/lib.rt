@@ -652,3 +652,16 @@ pub fn dust_backward(
         scan_counts,
     )
 }
+
+// The sum and the best score of the last find's forward scan, carried on to the newest entry while `on`.
+pub struct Carry {
+    pub on: bool,
+    pub s: f64,
+    pub best: f64,
+}
+
+// One past the index found, 0 for none, and the scan that is carried on.
+pub struct Scanned {
+    pub found: usize,
+    pub carry: Carry,
+}
