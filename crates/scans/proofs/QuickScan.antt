@@ -95,13 +95,12 @@ module _ (i : ℕ) (a : BackwardSums) (cs : List Candidate) (bare : Bare (suc i)
 pub record Agrees (r : Quick) (b : Backward) : Type 0 where
   pub best-same : b .best ≡ r .best
   pub found-same : b .found ≡ r .found
-  pub counts-same : b .counts ≡ r .counts
   top : Top (b .found) (b .best) (b .candidates)
 
 module _ (S : Setup) (q : List Place) where
   quick-agrees : (i l : ℕ) (a : BackwardSums) (counts : List ℕ) (cs : List Candidate) → Bare i a cs → quickFrom S q i l a counts .tied ≡ false → Agrees (quickFrom S q i l a counts) (backwardFrom S q i l a counts cs)
   unfolding quickFrom backwardFrom
-  quick-agrees zero l a counts cs bare h = record { best-same = refl; found-same = refl; counts-same = refl; top = bare .top }
+  quick-agrees zero l a counts cs bare h = record { best-same = refl; found-same = refl; top = bare .top }
   quick-agrees (suc i) l a counts cs bare h =
       let e : Place = getD q i ambiguous in
       let counts′ : List ℕ = raise counts e in
@@ -110,21 +109,21 @@ module _ (S : Setup) (q : List Place) where
       let sw : Float = add binary64 (a .sw) (sub binary64 (secondValue S q counts′ e) (S .threshold)) in
       let a′ : BackwardSums = backwardJudged a s sw sl i in
       let cs′ : List Candidate = noted a sl i cs in
-      let over : Quick = record { best = a .best; found = a .found; low = i; tied = false; counts = counts′ } in
-      let tie : Quick = record { best = a .best; found = a .found; low = i; tied = true; counts = counts′ } in
-      let fell : Quick = record { best = a′ .best; found = a′ .found; low = i; tied = false; counts = counts′ } in
+      let over : Quick = record { best = a .best; found = a .found; tied = false } in
+      let tie : Quick = record { best = a .best; found = a .found; tied = true } in
+      let fell : Quick = record { best = a′ .best; found = a′ .found; tied = false } in
       let later : Quick = quickFrom S q i (l + 1) a′ counts′ in
       let over₂ : Backward = record { best = a .best; found = a .found; counts = counts′; candidates = cs } in
       let fell₂ : Backward = record { best = a′ .best; found = a′ .found; counts = counts′; candidates = cs′ } in
       let later₂ : Backward = backwardFrom S q i (l + 1) a′ counts′ cs′ in
       by-test-both (λ (r : Quick) (b : Backward). r .tied ≡ false → Agrees r b) (lt (sub binary64 sw (fAt S l)) zero64)
       over (cond (isTied a sl) tie (cond (isDropped S a sl) fell later)) over₂ (cond (isDropped S a sl) fell₂ later₂)
-      (λ _ _. record { best-same = refl; found-same = refl; counts-same = refl; top = bare .top })
+      (λ _ _. record { best-same = refl; found-same = refl; top = bare .top })
       (λ _. by-test (λ (r : Quick). r .tied ≡ false → Agrees r (cond (isDropped S a sl) fell₂ later₂)) (isTied a sl) tie (cond (isDropped S a sl) fell later)
       (λ _ (t : true ≡ false). absurd (true≢false t))
       (λ n. let bare′ = judged-bare i a cs bare s sw sl n in
       by-test-both (λ (r : Quick) (b : Backward). r .tied ≡ false → Agrees r b) (isDropped S a sl) fell later fell₂ later₂
-      (λ _ _. record { best-same = refl; found-same = refl; counts-same = refl; top = bare′ .top })
+      (λ _ _. record { best-same = refl; found-same = refl; top = bare′ .top })
       (λ _ (t : later .tied ≡ false). quick-agrees i (l + 1) a′ counts′ cs′ bare′ t))) h
 
   -- A scan from the newest entry on, and a list in which the last candidate is the best place.

@@ -15,31 +15,31 @@ use Rattle.scans.specs.Counts.{raise}
 use Rattle.scans.specs.Scans.{value, ForwardSums, forwardJudged, Forward, forwardFrom}
 use Rattle.scans.proofs.Test.{by-test}
 
-never-above : (x : Float) → lt (inf false) x ≡ false
+pub never-above : (x : Float) → lt (inf false) x ≡ false
 unfolding lt
 never-above nan = refl
 never-above (inf t) = refl
 never-above (fin t n d) = refl
 
 module _ (S : Setup) where
-  abbrev sum : ForwardSums → List ℕ → Place → Float
+  abbrev pub sum : ForwardSums → List ℕ → Place → Float
   sum a counts e = add binary64 (a .s) (sub binary64 (value S counts e) (S .threshold))
 
-  abbrev score : ForwardSums → List ℕ → Place → ℕ → Float
+  abbrev pub score : ForwardSums → List ℕ → Place → ℕ → Float
   score a counts e l = sub binary64 (sum a counts e) (fAt S l)
 
-  abbrev judged : ForwardSums → List ℕ → Place → ℕ → ℕ → ForwardSums
+  abbrev pub judged : ForwardSums → List ℕ → Place → ℕ → ℕ → ForwardSums
   judged a counts e l i = forwardJudged a (sum a counts e) (score a counts e l) i
 
-  abbrev whole : List Place → ℕ → ℕ → ForwardSums → List ℕ → Forward
+  abbrev pub whole : List Place → ℕ → ℕ → ForwardSums → List ℕ → Forward
   whole es l i a counts = forwardFrom S (inf false) es l i a counts
 
-  step : (limit : Float) (e : Place) (es : List Place) (l i : ℕ) (a : ForwardSums) (counts : List ℕ)
+  pub step : (limit : Float) (e : Place) (es : List Place) (l i : ℕ) (a : ForwardSums) (counts : List ℕ)
       → forwardFrom S limit (e ∷ es) l i a counts ≡ cond (lt limit (score a counts e l)) (record { sums = judged a counts e l i; counts = raise counts e }) (forwardFrom S limit es (l + 1) (i + 1) (judged a counts e l i) (raise counts e))
   unfolding forwardFrom
   step limit e es l i a counts = refl
 
-  whole-step : (e : Place) (es : List Place) (l i : ℕ) (a : ForwardSums) (counts : List ℕ) → whole (e ∷ es) l i a counts ≡ whole es (l + 1) (i + 1) (judged a counts e l i) (raise counts e)
+  pub whole-step : (e : Place) (es : List Place) (l i : ℕ) (a : ForwardSums) (counts : List ℕ) → whole (e ∷ es) l i a counts ≡ whole es (l + 1) (i + 1) (judged a counts e l i) (raise counts e)
   whole-step e es l i a counts =
       step (inf false) e es l i a counts
       ∙ ap (λ (b : Bool). cond b (record { sums = judged a counts e l i; counts = raise counts e }) (whole es (l + 1) (i + 1) (judged a counts e l i) (raise counts e))) (never-above (score a counts e l))
@@ -116,11 +116,11 @@ module _ (S : Setup) where
     pub best-same : x .sums .best ≡ y .sums .best
     pub counts-same : x .counts ≡ y .counts
 
-  judged-s : (a : ForwardSums) (s sl : Float) (i : ℕ) → forwardJudged a s sl i .s ≡ s
+  pub judged-s : (a : ForwardSums) (s sl : Float) (i : ℕ) → forwardJudged a s sl i .s ≡ s
   judged-s a s sl i =
       by-test (λ (b : ForwardSums). b .s ≡ s) (le (a .best) sl) (record { s = s; best = sl; found = i + 1 }) (record { s = s; best = a .best; found = a .found }) (λ _. refl) (λ _. refl)
 
-  judged-best : (a : ForwardSums) (s sl : Float) (i : ℕ) → forwardJudged a s sl i .best ≡ cond (le (a .best) sl) sl (a .best)
+  pub judged-best : (a : ForwardSums) (s sl : Float) (i : ℕ) → forwardJudged a s sl i .best ≡ cond (le (a .best) sl) sl (a .best)
   judged-best a s sl i = go (le (a .best) sl)
     where
       go : (t : Bool) → cond {A = ForwardSums} t (record { s = s; best = sl; found = i + 1 }) (record { s = s; best = a .best; found = a .found }) .best ≡ cond t sl (a .best)

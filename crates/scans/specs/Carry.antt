@@ -1,13 +1,16 @@
 -- The forward scan of the last find, carried on letter by letter, and the scan counts that a scan leaves.
 use mathlib.Core.Path.{_≡_}
-use mathlib.Core.Bool.{true, false}
+use mathlib.Core.Bool.{true, false, cond}
 use mathlib.Core.List.{List}
-use lib.Ieee.{inf}
+use Prim.Native.Nat.{ℕ, _≤_}
+use lib.ListN.{getD}
+use lib.Ieee.{Float, binary64, add, sub, le, inf}
 use Rattle.letters.specs.Place.{Place}
 use Rattle.scans.specs.declared.Carry.{Carry}
-use Rattle.scans.specs.Setup.{Setup}
-use Rattle.scans.specs.Counts.{cleared}
-use Rattle.scans.specs.Scans.{Forward, forwardStart, forwardFrom}
+use Rattle.scans.specs.Setup.{Setup, fAt}
+use Rattle.scans.specs.Counts.{count, cleared}
+use Rattle.scans.specs.Scans.{Find, none, at, Outcome, value, Forward, forwardStart, forwardFrom}
+use Rattle.scans.specs.Window.{findOf}
 
 -- The forward scan over all of the places: nothing is above its limit, so it is never stopped.
 abbrev pub wholeForward : Setup → List Place → Forward
@@ -17,3 +20,23 @@ wholeForward S es = forwardFrom S (inf false) es 1 0 forwardStart (cleared S)
 pub record Carried (S : Setup) (es : List Place) (c : Carry) : Type 0 where
   pub s-is : c .on ≡ true → wholeForward S es .sums .s ≡ c .s
   pub best-is : c .on ≡ true → wholeForward S es .sums .best ≡ c .best
+
+-- No count is above how often its k-mer stands among the places, so that a count above 0 is that of one of them.
+pub record Touched (counts : List ℕ) (es : List Place) : Type 0 where
+  pub at-most : (x : ℕ) → getD counts x 0 ≤ count x es
+
+-- The answer r is the outcome's find, and the scan counts left are the outcome's where something was found, else all 0.
+abbrev pub countsLeft : Setup → Find → List ℕ → List ℕ
+countsLeft S none counts = cleared S
+countsLeft S (at j) counts = counts
+
+pub record Settles (S : Setup) (o : Outcome) (r : ℕ) (counts : List ℕ) : Type 0 where
+  pub find-is : findOf r ≡ o .find
+  pub counts-are : counts ≡ countsLeft S (o .find) (o .counts)
+
+-- One place more, the l-th of the scan: its value is added, and a score as high as the best is the new best. `counts` are those of the places before.
+abbrev pub carriedOn : Setup → ℕ → List ℕ → Place → Carry → Carry
+carriedOn S l counts e c =
+    let s : Float = add binary64 (c .s) (sub binary64 (value S counts e) (S .threshold)) in
+    let sl : Float = sub binary64 s (fAt S l) in
+    record { on = c .on; s = s; best = cond (le (c .best) sl) sl (c .best) }

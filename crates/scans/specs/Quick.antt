@@ -10,20 +10,18 @@ use Rattle.scans.specs.Setup.{Setup, fAt}
 use Rattle.scans.specs.Counts.{raise}
 use Rattle.scans.specs.Scans.{value, secondValue, BackwardSums, isDropped, backwardJudged}
 
--- The best score, one past its index (0: none), the oldest index that was counted, whether a near tie ended the scan, and the scan counts.
+-- The best score, one past its index (0: none), and whether a near tie ended the scan.
 pub record Quick : Type 0 where
   pub best : Float
   pub found : ℕ
-  pub low : ℕ
   pub tied : Bool
-  pub counts : List ℕ
 
 abbrev pub isTied : BackwardSums → Float → Bool
 isTied a sl = not (le (a .best) sl) && lt (sub binary64 (a .best) sl) tiny
 
 -- With i entries left, the next is the l-th of the scan and stands at index i - 1.
 unfoldable pub quickFrom : Setup → List Place → ℕ → ℕ → BackwardSums → List ℕ → Quick
-quickFrom S q zero l a counts = record { best = a .best; found = a .found; low = 0; tied = false; counts = counts }
+quickFrom S q zero l a counts = record { best = a .best; found = a .found; tied = false }
 quickFrom S q (suc i) l a counts =
     let e : Place = getD q i ambiguous in
     let counts′ : List ℕ = raise counts e in
@@ -32,6 +30,6 @@ quickFrom S q (suc i) l a counts =
     let sw : Float = add binary64 (a .sw) (sub binary64 (secondValue S q counts′ e) (S .threshold)) in
     let a′ : BackwardSums = backwardJudged a s sw sl i in
     let later : Quick = quickFrom S q i (l + 1) a′ counts′ in
-    cond (lt (sub binary64 sw (fAt S l)) zero64) (record { best = a .best; found = a .found; low = i; tied = false; counts = counts′ })
-    (cond (isTied a sl) (record { best = a .best; found = a .found; low = i; tied = true; counts = counts′ })
-    (cond (isDropped S a sl) (record { best = a′ .best; found = a′ .found; low = i; tied = false; counts = counts′ }) later))
+    cond (lt (sub binary64 sw (fAt S l)) zero64) (record { best = a .best; found = a .found; tied = false })
+    (cond (isTied a sl) (record { best = a .best; found = a .found; tied = true })
+    (cond (isDropped S a sl) (record { best = a′ .best; found = a′ .found; tied = false }) later))
