@@ -1,5 +1,5 @@
 -- The order of floats, whatever their bits; `le x x` says that x is no NaN. `le` is transitive (`le-trans`), of two that are no NaN one is at most the other (`nle-lt`),
--- and a bound passed by one is passed by the larger (`lt-le-trans`, `lt-past`). And a difference taken the other way round (`sub-turned`).
+-- and a bound passed by one is passed by the larger (`lt-le-trans`, `le-lt-trans`, `lt-past`). And a difference taken the other way round (`sub-turned`).
 use mathlib.Core.Path.{_≡_, refl, sym, ap, _∙_, subst}
 use Prim.Native.Nat.{ℕ, zero, suc, _+_, _-_, _*_, _^_, _≤_, _<_}
 use native.Mathlib.Nat.{lt-of-not-le, le-of-mul-le-mul-right, mul-le-mul-right, zero-mul, mul-pos, mul-comm, add-comm}
@@ -120,6 +120,17 @@ nle-lt (fin s m e) (fin t n d) a b h = lt-fin t s n m d e .1 (lt-of-not-le (λ g
 pub lt-le-trans : (x y z : Float) → T (lt x y) → T (le y z) → T (lt x z)
 lt-le-trans x y z h k =
     nle-lt z x (le-right y z k) (le-left x y (lt-le x y h)) (not-T (le z x) (λ g. lt-nle x y h (le-trans y z x k g)))
+
+pub le-lt-trans : (x y z : Float) → T (le x y) → T (lt y z) → T (lt x z)
+le-lt-trans x y z h k =
+    nle-lt z x (le-right y z (lt-le y z k)) (le-left x y h) (not-T (le z x) (λ g. lt-nle y z k (le-trans z x y g h)))
+
+pub lt-self : (x : Float) → lt x x ≡ false
+lt-self x = go (lt x x) (λ t. lt-nle x x t (lt-le x x t))
+  where
+    go : (b : Bool) → (T b → ⊥) → b ≡ false
+    go true n = absurd (n tt)
+    go false n = refl
 
 -- A bound below x is below b, if x is not as high as b and b is no NaN.
 pub lt-past : (bound x b : Float) → T (le b b) → T (lt bound x) → T (not (le b x)) → T (lt bound b)

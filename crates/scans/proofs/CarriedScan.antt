@@ -2,23 +2,25 @@
 use mathlib.Core.Path.{_≡_, refl, sym, ap, ap₂, _∙_, subst}
 use Prim.Native.Nat.{ℕ, _+_, _-_, _≤_, _<_}
 use native.Mathlib.Omega.{arith}
-use mathlib.Core.Bool.{Bool, true, false, not}
+use mathlib.Core.Bool.{Bool, true, false, cond, not}
 use mathlib.Core.List.{List, [], _∷_, _++_, append-nil}
 use lib.ListN.{length, drop, length-append, length-drop}
 use lib.Seq.{append-snoc, drop-append-le, ext-getD}
 use lib.Dec.{T, T-not}
-use lib.Ieee.{Float, inf, binary64, add, sub, le, lt}
+use lib.Ieee.{Float, inf, le, lt}
+use Rattle.floats.specs.Arithmetic.{_⊕_, _⊖_}
 use Rattle.floats.specs.Binary64.{zero64, slack}
 use Rattle.floats.proofs.Tests.{le-sure}
 use Rattle.floats.proofs.Sums.{zero-near}
-use Rattle.letters.specs.Place.{Place, ambiguous, plain, Below}
+use Rattle.letters.specs.Place.{Place, ambiguous, plain, BelowAt, Below}
 use Rattle.scans.specs.declared.Carry.{Carry}
 use Rattle.scans.specs.Setup.{Setup, lnAt, fAt, kmers}
 use Rattle.scans.specs.Counts.{raise, cleared}
 use Rattle.scans.specs.Scans.{value, ForwardSums, forwardStart, forwardJudged, Forward, forwardFrom, dustForward}
-use Rattle.scans.specs.Window.{countedValue}
-use Rattle.scans.specs.Carry.{wholeForward, Carried, carriedOn}
+use Rattle.scans.specs.Window.{countedValue, CountsEntry}
+use Rattle.scans.specs.Carry.{wholeForward, Carried, carriedOn, CarriesOn}
 use Rattle.scans.proofs.Test.{by-test}
+use Rattle.scans.proofs.Values.{raised-value}
 use Rattle.scans.proofs.Counting.{hit-self, count-snoc, below-left, below-right, below-drop, Counted, raise-counted, cleared-counted}
 use Rattle.scans.proofs.ForwardScore.{forward-inside}
 use Rattle.scans.proofs.WholeScan.{sum, score, judged, whole, whole-step, never-above, unstopped, reached, Alike, judged-s, judged-best, index-free}
@@ -64,6 +66,14 @@ module _ (S : Setup) (es : List Place) (e : Place) where
           best-is = λ on. ap (λ (w : Forward). w .sums .best) whole-snoc ∙ judged-best S (W .sums) (sum S (W .sums) (W .counts) e) (score S (W .sums) (W .counts) e (length es + 1)) (length es) ∙ rw (k .s-is on, k .best-is on, whole-counts);
         }
 
+-- The code's step: v is the value of the counted place.
+pub carries-on : (S : Setup) (l : ℕ) (e : Place) (c : Carry) (counts counts′ : List ℕ) (v : Float) → CountsEntry (S .ln) counts e v counts′ → BelowAt (length counts) e → (t : Bool)
+    → le (c .best) (c .s ⊕ (v ⊖ S .threshold) ⊖ fAt S l) ≡ t
+    → CarriesOn S l e c (record { on = c .on; s = c .s ⊕ (v ⊖ S .threshold); best = cond t (c .s ⊕ (v ⊖ S .threshold) ⊖ fAt S l) (c .best) }) counts counts′
+carries-on S l e c counts counts′ v k b t h =
+    let z : v ≡ value S counts e = k .value-is ∙ ap (λ (g : List ℕ). countedValue (S .ln) g e) (k .counts-are) ∙ raised-value S counts e b in
+    record { carry-is = rw (← h, z); counts-are = k .counts-are }
+
 -- ---- The scan from index j of a window q whose newest place is e.
 last-step : (S : Setup) (limit : Float) (e : Place) (l i : ℕ) (a : ForwardSums) (counts : List ℕ) → forwardFrom S limit (e ∷ []) l i a counts ≡ record { sums = judged S a counts e l i; counts = raise counts e }
 unfolding forwardFrom
@@ -81,7 +91,7 @@ counted-value : (S : Setup) (m : ℕ) (es : List Place) (e : Place) (before afte
 counted-value S m es ambiguous before after c d = refl
 counted-value S m es (plain x) before after c d = ap (λ (z : ℕ). lnAt S z) (omega (arith, c .counted x, d .counted x, count-snoc x es (plain x), hit-self x))
 
-module _ (S : Setup) (q₀ : List Place) (e : Place) (j : ℕ) (inside : j ≤ length q₀) (c : Carry) (on : c .on ≡ true) (k : Carried S (drop j q₀) c) (m : Float) (low : T (not (lt (add binary64 m slack) (c .best)))) where
+module _ (S : Setup) (q₀ : List Place) (e : Place) (j : ℕ) (inside : j ≤ length q₀) (c : Carry) (on : c .on ≡ true) (k : Carried S (drop j q₀) c) (m : Float) (low : T (not (lt (m ⊕ slack) (c .best)))) where
   abbrev q : List Place
   q = q₀ ++ e ∷ []
 
@@ -97,7 +107,7 @@ module _ (S : Setup) (q₀ : List Place) (e : Place) (j : ℕ) (inside : j ≤ l
   ends : dustForward S q j m ≡ record { sums = judged S (Wj .sums) (Wj .counts) e (length es + 1) (length q₀); counts = raise (Wj .counts) e }
   unfolding dustForward
   ends =
-      let limit : Float = add binary64 m slack in
+      let limit : Float = m ⊕ slack in
       let n : length es ≡ length q₀ - j = length-drop j q₀ in
       ap (λ (z : List Place). forwardFrom S limit z 1 j forwardStart (cleared S)) (drop-append-le j q₀ (e ∷ []) inside)
       ∙ unstopped S limit es (e ∷ []) 1 j (length es + 1) (length q₀) forwardStart (cleared S) (omega arith) (omega arith) zero-self
@@ -106,7 +116,7 @@ module _ (S : Setup) (q₀ : List Place) (e : Place) (j : ℕ) (inside : j ≤ l
 
   -- The counts of all the places from j on, and the newest's score.
   module _ (counts : List ℕ) (b : Below (kmers S) q) (n : Counted (kmers S) counts (drop j q)) (s sl : Float)
-      (qs : s ≡ add binary64 (c .s) (sub binary64 (countedValue (S .ln) counts e) (S .threshold))) (ql : sl ≡ sub binary64 s (fAt S (length q - j))) (high : T (le (c .best) sl)) where
+      (qs : s ≡ c .s ⊕ (countedValue (S .ln) counts e ⊖ S .threshold)) (ql : sl ≡ s ⊖ fAt S (length q - j)) (high : T (le (c .best) sl)) where
     more : drop j q ≡ es ++ e ∷ []
     more = drop-append-le j q₀ (e ∷ []) inside
 
@@ -121,13 +131,13 @@ module _ (S : Setup) (q₀ : List Place) (e : Place) (j : ℕ) (inside : j ≤ l
 
     sum-at : sum S (Wj .sums) (Wj .counts) e ≡ s
     sum-at =
-        ap₂ (λ (x v : Float). add binary64 x (sub binary64 v (S .threshold))) (alike .s-same ∙ k .s-is on) (counted-value S (kmers S) es e (Wj .counts) counts before-counted all-counted)
+        ap₂ (λ (x v : Float). x ⊕ (v ⊖ S .threshold)) (alike .s-same ∙ k .s-is on) (counted-value S (kmers S) es e (Wj .counts) counts before-counted all-counted)
         ∙ sym qs
 
     score-at : score S (Wj .sums) (Wj .counts) e (length es + 1) ≡ sl
     score-at =
         let l : length es + 1 ≡ length q - j = omega (arith, length-drop j q₀, length-append q₀ (e ∷ [])) in
-        ap₂ (λ (x : Float) (z : ℕ). sub binary64 x (fAt S z)) sum-at l ∙ sym ql
+        ap₂ (λ (x : Float) (z : ℕ). x ⊖ fAt S z) sum-at l ∙ sym ql
 
     -- The forward scan from j is best at the newest place, and leaves these counts.
     pub carried-forward : dustForward S q j m ≡ record { sums = record { s = s; best = sl; found = length q }; counts = counts }
@@ -148,7 +158,7 @@ module _ (S : Setup) (q : List Place) (j : ℕ) (m : Float) (some : 0 < length q
   unfolding dustForward
   found-whole =
       let inside = forward-inside S q j m some found in
-      reached S (add binary64 m slack) (drop j q) 1 j forwardStart (cleared S) (omega arith) (found ∙ omega (arith, length-drop j q))
+      reached S (m ⊕ slack) (drop j q) 1 j forwardStart (cleared S) (omega arith) (found ∙ omega (arith, length-drop j q))
 
   found-alike : Alike S (dustForward S q j m) (wholeForward S (drop j q))
   found-alike = subst (λ (w : Forward). Alike S w (wholeForward S (drop j q))) (sym found-whole) (index-free S (drop j q) 1 j 0 forwardStart forwardStart (cleared S) refl refl)

@@ -11,6 +11,7 @@ use lib.Dec.{T, T-not, not-T, eqb, ltb, nltb→le}
 use borrow.Author.Tests.{le-ltb, eq-eqb, ne-eqb}
 use lib.Ieee.{Float, binary64, add, sub, neg, lt, le}
 use lib.Ieee.Fits.{and-i, and-l, and-r}
+use Rattle.floats.specs.Arithmetic.{_⊕_, _⊖_}
 use Rattle.floats.specs.Binary64.{zero64, tiny, nearZero}
 use Rattle.floats.proofs.Order.{lt-nle, sub-turned}
 use Rattle.letters.specs.Place.{Place, ambiguous}
@@ -41,15 +42,15 @@ last-snoc cs c =
     ap (λ (k : ℕ). getD (cs ++ c ∷ []) k noCandidate) n ∙ getD-append-seam cs c [] noCandidate
 
 -- A score that is no near tie is not noted as a peak later.
-apart-unnoted : (a : BackwardSums) (s sw sl : Float) → T (not (lt (sub binary64 (a .best) sl) tiny)) → (x : Float) → T (not (isNoted (record { s = s; sw = sw; last = sl; best = a .best; found = a .found }) x))
+apart-unnoted : (a : BackwardSums) (s sw sl : Float) → T (not (lt (a .best ⊖ sl) tiny)) → (x : Float) → T (not (isNoted (record { s = s; sw = sw; last = sl; best = a .best; found = a .found }) x))
 apart-unnoted a s sw sl h x =
-    let d : Float = sub binary64 sl (a .best) in
+    let d : Float = sl ⊖ a .best in
     not-T (lt x sl && (lt zero64 sl && nearZero d))
-    (λ t. T-not (lt (sub binary64 (a .best) sl) tiny) h
+    (λ t. T-not (lt (a .best ⊖ sl) tiny) h
     (sub-turned binary64 sl (a .best) tiny (and-r (lt d tiny) (lt (neg tiny) d) (and-r (lt zero64 sl) (nearZero d) (and-r (lt x sl) (lt zero64 sl && nearZero d) t)))))
 
 unnoted : (a : BackwardSums) (i : ℕ) (sl : Float) → T (le (a .best) sl) → ((a .last ≡ a .best) × (a .found ≡ i + 1)) ⊎ ((x : Float) → T (not (isNoted a x))) → T (isNoted a sl) → ⊥
-unnoted a i sl h (inl p) t = lt-nle sl (a .best) (subst (λ (z : Float). T (lt sl z)) (p .0) (and-l (lt sl (a .last)) (lt zero64 (a .last) && nearZero (sub binary64 (a .last) (a .best))) t)) h
+unnoted a i sl h (inl p) t = lt-nle sl (a .best) (subst (λ (z : Float). T (lt sl z)) (p .0) (and-l (lt sl (a .last)) (lt zero64 (a .last) && nearZero (a .last ⊖ a .best)) t)) h
 unnoted a i sl h (inr f) t = T-not (isNoted a sl) (f sl) t
 
 module _ (i : ℕ) (cs : List Candidate) where
@@ -76,7 +77,7 @@ module _ (i : ℕ) (a : BackwardSums) (cs : List Candidate) (bare : Bare (suc i)
       inr (inr (last-snoc cs (candidate (i + 1) (a .best)) ∙ ap (λ (k : ℕ). candidate k (a .best)) e))
   noted-top t (inr f) = absurd (T-not (isNoted a sl) (f sl) t)
 
-  fallen-bare : T (not (lt (sub binary64 (a .best) sl) tiny)) → Bare i (record { s = s; sw = sw; last = sl; best = a .best; found = a .found }) (noted a sl i cs)
+  fallen-bare : T (not (lt (a .best ⊖ sl) tiny)) → Bare i (record { s = s; sw = sw; last = sl; best = a .best; found = a .found }) (noted a sl i cs)
   fallen-bare h =
       let apart = apart-unnoted a s sw sl h in
       let place : last (cs ++ candidate (i + 1) (a .best) ∷ []) .place ≡ i + 1 = ap (λ (c : Candidate). c .place) (last-snoc cs (candidate (i + 1) (a .best))) in
@@ -89,7 +90,7 @@ module _ (i : ℕ) (a : BackwardSums) (cs : List Candidate) (bare : Bare (suc i)
       by-test (λ (z : BackwardSums). Bare i z (noted a sl i cs)) (le (a .best) sl) (record { s = s; sw = sw; last = sl; best = sl; found = i + 1 })
       (record { s = s; sw = sw; last = sl; best = a .best; found = a .found })
       raised-bare
-      (λ t. fallen-bare (not-T (lt (sub binary64 (a .best) sl) tiny) (λ k. T-not (isTied a sl) h (and-i (not (le (a .best) sl)) (lt (sub binary64 (a .best) sl) tiny) t k))))
+      (λ t. fallen-bare (not-T (lt (a .best ⊖ sl) tiny) (λ k. T-not (isTied a sl) h (and-i (not (le (a .best) sl)) (lt (a .best ⊖ sl) tiny) t k))))
 
 -- ---- The quick scan and the definition's.
 pub record Agrees (r : Quick) (b : Backward) : Type 0 where
@@ -104,9 +105,9 @@ module _ (S : Setup) (q : List Place) where
   quick-agrees (suc i) l a counts cs bare h =
       let e : Place = getD q i ambiguous in
       let counts′ : List ℕ = raise counts e in
-      let s : Float = add binary64 (a .s) (sub binary64 (value S counts e) (S .threshold)) in
-      let sl : Float = sub binary64 s (fAt S l) in
-      let sw : Float = add binary64 (a .sw) (sub binary64 (secondValue S q counts′ e) (S .threshold)) in
+      let s : Float = a .s ⊕ (value S counts e ⊖ S .threshold) in
+      let sl : Float = s ⊖ fAt S l in
+      let sw : Float = a .sw ⊕ (secondValue S q counts′ e ⊖ S .threshold) in
       let a′ : BackwardSums = backwardJudged a s sw sl i in
       let cs′ : List Candidate = noted a sl i cs in
       let over : Quick = record { best = a .best; found = a .found; tied = false } in
@@ -116,7 +117,7 @@ module _ (S : Setup) (q : List Place) where
       let over₂ : Backward = record { best = a .best; found = a .found; counts = counts′; candidates = cs } in
       let fell₂ : Backward = record { best = a′ .best; found = a′ .found; counts = counts′; candidates = cs′ } in
       let later₂ : Backward = backwardFrom S q i (l + 1) a′ counts′ cs′ in
-      by-test-both (λ (r : Quick) (b : Backward). r .tied ≡ false → Agrees r b) (lt (sub binary64 sw (fAt S l)) zero64)
+      by-test-both (λ (r : Quick) (b : Backward). r .tied ≡ false → Agrees r b) (lt (sw ⊖ fAt S l) zero64)
       over (cond (isTied a sl) tie (cond (isDropped S a sl) fell later)) over₂ (cond (isDropped S a sl) fell₂ later₂)
       (λ _ _. record { best-same = refl; found-same = refl; top = bare .top })
       (λ _. by-test (λ (r : Quick). r .tied ≡ false → Agrees r (cond (isDropped S a sl) fell₂ later₂)) (isTied a sl) tie (cond (isDropped S a sl) fell later)

@@ -10,11 +10,13 @@ use lib.Seq.{getD-set-other, ext-getD, append-snoc}
 use lib.Dec.{eqb}
 use lib.Ieee.{Float, binary64, add, sub, lt}
 use borrow.Author.Tests.{eqb-true, eqb-false}
+use Rattle.floats.specs.Arithmetic.{_⊕_, _⊖_}
+use Rattle.floats.specs.Binary64.{slack}
 use Rattle.letters.specs.Place.{Place, ambiguous, plain}
 use Rattle.letters.specs.Entry.{decode}
-use Rattle.scans.specs.Setup.{Setup, fAt}
-use Rattle.scans.specs.Counts.{hit, count, raise, lower}
-use Rattle.scans.specs.Scans.{value, ForwardSums, forwardJudged, Forward, forwardFrom}
+use Rattle.scans.specs.Setup.{Setup, fAt, kmers}
+use Rattle.scans.specs.Counts.{hit, count, raise, lower, cleared}
+use Rattle.scans.specs.Scans.{value, ForwardSums, forwardStart, forwardJudged, Forward, forwardFrom, dustForward}
 use Rattle.scans.specs.Carry.{Touched}
 use Rattle.scans.proofs.Test.{by-test}
 use Rattle.scans.proofs.Counting.{hit-self, hit-other, count-append, count-snoc, Counted, cleared-counted}
@@ -76,15 +78,19 @@ touched-part counts (suc j) [] t = t
 touched-part counts (suc j) (e ∷ es) t = let r = touched-part counts j es t in record { at-most = λ x. omega (arith, r .at-most x) }
 
 -- A forward scan over the places es, after those seen, however far it goes.
-pub forward-touched : (S : Setup) (limit : Float) (seen es : List Place) (l i : ℕ) (a : ForwardSums) (counts : List ℕ) → Touched counts seen → Touched (forwardFrom S limit es l i a counts .counts) (seen ++ es)
+forward-touched : (S : Setup) (limit : Float) (seen es : List Place) (l i : ℕ) (a : ForwardSums) (counts : List ℕ) → Touched counts seen → Touched (forwardFrom S limit es l i a counts .counts) (seen ++ es)
 unfolding forwardFrom
 forward-touched S limit seen [] l i a counts t = subst (λ (z : List Place). Touched counts z) (sym (append-nil seen)) t
 forward-touched S limit seen (e ∷ es) l i a counts t =
-    let s : Float = add binary64 (a .s) (sub binary64 (value S counts e) (S .threshold)) in
-    let sl : Float = sub binary64 s (fAt S l) in
+    let s : Float = a .s ⊕ (value S counts e ⊖ S .threshold) in
+    let sl : Float = s ⊖ fAt S l in
     let a′ : ForwardSums = forwardJudged a s sl i in
     let t′ = touched-raise counts seen e t in
     by-test (λ (r : Forward). Touched (r .counts) (seen ++ e ∷ es)) (lt limit sl) (record { sums = a′; counts = raise counts e }) (forwardFrom S limit es (l + 1) (i + 1) a′ (raise counts e))
     (λ _. subst (λ (z : List Place). Touched (raise counts e) z) (append-snoc seen e es) (touched-more (raise counts e) (seen ++ e ∷ []) es t′))
     (λ _. subst (λ (z : List Place). Touched (forwardFrom S limit es (l + 1) (i + 1) a′ (raise counts e) .counts) z) (append-snoc seen e es)
     (forward-touched S limit (seen ++ e ∷ []) es (l + 1) (i + 1) a′ (raise counts e) t′))
+
+pub dust-forward-touched : (S : Setup) (q : List Place) (j : ℕ) (m : Float) → Touched (dustForward S q j m .counts) (drop j q)
+unfolding dustForward
+dust-forward-touched S q j m = forward-touched S (m ⊕ slack) [] (drop j q) 1 j forwardStart (cleared S) (touched-cleared (kmers S) [])

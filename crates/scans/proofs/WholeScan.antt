@@ -8,6 +8,7 @@ use mathlib.Core.List.{List, [], _∷_, _++_}
 use lib.ListN.{length}
 use lib.Dec.{T, T-not}
 use lib.Ieee.{Float, nan, inf, fin, binary64, add, sub, lt, le}
+use Rattle.floats.specs.Arithmetic.{_⊕_, _⊖_}
 use Rattle.floats.proofs.Order.{le-trans, le-right, lt-le-trans, lt-past}
 use Rattle.letters.specs.Place.{Place}
 use Rattle.scans.specs.Setup.{Setup, fAt}
@@ -23,10 +24,10 @@ never-above (fin t n d) = refl
 
 module _ (S : Setup) where
   abbrev pub sum : ForwardSums → List ℕ → Place → Float
-  sum a counts e = add binary64 (a .s) (sub binary64 (value S counts e) (S .threshold))
+  sum a counts e = a .s ⊕ (value S counts e ⊖ S .threshold)
 
   abbrev pub score : ForwardSums → List ℕ → Place → ℕ → Float
-  score a counts e l = sub binary64 (sum a counts e) (fAt S l)
+  score a counts e l = sum a counts e ⊖ fAt S l
 
   abbrev pub judged : ForwardSums → List ℕ → Place → ℕ → ℕ → ForwardSums
   judged a counts e l i = forwardJudged a (sum a counts e) (score a counts e l) i
@@ -131,7 +132,7 @@ module _ (S : Setup) where
   unfolding forwardFrom
   index-free [] l i k a b counts p q = record { s-same = p; best-same = q; counts-same = refl }
   index-free (e ∷ es) l i k a b counts p q =
-      let ps : sum a counts e ≡ sum b counts e = ap (λ (z : Float). add binary64 z (sub binary64 (value S counts e) (S .threshold))) p in
+      let ps : sum a counts e ≡ sum b counts e = ap (λ (z : Float). z ⊕ (value S counts e ⊖ S .threshold)) p in
       let pb : cond (le (a .best) (score a counts e l)) (score a counts e l) (a .best) ≡ cond (le (b .best) (score b counts e l)) (score b counts e l) (b .best) = rw (ps, q) in
       let later : Alike (whole es (l + 1) (i + 1) (judged a counts e l i) (raise counts e)) (whole es (l + 1) (k + 1) (judged b counts e l k) (raise counts e)) =
       index-free es (l + 1) (i + 1) (k + 1) (judged a counts e l i) (judged b counts e l k) (raise counts e)

@@ -2,15 +2,17 @@
 use mathlib.Core.Path.{_≡_}
 use mathlib.Core.Bool.{true, false, cond}
 use mathlib.Core.List.{List}
-use Prim.Native.Nat.{ℕ, _≤_}
-use lib.ListN.{getD}
+use Prim.Native.Nat.{ℕ, suc, _≤_}
+use lib.ListN.{length, getD, drop}
 use lib.Ieee.{Float, binary64, add, sub, le, inf}
+use Rattle.floats.specs.Arithmetic.{_⊕_, _⊖_}
 use Rattle.letters.specs.Place.{Place}
 use Rattle.scans.specs.declared.Carry.{Carry}
+use Rattle.scans.specs.declared.Scanned.{Scanned}
 use Rattle.scans.specs.Setup.{Setup, fAt}
-use Rattle.scans.specs.Counts.{count, cleared}
+use Rattle.scans.specs.Counts.{count, raise, cleared}
 use Rattle.scans.specs.Scans.{Find, none, at, Outcome, value, Forward, forwardStart, forwardFrom}
-use Rattle.scans.specs.Window.{findOf}
+use Rattle.scans.specs.Window.{window, findOf}
 
 -- The forward scan over all of the places: nothing is above its limit, so it is never stopped.
 abbrev pub wholeForward : Setup → List Place → Forward
@@ -34,9 +36,23 @@ pub record Settles (S : Setup) (o : Outcome) (r : ℕ) (counts : List ℕ) : Typ
   pub find-is : findOf r ≡ o .find
   pub counts-are : counts ≡ countsLeft S (o .find) (o .counts)
 
+-- And a find begins a carried scan, of the places from the find on.
+pub record Answers (S : Setup) (q : List Place) (o : Outcome) (r : Scanned) (counts : List ℕ) : Type 0 where
+  pub settles : Settles S o (r .found) counts
+  pub begins : (j : ℕ) → r .found ≡ suc j → (r .carry .on ≡ true) × Carried S (drop j q) (r .carry)
+  pub ends : r .found ≡ 0 → r .carry .on ≡ false
+
 -- One place more, the l-th of the scan: its value is added, and a score as high as the best is the new best. `counts` are those of the places before.
 abbrev pub carriedOn : Setup → ℕ → List ℕ → Place → Carry → Carry
 carriedOn S l counts e c =
-    let s : Float = add binary64 (c .s) (sub binary64 (value S counts e) (S .threshold)) in
-    let sl : Float = sub binary64 s (fAt S l) in
+    let s : Float = c .s ⊕ (value S counts e ⊖ S .threshold) in
+    let sl : Float = s ⊖ fAt S l in
     record { on = c .on; s = s; best = cond (le (c .best) sl) sl (c .best) }
+
+pub record CarriesOn (S : Setup) (l : ℕ) (e : Place) (c c′ : Carry) (counts counts′ : List ℕ) : Type 0 where
+  pub carry-is : c′ ≡ carriedOn S l counts e c
+  pub counts-are : counts′ ≡ raise counts e
+
+-- Entries `from` to `to - 1` were walked: what the counts were to the places from `from` on, they are now to those from `to` on.
+pub record Walked (P : List ℕ → List Place → Type 0) (ring : List ℕ) (head from to : ℕ) (counts counts′ : List ℕ) : Type 0 where
+  pub left : (len : ℕ) → to ≤ len → len ≤ length ring → P counts (drop from (window ring head len)) → P counts′ (drop to (window ring head len))

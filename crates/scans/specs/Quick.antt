@@ -4,6 +4,7 @@ use mathlib.Core.Bool.{Bool, true, false, cond, not, _&&_}
 use mathlib.Core.List.{List}
 use lib.ListN.{getD}
 use lib.Ieee.{Float, binary64, add, sub, le, lt}
+use Rattle.floats.specs.Arithmetic.{_⊕_, _⊖_}
 use Rattle.floats.specs.Binary64.{zero64, tiny}
 use Rattle.letters.specs.Place.{Place, ambiguous}
 use Rattle.scans.specs.Setup.{Setup, fAt}
@@ -17,7 +18,7 @@ pub record Quick : Type 0 where
   pub tied : Bool
 
 abbrev pub isTied : BackwardSums → Float → Bool
-isTied a sl = not (le (a .best) sl) && lt (sub binary64 (a .best) sl) tiny
+isTied a sl = not (le (a .best) sl) && lt (a .best ⊖ sl) tiny
 
 -- With i entries left, the next is the l-th of the scan and stands at index i - 1.
 unfoldable pub quickFrom : Setup → List Place → ℕ → ℕ → BackwardSums → List ℕ → Quick
@@ -25,11 +26,11 @@ quickFrom S q zero l a counts = record { best = a .best; found = a .found; tied 
 quickFrom S q (suc i) l a counts =
     let e : Place = getD q i ambiguous in
     let counts′ : List ℕ = raise counts e in
-    let s : Float = add binary64 (a .s) (sub binary64 (value S counts e) (S .threshold)) in
-    let sl : Float = sub binary64 s (fAt S l) in
-    let sw : Float = add binary64 (a .sw) (sub binary64 (secondValue S q counts′ e) (S .threshold)) in
+    let s : Float = a .s ⊕ (value S counts e ⊖ S .threshold) in
+    let sl : Float = s ⊖ fAt S l in
+    let sw : Float = a .sw ⊕ (secondValue S q counts′ e ⊖ S .threshold) in
     let a′ : BackwardSums = backwardJudged a s sw sl i in
     let later : Quick = quickFrom S q i (l + 1) a′ counts′ in
-    cond (lt (sub binary64 sw (fAt S l)) zero64) (record { best = a .best; found = a .found; tied = false })
+    cond (lt (sw ⊖ fAt S l) zero64) (record { best = a .best; found = a .found; tied = false })
     (cond (isTied a sl) (record { best = a .best; found = a .found; tied = true })
     (cond (isDropped S a sl) (record { best = a′ .best; found = a′ .found; tied = false }) later))
