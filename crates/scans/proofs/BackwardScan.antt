@@ -124,7 +124,10 @@ module _ (S : Setup) (q : List Place) (from to : ℕ) (a : BackwardState) (count
     pub backing-read : Read q from to (kmers S) i counts
     backing-read = record { from-in = c .from-in; to-in = c .to-in; counted = c .here .counted }
 
-    module _ (e : Place) (b₁ : BackwardState) (fl v vw : Float) (counts′ : List ℕ) (r : Entered S q from to i e b b₁ fl v vw counts counts′) where
+    module _ (b₁ : BackwardState) (fl : Float) (counts′ : List ℕ) (r : Entered S q from to i b b₁ fl counts counts′) where
+      abbrev score′ : Float
+      score′ = b .s ⊕ (r .v ⊖ S .threshold) ⊖ fAt S (length q + 1 - i)
+
       abbrev score : Float
       score = b₁ .s ⊖ fl
 
@@ -147,22 +150,22 @@ module _ (S : Setup) (q : List Place) (from to : ℕ) (a : BackwardState) (count
           → BackwardPart S q from to a b′ counts₀ counts′ (candidates (a .noted) places₀ scores₀) (candidates (b′ .noted) places scores)
       backing-ended b′ z h =
           record {
-            scanned = c .rest ∙ turn-ended S q i (length q + 1 - i) (backwardOf b) counts cs e v vw (omega (arith, r .more)) (r .place-is) (r .value-is) (r .second-is) (rw (r .second-score-is) at h)
+            scanned = c .rest ∙ turn-ended S q i (length q + 1 - i) (backwardOf b) counts cs (r .e) (r .v) (r .vw) (omega (arith, r .more)) (r .place-is) (r .value-is) (r .second-is) (rw (r .second-score-is) at h)
                 ∙ rw (z, r .sums-are, r .counts-are);
             next = λ g. absurd (true≢false (sym (ap (λ (y : BackwardState). y .done) z) ∙ g));
             stop = λ _. ended b′ b₁ z;
           }
 
       module _ (on : lt (b₁ .sw ⊖ fl) zero64 ≡ false) where
-        on′ : lt (b .sw ⊕ (vw ⊖ S .threshold) ⊖ fAt S (length q + 1 - i)) zero64 ≡ false
+        on′ : lt (b .sw ⊕ (r .vw ⊖ S .threshold) ⊖ fAt S (length q + 1 - i)) zero64 ≡ false
         on′ = rw (r .second-score-is) at on
 
-        compared : (t : Bool) → le (b₁ .best) score ≡ t → le (b .best) (b .s ⊕ (v ⊖ S .threshold) ⊖ fAt S (length q + 1 - i)) ≡ t
+        compared : (t : Bool) → le (b₁ .best) score ≡ t → le (b .best) score′ ≡ t
         compared t h = ap₂ (λ (z : BackwardState) (x : Float). le (z .best) x) (sym (r .sums-are)) (sym (r .score-is)) ∙ h
 
         -- One entry on, with the same sums and candidates.
         on-with : (x y : BackwardSums) (cs₁ cs₂ : List Candidate) → x ≡ y → cs₁ ≡ cs₂
-            → backwardFrom S q (i - 1) (length q + 1 - i + 1) x (raise counts e) cs₁ ≡ backwardFrom S q (i - 1) (length q + 1 - (i - 1)) y counts′ cs₂
+            → backwardFrom S q (i - 1) (length q + 1 - i + 1) x (raise counts (r .e)) cs₁ ≡ backwardFrom S q (i - 1) (length q + 1 - (i - 1)) y counts′ cs₂
         on-with x y cs₁ cs₂ ex ec =
             let l : length q + 1 - i + 1 ≡ length q + 1 - (i - 1) = omega (arith, r .inside, r .more) in
             rw (l, ex, ec, r .counts-are)
@@ -182,26 +185,26 @@ module _ (S : Setup) (q : List Place) (from to : ℕ) (a : BackwardState) (count
                 counted = r .read .counted;
                 peak = rw z (lt-self score);
               };
-              rest = c .rest ∙ turn-raised S q i (length q + 1 - i) (backwardOf b) counts cs e v vw (omega (arith, r .more)) (r .place-is) (r .value-is) (r .second-is) on′ (c .here .peak) (compared true h)
+              rest = c .rest ∙ turn-raised S q i (length q + 1 - i) (backwardOf b) counts cs (r .e) (r .v) (r .vw) (omega (arith, r .more)) (r .place-is) (r .value-is) (r .second-is) on′ (c .here .peak) (compared true h)
                   ∙ on-with _ (backwardOf b₂) _ (candidates (b₂ .noted) places scores) (rw (z, r .score-is, r .sums-are)) (ap (λ (y : ℕ). candidates y places scores) (sym n));
             }
 
         module _ (h : le (b₁ .best) score ≡ false) (b₂ : BackwardState) (places′ : List ℕ) (scores′ : List Float) (n : Notes score (i - 1) b₁ b₂ (candidates (b₁ .noted) places scores) (candidates (b₂ .noted) places′ scores′)) where
-          noted-are : candidates (b₂ .noted) places′ scores′ ≡ noted (backwardOf b) (b .s ⊕ (v ⊖ S .threshold) ⊖ fAt S (length q + 1 - i)) (i - 1) cs
+          noted-are : candidates (b₂ .noted) places′ scores′ ≡ noted (backwardOf b) score′ (i - 1) cs
           noted-are = n .candidates-are ∙ rw (r .score-is, r .sums-are)
 
           kept : b₂ ≡ withNoted (withSums b (b₁ .s) (b₁ .sw)) (b₂ .noted)
           kept = n .state-is ∙ rw (r .sums-are)
 
           limited : (t : Bool) → not (eqb (b₂ .found) 0) && lt (S .drop-limit) (b₂ .best ⊖ score) ≡ t
-              → not (eqb (b .found) 0) && lt (S .drop-limit) (b .best ⊖ (b .s ⊕ (v ⊖ S .threshold) ⊖ fAt S (length q + 1 - i))) ≡ t
+              → not (eqb (b .found) 0) && lt (S .drop-limit) (b .best ⊖ score′) ≡ t
           limited t d = ap₂ (λ (z : BackwardState) (x : Float). not (eqb (z .found) 0) && lt (S .drop-limit) (z .best ⊖ x)) (sym kept) (sym (r .score-is)) ∙ d
 
           pub backing-dropped : not (eqb (b₂ .found) 0) && lt (S .drop-limit) (b₂ .best ⊖ score) ≡ true → (b′ : BackwardState) → b′ ≡ stoppedAt b₂ (i - 1) false
               → BackwardPart S q from to a b′ counts₀ counts′ (candidates (a .noted) places₀ scores₀) (candidates (b′ .noted) places′ scores′)
           backing-dropped d b′ z =
               record {
-                scanned = c .rest ∙ turn-dropped S q i (length q + 1 - i) (backwardOf b) counts cs e v vw (omega (arith, r .more)) (r .place-is) (r .value-is) (r .second-is) on′ (compared false h) (limited true d)
+                scanned = c .rest ∙ turn-dropped S q i (length q + 1 - i) (backwardOf b) counts cs (r .e) (r .v) (r .vw) (omega (arith, r .more)) (r .place-is) (r .value-is) (r .second-is) on′ (compared false h) (limited true d)
                     ∙ rw (z, noted-are, kept, r .counts-are);
                 next = λ g. absurd (true≢false (sym (ap (λ (y : BackwardState). y .done) z) ∙ g));
                 stop = λ _. ended b′ b₂ z;
@@ -224,7 +227,7 @@ module _ (S : Setup) (q : List Place) (from to : ℕ) (a : BackwardState) (count
                   counted = r .read .counted;
                   peak = rw (z, n .state-is) (not-above (b₁ .best) score h);
                 };
-                rest = c .rest ∙ turn-fallen S q i (length q + 1 - i) (backwardOf b) counts cs e v vw (omega (arith, r .more)) (r .place-is) (r .value-is) (r .second-is) on′ (compared false h) (limited false d)
+                rest = c .rest ∙ turn-fallen S q i (length q + 1 - i) (backwardOf b) counts cs (r .e) (r .v) (r .vw) (omega (arith, r .more)) (r .place-is) (r .value-is) (r .second-is) on′ (compared false h) (limited false d)
                     ∙ on-with _ (backwardOf b₃) _ (candidates (b₃ .noted) places′ scores′) (rw (z, kept, r .score-is, r .sums-are)) (sym (ap (λ (y : ℕ). candidates y places′ scores′) m ∙ noted-are));
               }
 

@@ -36,8 +36,11 @@ pub record Read (q : List Place) (from to m i : ℕ) (counts : List ℕ) : Type 
   pub to-in : i ≤ to
   pub counted : Counted m counts (drop i q)
 
--- Entry i - 1, the place e, is read next: the state a with the counts becomes b with counts′. v and vw are what it adds, and fl is the f entry.
-pub record Entered (S : Setup) (q : List Place) (from to i : ℕ) (e : Place) (a b : BackwardState) (fl v vw : Float) (counts counts′ : List ℕ) : Type 0 where
+-- Entry i - 1 is read next, and the state a with the counts becomes b with counts′; fl is the f entry. It is the place e, and adds v and vw.
+pub record Entered (S : Setup) (q : List Place) (from to i : ℕ) (a b : BackwardState) (fl : Float) (counts counts′ : List ℕ) : Type 0 where
+  pub e : Place
+  pub v : Float
+  pub vw : Float
   pub more : from < i
   pub inside : i ≤ length q
   pub place-is : getD q (i - 1) ambiguous ≡ e
@@ -131,9 +134,12 @@ module _ (p : Params) (ring : List ℕ) (head len : ℕ) (ln : List Float) (from
           };
         }
 
-    pub entered : Entered S q from to i e a b (getD f (len - (i - 1)) nan) v vw counts counts′
+    pub entered : Entered S q from to i a b (getD f (len - (i - 1)) nan) counts counts′
     entered =
         record {
+          e = e;
+          v = v;
+          vw = vw;
           more = more;
           inside = omega (arith, long w, in-window);
           place-is = place;

@@ -9,10 +9,11 @@ use Rattle.floats.specs.Arithmetic.{_⊕_, _⊖_}
 use Rattle.letters.specs.Place.{Place}
 use Rattle.scans.specs.declared.Carry.{Carry}
 use Rattle.scans.specs.declared.Scanned.{Scanned}
+use Rattle.scans.specs.declared.BackwardState.{BackwardState}
 use Rattle.scans.specs.Setup.{Setup, fAt}
 use Rattle.scans.specs.Counts.{count, raise, cleared}
-use Rattle.scans.specs.Scans.{Find, none, at, Outcome, value, Forward, forwardStart, forwardFrom}
-use Rattle.scans.specs.Window.{window, findOf}
+use Rattle.scans.specs.Scans.{Find, none, at, Outcome, value, Forward, forwardStart, forwardFrom, dustBackward}
+use Rattle.scans.specs.Window.{window, countedValue, findOf}
 
 -- The forward scan over all of the places: nothing is above its limit, so it is never stopped.
 abbrev pub wholeForward : Setup → List Place → Forward
@@ -49,6 +50,13 @@ carriedOn S l counts e c =
     let sl : Float = s ⊖ fAt S l in
     record { on = c .on; s = s; best = cond (le (c .best) sl) sl (c .best) }
 
+-- The same with counts that have the place already; on only where the place is the best.
+abbrev pub carriedAhead : Setup → ℕ → List ℕ → Place → Carry → Carry
+carriedAhead S l counts e c =
+    let s : Float = c .s ⊕ (countedValue (S .ln) counts e ⊖ S .threshold) in
+    let sl : Float = s ⊖ fAt S l in
+    record { on = le (c .best) sl; s = s; best = sl }
+
 pub record CarriesOn (S : Setup) (l : ℕ) (e : Place) (c c′ : Carry) (counts counts′ : List ℕ) : Type 0 where
   pub carry-is : c′ ≡ carriedOn S l counts e c
   pub counts-are : counts′ ≡ raise counts e
@@ -56,3 +64,8 @@ pub record CarriesOn (S : Setup) (l : ℕ) (e : Place) (c c′ : Carry) (counts 
 -- Entries `from` to `to - 1` were walked: what the counts were to the places from `from` on, they are now to those from `to` on.
 pub record Walked (P : List ℕ → List Place → Type 0) (ring : List ℕ) (head from to : ℕ) (counts counts′ : List ℕ) : Type 0 where
   pub left : (len : ℕ) → to ≤ len → len ≤ length ring → P counts (drop from (window ring head len)) → P counts′ (drop to (window ring head len))
+
+-- After the quick scan b of a window: a carried scan that is on tells the find, which is b's best place. Otherwise only entries that b read have touched the counts.
+pub record CarriesAhead (S : Setup) (q : List Place) (b : BackwardState) (r : Carry) (counts : List ℕ) : Type 0 where
+  pub tells : r .on ≡ true → Answers S q (dustBackward S q) (record { found = b .found; carry = r }) counts
+  pub touched : r .on ≡ false → Touched counts (drop (b .low) q)

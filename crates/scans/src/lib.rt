@@ -3,7 +3,7 @@
 ghost use mathlib.Core.Path.{_≡_};
 ghost use mathlib.Core.Bool.{true, false, not, _&&_};
 ghost use mathlib.Core.List.{List, [], _∷_, _++_};
-ghost use Prim.Native.Nat.{ℕ, _+_, _/_, _%_, _^_, _<_, _≤_};
+ghost use Prim.Native.Nat.{ℕ, _+_, _-_, _/_, _%_, _^_, _<_, _≤_};
 ghost use lib.ListN.{length, getD, drop, replicate};
 ghost use lib.Dec.{eqb};
 ghost use lib.Ieee.{Float, lt};
@@ -13,7 +13,8 @@ ghost use Rattle.scans.specs.Setup.{dropLimit, maxTest, setupOf};
 ghost use Rattle.scans.specs.Counts.{lower, Counted};
 ghost use Rattle.scans.specs.Scans.{maxSteps, ifBackward, forwardStart, forwardJudged, dustForward, candidate, backwardStart, isNoted, withBest, larger, tryFrom, dustBackward};
 ghost use Rattle.scans.specs.Window.{ringIndex, window, countedValue, Windowed, Roomy, CountsEntry, Extends, Tells};
-ghost use Rattle.scans.specs.Carry.{Touched, Walked, CarriesOn, Answers};
+ghost use Rattle.scans.specs.Carry.{Carried, Touched, Walked, CarriesOn, carriedAhead, CarriesAhead, Answers};
+ghost use Rattle.scans.specs.Quick.{QuickGoes, QuickPart, ScansQuick};
 ghost use Rattle.scans.specs.Parts.{Seam, Straight, Queued, Ringed, Within, forwardOf, ForwardPart, Finds, backwardOf, candidates, AddsEntry, withBestAt, withLast, stoppedAt, Notes, Fresh, Backs, BackwardPart, ScansBackward, Holds};
 
 // How many places long a fall below the best may last before the backward scan stops; `Off` is the whole window.
@@ -407,6 +408,35 @@ impl Carry {
         }
         self
     }
+
+    // The scan with the newest entry, its l-th, which is counted already; on if the entry is its best.
+    fn ahead(
+        self,
+        p: Params,
+        l: usize,
+        entry: u32,
+        ln: &[f64],
+        f: &[f64],
+        scan_counts: &[u16],
+    ) -> Self
+        requires { ⌜ (entry / 2 < length (now «scan_counts»)) × (getD (now «scan_counts») (entry / 2) 0 < length (now ln)) × (l < length (now f)) ⌝ }
+        ensures { λ r. ⌜ r ≡ carriedAhead (setupOf p (now (ln .entry)) (now (f .entry))) l (now («scan_counts» .entry)) (decode entry) self ⌝ }
+    {
+        let s = self.s + (window_value(scan_counts, ln, entry) - p.threshold);
+        let sl = s - f[l];
+        Self {
+            on: sl >= self.best,
+            s: s,
+            best: sl,
+        }
+    }
+
+    fn off(mut self) -> Self
+        ensures { λ r. ⌜ r .on ≡ false ⌝ }
+    {
+        self.on = false;
+        self
+    }
 }
 
 // The two sums of a backward scan, its last and its best score, one past the index that had the best (0: none),
@@ -785,6 +815,114 @@ fn find_by_candidates(
         scores,
         scan_counts,
     )
+}
+
+// A quick scan goes on over entries `to - 1` down to `from`, entry i standing at index head + i - turn; a near tie stops it.
+fn quick_part(
+    p: Params,
+    ring: &[u32],
+    head: usize,
+    len: usize,
+    turn: usize,
+    from: usize,
+    to: usize,
+    state: BackwardState,
+    window_counts: &[u16],
+    ln: &[f64],
+    f: &[f64],
+    scan_counts: &mut [u16],
+) -> BackwardState
+    requires { ⌜ Windowed p (now ring) head len (now «window_counts») (length (now ln)) ⌝ }
+    requires { ⌜ Straight (length (now ring)) head from to turn ⌝ }
+    requires { ⌜ (from ≤ to) × (to ≤ len) × (p .window < length (now f)) ⌝ }
+    requires { ⌜ QuickGoes (4 ^ p .kmer) (window (now ring) head len) to state (now «scan_counts») ⌝ }
+    ensures { λ r. ⌜ QuickPart (setupOf p (now (ln .entry)) (now (f .entry))) (window (now (ring .entry)) head len) from to state r (now («scan_counts» .entry)) (now («scan_counts» .exit)) ⌝ }
+{
+    let mut st = state;
+    let mut i = to;
+    while from < i {
+        i -= 1;
+        let fl = f[len - i];
+        st = st.add_entry(p.threshold, window_counts, ln, ring[head + i - turn], scan_counts);
+        if st.sw - fl < 0.0 {
+            return st.stopped(i, false);
+        }
+        let sl = st.s - fl;
+        if sl >= st.best {
+            st = st.raised(sl, i);
+            continue;
+        }
+        if st.best - sl < 1e-9 {
+            return st.stopped(i, true);
+        }
+        if st.too_low(sl, p.limit) {
+            return st.stopped(i, false);
+        }
+        st = st.fallen(sl);
+    }
+    st
+}
+
+// The quick scan over the whole window from cleared counts, the ring's newer part first.
+fn scan_quickly(
+    p: Params,
+    ring: &[u32],
+    head: usize,
+    len: usize,
+    window_counts: &[u16],
+    ln: &[f64],
+    f: &[f64],
+    scan_counts: &mut [u16],
+) -> BackwardState
+    requires { ⌜ Windowed p (now ring) head len (now «window_counts») (length (now ln)) ⌝ }
+    requires { ⌜ (p .window < length (now f)) × (now «scan_counts» ≡ replicate (4 ^ p .kmer) 0) ⌝ }
+    ensures { λ r. ⌜ ScansQuick (setupOf p (now (ln .entry)) (now (f .entry))) (window (now (ring .entry)) head len) r (now («scan_counts» .exit)) ⌝ }
+{
+    let mid = seam(ring.len(), head, len, 0);
+    let newer = quick_part(p, ring, head, len, ring.len(), mid, len, BackwardState::new(), window_counts, ln, f, scan_counts);
+    if newer.done {
+        return newer;
+    }
+    quick_part(p, ring, head, len, 0, 0, mid, newer, window_counts, ln, f, scan_counts)
+}
+
+// After a quick scan: the carried scan with the newest entry, on where that tells a find.
+// It does if the quick scan met no near tie, its best place is `last`, where the carried scan started, and the newest entry is the best of that scan.
+fn carry_ahead(
+    p: Params,
+    carry: Carry,
+    last: usize,
+    st: BackwardState,
+    ring: &[u32],
+    head: usize,
+    len: usize,
+    ln: &[f64],
+    f: &[f64],
+    scan_counts: &mut [u16],
+) -> Carry
+    requires { ⌜ Ringed (now ring) head len (length (now ln)) (length (now f)) (length (now «scan_counts»)) ⌝ }
+    requires { ⌜ (0 < len) × (carry .on ≡ true) × (length (now «scan_counts») ≡ 4 ^ p .kmer) ⌝ }
+    requires { ⌜ ScansQuick (setupOf p (now ln) (now f)) (window (now ring) head len) st (now «scan_counts») ⌝ }
+    requires { ⌜ Carried (setupOf p (now ln) (now f)) (drop last (window (now ring) head (len - 1))) carry ⌝ }
+    ensures { λ r. ⌜ CarriesAhead (setupOf p (now (ln .entry)) (now (f .entry))) (window (now (ring .entry)) head len) st r (now («scan_counts» .exit)) ⌝ }
+{
+    let found = st.found;
+    if st.tied {
+        return carry.off();
+    }
+    if found == 0 {
+        return carry.off();
+    }
+    if found - 1 != last {
+        return carry.off();
+    }
+    if carry.best > st.best + 1e-6 {
+        return carry.off();
+    }
+    let low = st.low;
+    uncount(ring, head, low, last, scan_counts);
+    let at = ring_index(ring.len(), head, len - 1);
+    carry.ahead(p, len - last, ring[at], ln, f, scan_counts)
 }
 
 // One past the index in the window from which a forward scan ends best at the newest entry, and 0 where there is none.
