@@ -17,18 +17,6 @@ use Rattle.scans.specs.Parts.{Ringed, candidates, ScansBackward, Holds}
 use Rattle.scans.proofs.Candidates.{AllBelow, Scanned, backward-scanned, candidates-fit}
 use Rattle.scans.proofs.Slices.{candidates-length, candidates-at}
 
-pub ringed : {p : Params} {ring : List ℕ} {head len : ℕ} {window-counts : List ℕ} {n m k a b : ℕ} (k′ : ℕ) → k′ ≡ k → Windowed p ring head len window-counts n → Roomy p m k a b → Ringed ring head len n m k′
-ringed k′ e w r =
-    let l = w .ring-is in
-    record {
-      head-in = omega (arith, w .head-in);
-      len-in = omega (arith, w .len-in);
-      small = omega (arith, w .small);
-      ln-long = omega (arith, w .ln-long);
-      f-long = omega (arith, r .f-long);
-      below = λ j h. omega (arith, w .below j h, r .counts-is);
-    }
-
 below-at : (n : ℕ) (cs : List Candidate) (j : ℕ) → AllBelow n cs → j < length cs → getD cs j noCandidate .place < n
 below-at n [] j h l = absurd (let b : ⊥ = omega arith in b)
 below-at n (c ∷ cs) zero h l = h .0

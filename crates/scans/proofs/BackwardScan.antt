@@ -21,7 +21,7 @@ use Rattle.scans.specs.Scans.{value, secondValue, Candidate, candidate, 
 use Rattle.scans.specs.Window.{At, window, countedValue, Windowed, Roomy}
 use Rattle.scans.specs.Parts.{Straight, backwardOf, candidates, leftValue, AddsEntry, withSums, withBestAt, withLast, withNoted, Notes, Backs, BackwardPart, ScansBackward}
 use Rattle.scans.proofs.Counting.{hit-self, count-snoc, count-le, raise-counted, cleared-counted}
-use Rattle.scans.proofs.Order.{lt-self, le-lt}
+use Rattle.scans.proofs.Order.{lt-self, not-above, le-lt}
 use Rattle.scans.proofs.Values.{raised-value, decode-below}
 use Rattle.scans.proofs.Windows.{long, count-in, entry-in, entry-place}
 
@@ -38,15 +38,6 @@ no-fall best sl last p h = go (lt sl last) refl
     go : (b : Bool) → lt sl last ≡ b → b ≡ false
     go true e = absurd (subst T p (le-lt best sl last (subst T (sym h) tt) (subst T (sym e) tt)))
     go false e = refl
-
--- A score below the best is not above it.
-not-above : (best sl : Float) → le best sl ≡ false → lt best sl ≡ false
-unfolding le
-not-above best sl h = go (lt best sl) (eq best sl) h
-  where
-    go : (b c : Bool) → b || c ≡ false → b ≡ false
-    go true c e = e
-    go false c e = refl
 
 -- ---- A candidate is noted, or not.
 module _ (sl : Float) (i : ℕ) (a : BackwardState) (cs : List Candidate) where
@@ -307,10 +298,6 @@ module _ (p : Params) (ring : List ℕ) (head len : ℕ) (ln f : List Float) (fr
                 }
 
 -- ---- Both straight parts: the whole scan.
-pub roomy-as : {p : Params} {f-length n-counts n-places n-scores : ℕ} (counts′ places′ scores′ : ℕ) → counts′ ≡ n-counts → places′ ≡ n-places → scores′ ≡ n-scores
-    → Roomy p f-length n-counts n-places n-scores → Roomy p f-length counts′ places′ scores′
-roomy-as counts′ places′ scores′ ec ep es r = record { f-long = r .f-long; counts-is = ec ∙ r .counts-is; places-long = omega (arith, r .places-long); scores-long = omega (arith, r .scores-long) }
-
 start-peak : lt (backwardStart .best) (backwardStart .last) ≡ false
 unfolding lt neg ofBits ofFields
 start-peak = refl

@@ -1,10 +1,9 @@
--- The order of any two floats, NaN and infinities among them: no float is below itself, and what is not above a float is below what that float is below. Assumes nothing.
-use mathlib.Core.Path.{_≡_, refl, sym, ap, ap₂, _∙_}
-use mathlib.Core.Bool.{Bool, true, false}
+-- The order of any floats, NaN and infinities among them. Assumes nothing.
+use mathlib.Core.Path.{_≡_, refl, subst}
+use mathlib.Core.Bool.{Bool, true, false, _||_}
 use Prim.Native.Nat.{ℕ, _+_, _*_, _≤_, _<_}
-use native.Mathlib.Nat.{mul-right-comm, mul-le-mul-right, mul-lt-mul-of-pos-right, lt-of-mul-lt-mul-right}
+use native.Mathlib.Nat.{mul-right-comm, mul-le-mul-right, mul-lt-mul-of-pos-right, lt-of-mul-lt-mul-right, lt-of-not-le}
 use native.Mathlib.Omega.{arith}
-use lib.IntN.{ℤ}
 use lib.Dec.{T}
 use lib.Ieee.{Float, nan, inf, fin, up, down, lt, le, eq}
 use lib.Ieee.Fits.{down-pos}
@@ -19,6 +18,14 @@ lt-self (inf true) = refl
 lt-self (inf false) = refl
 lt-self (fin true m e) = le-ltb (m * up e * down e) (m * up e * down e) (omega arith)
 lt-self (fin false m e) = le-ltb (m * up e * down e) (m * up e * down e) (omega arith)
+
+pub not-above : (x y : Float) → le x y ≡ false → lt x y ≡ false
+unfolding le
+not-above x y h = go (lt x y) (eq x y) h
+  where
+    go : (b c : Bool) → b || c ≡ false → b ≡ false
+    go true c e = e
+    go false c e = refl
 
 -- ±a against ±b, each times k
 scaled : (s t : Bool) (a b k : ℕ) → (ifPos s a + ifNeg t b) * k ≡ ifPos s (a * k) + ifNeg t (b * k)
@@ -46,6 +53,7 @@ fractions s t u A B C x y z p h k =
     let c = chain s t u (A * y * z) (B * x * z) (C * y * x) a (rw (mul-right-comm B x z) b) in
     lt-of-mul-lt-mul-right y (rw (scaled s u (A * z) (C * x) y, scaled u s (C * x) (A * z) y, mul-right-comm A z y, mul-right-comm C x y) c)
 
+-- What is not above y, and so below all that y is below.
 pub le-lt : (x y z : Float) → T (le x y) → T (lt y z) → T (lt x z)
 unfolding le lt
 le-lt nan y z h k = absurd h
@@ -69,3 +77,45 @@ le-lt (fin s l c) (fin t m e) nan h k = absurd k
 le-lt (fin s l c) (fin t m e) (inf r) h k = k
 le-lt (fin s l c) (fin t m e) (fin r n d) h k =
     lt-fin s r l n c d .1 (fractions s t r (l * up c) (m * up e) (n * up d) (down c) (down e) (down d) (down-pos c) (le-fin s t l m c e .0 h) (lt-fin t r m n e d .0 k))
+
+-- ---- Two numbers of which neither is below the other.
+left-number : (x y : Float) → T (le x y) → x ≡ nan → ⊥
+unfolding le lt eq
+left-number x y h e = subst (λ (z : Float). T (le z y)) e h
+
+right-number : (x y : Float) → T (le x y) → y ≡ nan → ⊥
+unfolding le lt eq
+right-number nan y h e = h
+right-number (inf s) y h e = subst (λ (z : Float). T (le (inf s) z)) e h
+right-number (fin s m d) y h e = subst (λ (z : Float). T (le (fin s m d) z)) e h
+
+total : (x y : Float) → (x ≡ nan → ⊥) → (y ≡ nan → ⊥) → (T (le x y) → ⊥) → T (lt y x)
+unfolding le lt
+total nan y f g h = absurd (f refl)
+total (inf s) nan f g h = absurd (g refl)
+total (inf true) (inf true) f g h = absurd (h tt)
+total (inf true) (inf false) f g h = absurd (h tt)
+total (inf false) (inf true) f g h = tt
+total (inf false) (inf false) f g h = absurd (h tt)
+total (inf true) (fin t n d) f g h = absurd (h tt)
+total (inf false) (fin t n d) f g h = tt
+total (fin s m e) nan f g h = absurd (g refl)
+total (fin s m e) (inf true) f g h = tt
+total (fin s m e) (inf false) f g h = absurd (h tt)
+total (fin s m e) (fin t n d) f g h = lt-fin t s n m d e .1 (lt-of-not-le (λ k. h (le-fin s t m n e d .1 k)))
+
+same-test : (p q : Bool) → (T p → T q) → (T q → T p) → p ≡ q
+same-test true true f g = refl
+same-test true false f g = absurd (f tt)
+same-test false true f g = absurd (g tt)
+same-test false false f g = refl
+
+from-test : (p q : Bool) → (T p → (T q → ⊥) → ⊥) → T p → T q
+from-test p true f h = tt
+from-test p false f h = absurd (f h (λ z. z))
+
+pub le-same : (x y : Float) → T (le x y) → lt x y ≡ false → (z : Float) → le x z ≡ le y z
+le-same x y h e z =
+    same-test (le x z) (le y z)
+    (from-test (le x z) (le y z) (λ k n. subst T e (le-lt x z y k (total y z (right-number x y h) (right-number x z k) n))))
+    (from-test (le y z) (le x z) (λ k n. subst T (lt-self x) (le-lt x y x h (le-lt y z x k (total x z (left-number x y h) (right-number y z k) n)))))

@@ -1,10 +1,10 @@
 -- The scans over the straight parts of the ring: what their loops ask and answer, and the code's states as the definitions' records.
 use mathlib.Core.Path.{_≡_}
-use mathlib.Core.Bool.{false, cond}
+use mathlib.Core.Bool.{true, false, cond}
 use mathlib.Core.List.{List, [], _∷_, _++_}
 use Prim.Native.Nat.{ℕ, zero, suc, _+_, _-_, _/_, _<_, _≤_}
 use lib.ListN.{length, getD, drop}
-use lib.Ieee.{Float, nan, lt}
+use lib.Ieee.{Float, nan, lt, le}
 use Rattle.floats.specs.Arithmetic.{_⊕_, _⊖_}
 use Rattle.floats.specs.Binary64.{zero64}
 use Rattle.letters.specs.Place.{Place, ambiguous, plain}
@@ -41,14 +41,26 @@ pub record Within (counts : List ℕ) (n : ℕ) : Type 0 where
   pub at-most : (x : ℕ) → getD counts x 0 ≤ n
 
 -- ---- The forward scan.
-abbrev pub forwardOf : ForwardState → ForwardSums
-forwardOf a = record { s = a .s; best = a .best; found = a .found }
+-- A state has the sums of the definition, the best score up to the sign of a zero: every comparison with it answers the same.
+pub record Alike (a : ForwardState) (x : ForwardSums) : Type 0 where
+  pub s-is : a .s ≡ x .s
+  pub best-is : (y : Float) → le (a .best) y ≡ le (x .best) y
+  pub found-is : a .found ≡ x .found
 
--- A scan that began at `start` goes from entry `from` and state a to entry `to` and state b, or has stopped at b.
+abbrev pub forwardDone : ForwardState → ForwardState
+forwardDone a = record { s = a .s; best = a .best; found = a .found; done = true }
+
+-- A scan has come to state b, and goes on as `later` unless it has stopped there.
+pub record ForwardReached (scan : Forward) (later : ForwardSums → Forward) (b : ForwardState) (counts : List ℕ) : Type 0 where
+  pub sums : ForwardSums
+  pub alike : Alike b sums
+  pub scanned : scan ≡ cond (b .done) (record { sums = sums; counts = counts }) (later sums)
+
+-- A scan that began at `start` goes from entry `from` and state a to entry `to` and state b.
 pub record ForwardPart (S : Setup) (limit : Float) (ring : List ℕ) (head start from to : ℕ) (a b : ForwardState) (counts counts′ : List ℕ) : Type 0 where
-  pub scanned : (len : ℕ) → to ≤ len → len ≤ length ring
-      → forwardFrom S limit (drop from (window ring head len)) (from + 1 - start) from (forwardOf a) counts
-      ≡ cond (b .done) (record { sums = forwardOf b; counts = counts′ }) (forwardFrom S limit (drop to (window ring head len)) (to + 1 - start) to (forwardOf b) counts′)
+  pub reached : (len : ℕ) → to ≤ len → len ≤ length ring → (x : ForwardSums) → Alike a x
+      → ForwardReached (forwardFrom S limit (drop from (window ring head len)) (from + 1 - start) from x counts)
+        (λ y. forwardFrom S limit (drop to (window ring head len)) (to + 1 - start) to y counts′) b counts′
   pub few : b .done ≡ false → Within counts′ to
 
 pub record Finds (a : Forward) (r : ℕ) (counts : List ℕ) : Type 0 where

@@ -1,7 +1,7 @@
 // The back check, the extension and the two scans over a window of places.
 
 ghost use mathlib.Core.Path.{_≡_};
-ghost use mathlib.Core.Bool.{true, false, not, _&&_};
+ghost use mathlib.Core.Bool.{true, false, cond, not, _&&_};
 ghost use mathlib.Core.List.{List, [], _∷_, _++_};
 ghost use Prim.Native.Nat.{_+_, _/_, _%_, _^_, _<_, _≤_};
 ghost use lib.ListN.{length, getD};
@@ -10,9 +10,9 @@ ghost use lib.Ieee.{Float, lt};
 ghost use Rattle.floats.specs.Arithmetic.{_⊖_};
 ghost use Rattle.letters.specs.Entry.{decode};
 ghost use Rattle.scans.specs.Setup.{dropLimit, maxTest, setupOf};
-ghost use Rattle.scans.specs.Scans.{maxSteps, ifBackward, forwardStart, forwardJudged, dustForward, candidate, backwardStart, isNoted, withBest, larger, tryFrom, dustBackward};
+ghost use Rattle.scans.specs.Scans.{maxSteps, ifBackward, ForwardSums, forwardStart, forwardJudged, dustForward, candidate, backwardStart, isNoted, withBest, larger, tryFrom, dustBackward};
 ghost use Rattle.scans.specs.Window.{ringIndex, window, countedValue, Windowed, Roomy, CountsEntry, Extends, Tells};
-ghost use Rattle.scans.specs.Parts.{Seam, Straight, Ringed, Within, forwardOf, ForwardPart, Finds, backwardOf, candidates, AddsEntry, withBestAt, withLast, Notes, Backs, BackwardPart, ScansBackward, Holds};
+ghost use Rattle.scans.specs.Parts.{Seam, Straight, Ringed, Within, Alike, forwardDone, ForwardPart, Finds, backwardOf, candidates, AddsEntry, withBestAt, withLast, Notes, Backs, BackwardPart, ScansBackward, Holds};
 
 // How many places long a fall below the best may last before the backward scan stops; `Off` is the whole window.
 pub enum Xdrop {
@@ -177,6 +177,24 @@ fn seam(window: usize, head: usize, len: usize, start: usize) -> usize
     len
 }
 
+fn picked(b: bool, x: usize, y: usize) -> usize
+    ensures { λ r. ⌜ r ≡ cond b x y ⌝ }
+{
+    if b {
+        return x;
+    }
+    y
+}
+
+fn higher(x: f64, y: f64) -> f64
+    ensures { λ r. ⌜ r ≡ cond (lt x y) y x ⌝ }
+{
+    if y > x {
+        return y;
+    }
+    x
+}
+
 // The sum of a forward scan, its best score, one past the index that had it (0: none), and whether the scan has stopped.
 struct ForwardState {
     s: f64,
@@ -187,7 +205,7 @@ struct ForwardState {
 
 impl ForwardState {
     fn new() -> Self
-        ensures { λ r. ⌜ (forwardOf r ≡ forwardStart) × (r .done ≡ false) ⌝ }
+        ensures { λ r. ⌜ Alike r forwardStart × (r .done ≡ false) ⌝ }
     {
         Self {
             s: 0.0,
@@ -199,18 +217,16 @@ impl ForwardState {
 
     fn judged(mut self, s: f64, sl: f64, i: usize) -> Self
         requires { ⌜ i < 65535 ⌝ }
-        ensures { λ r. ⌜ (forwardOf r ≡ forwardJudged (forwardOf self) s sl i) × (r .done ≡ self .done) ⌝ }
+        ensures { λ r. ⌜ ((x : ForwardSums) → Alike self x → Alike r (forwardJudged x s sl i)) × (r .done ≡ self .done) ⌝ }
     {
         self.s = s;
-        if sl >= self.best {
-            self.best = sl;
-            self.found = i + 1;
-        }
+        self.found = picked(sl >= self.best, i + 1, self.found);
+        self.best = higher(self.best, sl);
         self
     }
 
     fn stopped(mut self) -> Self
-        ensures { λ r. ⌜ (forwardOf r ≡ forwardOf self) × (r .done ≡ true) ⌝ }
+        ensures { λ r. ⌜ r ≡ forwardDone self ⌝ }
     {
         self.done = true;
         self

@@ -1,7 +1,8 @@
 use mathlib.Core.Path.{_≡_, refl, ap, _∙_}
 use native.Mathlib.Omega.{arith}
 use Rattle.scans.proofs.Windows.{long}
-use Rattle.scans.proofs.Backward.{ringed, tells-none, best-room, all-held, tells-tried}
+use Rattle.scans.proofs.Parts.{ringed}
+use Rattle.scans.proofs.Backward.{tells-none, best-room, all-held, tells-tried}
 use borrow.Author.Needs.{needs}
 use Rattle.scans.proofs.dust_backward.Statement.{statement}
 use Rattle.scans.proofs.dust_backward.Tie as tie

@@ -4,7 +4,8 @@ use Prim.Native.Nat.{ℕ, _^_}
 use native.Mathlib.Omega.{arith}
 use borrow.Author.Needs.{needs}
 use lib.ListN.{replicate}
-use Rattle.scans.proofs.ForwardScan.{ringed-less, within-cleared, before-seam, past-seam, forward-stopped, forward-both}
+use Rattle.scans.proofs.Parts.{ringed-less, before-seam, past-seam}
+use Rattle.scans.proofs.ForwardScan.{within-cleared, forward-stopped, forward-both}
 use Rattle.scans.proofs.dust_forward.Statement.{statement}
 use Rattle.scans.proofs.dust_forward.Tie as tie
 use Rattle.scans.proofs.dust_forward.Reads as reads

@@ -70,7 +70,7 @@ returns c =
     let d = k .before .before .before in
     let a = d .before in
     let q = start a .pre in
-    forwarding-stop _ _ _ _ _ _ _ _ _ _ _ _ (a .loop .inv) _ _ (q .0) _ (q .1 .0) (d .loop-test .taken) _ _ (k .count-entry .ensures) (q .1 .1 .0 .0) (j .judged .result) (j .judged .ensures .0) _ (c .stopped .ensures .0) (c .stopped .ensures .1) (c .before .if1 .taken)
+    forwarding-stop _ _ _ _ _ _ _ _ _ _ _ _ (a .loop .inv) _ _ (q .0) _ (q .1 .0) (d .loop-test .taken) _ _ (k .count-entry .ensures) (q .1 .1 .0 .0) (j .judged .result) (j .judged .ensures .0) _ (c .stopped .ensures) (c .before .if1 .taken)
 
 add-i : tie.Need-add-i Inv-loop μ-loop
 add-i c = search needs

@@ -4,8 +4,8 @@ use Prim.Native.Nat.{ℕ, _^_}
 use native.Mathlib.Omega.{arith}
 use lib.ListN.{replicate}
 use Rattle.scans.proofs.Windows.{long}
-use Rattle.scans.proofs.ForwardScan.{before-seam, past-seam}
-use Rattle.scans.proofs.BackwardScan.{roomy-as, backs-start, scans-stopped, scans-both}
+use Rattle.scans.proofs.Parts.{before-seam, past-seam, roomy-as}
+use Rattle.scans.proofs.BackwardScan.{backs-start, scans-stopped, scans-both}
 use borrow.Author.Needs.{needs}
 use Rattle.scans.proofs.scan_backward.Statement.{statement}
 use Rattle.scans.proofs.scan_backward.Tie as tie

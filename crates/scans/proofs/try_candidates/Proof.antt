@@ -6,7 +6,7 @@ use lib.ListN.{length, getD}
 use Rattle.scans.specs.Setup.{setupOf}
 use Rattle.scans.specs.Window.{window}
 use Rattle.scans.proofs.Ring.{window-length}
-use Rattle.scans.proofs.ForwardScan.{ringed-less}
+use Rattle.scans.proofs.Parts.{ringed-less}
 use Rattle.scans.proofs.Trying.{Trying, trying-start, trying-skip, trying-found, trying-approx, trying-on, trying-end}
 use Rattle.scans.proofs.try_candidates.Statement.{statement}
 use Rattle.scans.proofs.try_candidates.Tie as tie

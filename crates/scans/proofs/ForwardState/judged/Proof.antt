@@ -1,21 +1,26 @@
-use mathlib.Core.Path.{refl}
 use borrow.Author.Needs.{needs}
 use Rattle.scans.proofs.ForwardState.judged.Statement.{statement}
 use Rattle.scans.proofs.ForwardState.judged.Tie as tie
 use Rattle.scans.proofs.ForwardState.judged.Reads as reads
 use Rattle.scans.proofs.ForwardState.judged.Lts as lts
+use Rattle.scans.proofs.higher.Reads as higher-reads
+use Rattle.scans.proofs.picked.Reads as picked-reads
 
--- src/lib.rt:191:26
-add-self : tie.Need-add-self
-add-self c = search needs
+-- src/lib.rt:223:46
+add-picked : tie.Need-add-picked
+add-picked c = search needs
 
--- src/lib.rt:184:5
+-- src/lib.rt:223:9
+picked-requires : tie.Need-picked-requires
+picked-requires c κs = search needs
+
+-- src/lib.rt:224:9
+higher-requires : tie.Need-higher-requires
+higher-requires c κs = search needs
+
+-- src/lib.rt:218:5
 returns : tie.Need-returns
-returns c = rw (c .if1 .taken) (refl, refl)
-
--- src/lib.rt:184:5
-returns-2 : tie.Need-returns-2
-returns-2 c = rw (c .if1 .left) (refl, refl)
+returns c = ?
 
 pub judged-spec : {M : Type 1} → statement M
-judged-spec = tie.close (tie.spec add-self returns returns-2)
+judged-spec = tie.close (tie.spec add-picked picked-requires higher-requires returns)
