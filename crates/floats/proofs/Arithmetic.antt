@@ -1,18 +1,18 @@
 -- The sum, the difference and the product of two finite floats of a format: where the exact one is at most 2 ^ (prec + 1 + h) units, the float is within 2 ^ h units of it,
--- half a unit of its last place (`add-near`, `sub-near`, `mul-near`). A sum that the format holds is exact (`add-exact`).
+-- half a unit of its last place (`add-near`, `sub-near`, `mul-near`).
 use mathlib.Core.Path.{_≡_, refl, sym, ap, ap₂, _∙_, subst}
 use Prim.Native.Nat.{ℕ, suc, _+_, _-_, _*_, _^_, _≤_, _<_}
-use native.Mathlib.Nat.{le-trans, le-of-eq, lt-of-le-of-lt, mul-pos, mul-one, mul-assoc, mul-comm, mul-sub, add-mul, mul-mul-mul-comm}
+use native.Mathlib.Nat.{le-trans, le-of-eq, mul-pos, mul-one, mul-assoc, mul-comm, mul-sub, add-mul, mul-mul-mul-comm}
 use native.Mathlib.Omega.{arith}
 use mathlib.Core.Bool.{Bool, true, false, not, cond}
 use lib.Dec.{T, ltb, ltb→lt, nltb→le}
 use lib.Pow.{pow-pos}
 use lib.Ieee.{Float, nan, inf, fin, Format, prec, emax, low, up, down, unlike, round, sum, add, sub, neg, mul}
 use lib.Ieee.Fits.{round-fits, down-pos, neg-fits}
-use lib.Ieee.Scale.{grid, overflow}
+use lib.Ieee.Scale.{grid}
 use Rattle.floats.specs.Value.{magnitude, posPart, negPart, Finite, Near}
 use Rattle.floats.proofs.Value.{ifPos, ifNeg, magnitude-whole, over-one, order, parts-of-value, near-intro}
-use Rattle.floats.proofs.Rounding.{grid-near, grid-small, grid-exact, round-value, no-overflow}
+use Rattle.floats.proofs.Rounding.{grid-near, grid-small, round-value, no-overflow}
 
 -- ---- a number of W units, however it is written as a fraction and whatever its sign, rounds to one that is within E of it
 abbrev Rounds : Format → ℕ → ℕ → Type 0
@@ -27,12 +27,6 @@ rounds-near f h W top small s num den P N D e eq =
     let near = grid-near f num den h 1 W D (pow-pos 0) e1 small1 in
     near-intro f (round f s num den) s g W P N (2 ^ h) (round-fits f s num den) (round-value f s num den (no-overflow f h g top (grid-small f num den h 1 W D (pow-pos 0) e1 small1)))
     (omega (arith, near .0)) (omega (arith, near .1)) eq
-
--- q * 2 ^ j with q of no more digits than the format keeps: exact
-rounds-exact : (f : Format) (q j W : ℕ) → W ≡ q * 2 ^ j → q < 2 ^ prec f → W < overflow f → Rounds f W 0
-rounds-exact f q j W w small o s num den P N D e eq =
-    let g : grid f num den ≡ W = grid-exact f num den q j D small (e ∙ ap (λ (z : ℕ). z * den) w) ∙ sym w in
-    near-intro f (round f s num den) s (grid f num den) W P N 0 (round-fits f s num den) (round-value f s num den (lt-of-le-of-lt (le-of-eq g) o)) (omega arith) (omega arith) eq
 
 -- ---- the sum ±a / c + ±b / c, of ±X and ±Y units
 diff : (a b l X Y c : ℕ) → a * l ≡ X * c → b * l ≡ Y * c → (b - a) * l ≡ (Y - X) * c
@@ -96,11 +90,6 @@ add-near {f} h {x} {y} top a b u v =
     let P = posPart f x + posPart f y in
     let N = negPart f x + negPart f y in
     add-rounds f (2 ^ h) x y a b (rounds-near f h (dist P N) top (within P N (2 ^ (prec f + suc h)) u v))
-
--- a sum of q * 2 ^ j units with q of no more digits than the format keeps
-pub add-exact : {f : Format} (q j : ℕ) {x y : Float} → Finite f x → Finite f y → dist (posPart f x + posPart f y) (negPart f x + negPart f y) ≡ q * 2 ^ j → q < 2 ^ prec f
-    → dist (posPart f x + posPart f y) (negPart f x + negPart f y) < overflow f → Near f (add f x y) (posPart f x + posPart f y) (negPart f x + negPart f y) 0
-add-exact {f} q j {x} {y} a b w small o = add-rounds f 0 x y a b (rounds-exact f q j (dist (posPart f x + posPart f y) (negPart f x + negPart f y)) w small o)
 
 -- ---- the difference
 neg-finite : (f : Format) (x : Float) → Finite f x → Finite f (neg x)

@@ -20,10 +20,6 @@ pub one-eps : one ≡ 18014398509481984 * eps
 unfolding one eps
 one-eps = refl
 
-pub eps-pos : 0 < eps
-unfolding eps
-eps-pos = pow-pos 1020
-
 pub one-pos : 0 < one
 unfolding one
 one-pos = pow-pos 1074

@@ -69,13 +69,6 @@ module _ {s : Float} {x : Float} {G E B : ℕ} (X : Ranged B x) (g : G + pos64 x
   pub sum-join : Near binary64 s G 0 E → Near binary64 (add binary64 s x) (G + pos64 x) 0 (E + half)
   sum-join N = near-as (count-add 20 (lit≤ tt) N (X .ok) (omega arith) (omega arith)) (omega arith) (omega arith)
 
--- one letter of up to 2 ^ 31: x leaves and y joins
-pub sum-exchange : {i : ℕ} {s x y : Float} {B C : ℕ} (G : ℕ) → Near binary64 s (G + pos64 x) 0 (err i) → i < 2147483648 → Ranged B x → Ranged C y → G + pos64 x ≤ 1048575 * one → G + pos64 y ≤ 1048575 * one
-    → Near binary64 (add binary64 (sub binary64 s x) y) (G + pos64 y) 0 (err (suc i))
-sum-exchange {i} G N l X Y gx gy =
-    let h = err-small i (omega arith) in
-    near-as (sum-join Y gy h (sum-leave X gx (omega arith) N)) (omega arith) (omega arith)
-
 -- the window score: the sum less an f entry, less the length of the window times T
 pub sum-score : {i : ℕ} {s f t : Float} {G : ℕ} (len : ℕ) → Near binary64 s G 0 (err i) → i ≤ 2147483648 → len ≤ 65535 → G ≤ len * (16 * one) → Ranged 1048576 f → Ranged 16 t
     → Near binary64 (sub binary64 (sub binary64 s f) (mul binary64 (number len) t)) G (len * pos64 t + pos64 f) (err (i + 3))

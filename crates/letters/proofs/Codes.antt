@@ -1,25 +1,14 @@
--- Codes and reverse complements: their range, lengths and entries, and that the reverse complement's reverse complement is the sequence. Assumes nothing.
+-- Codes and reverse complements: lengths and entries, and that the reverse complement's reverse complement is the sequence. Assumes nothing.
 use mathlib.Core.Path.{_≡_, refl, ap, ap₂, _∙_}
-use mathlib.Core.Bool.{Bool, true, false, cond, _||_}
+use mathlib.Core.Bool.{Bool, true, false, cond}
 use mathlib.Core.List.{List, [], _∷_, map, reverse, reverseAux, reverse-reverse}
 use Prim.Native.Nat.{ℕ, _-_, _≤_, _<_}
 use native.Mathlib.Omega.{arith}
-use lib.Dec.{eqb, ltb}
+use lib.Dec.{ltb}
 use lib.ListN.{length, getD, length-map, length-reverse, List·getD-map}
 use borrow.Author.Tests.{ltb-true, lt-ltb, le-ltb}
 use Rattle.buffers.proofs.At.{default-free, getD-reverse}
 use Rattle.letters.specs.Code.{code, codes, complement, reverseComplement}
-
-pub code-below : (b : ℕ) → code b < 5
-unfolding code
-code-below b = go (eqb b 65 || eqb b 97) (eqb b 67 || eqb b 99) (eqb b 71 || eqb b 103) (eqb b 84 || eqb b 116)
-  where
-    go : (a c g t : Bool) → cond a 0 (cond c 1 (cond g 2 (cond t 3 4))) < 5
-    go true c g t = omega arith
-    go false true g t = omega arith
-    go false false true t = omega arith
-    go false false false true = omega arith
-    go false false false false = omega arith
 
 pub codes-length : (s : List ℕ) → length (codes s) ≡ length s
 unfolding codes
@@ -28,9 +17,6 @@ codes-length s = length-map s code
 pub codes-at : (s : List ℕ) (i : ℕ) → i < length s → getD (codes s) i 4 ≡ code (getD s i 0)
 unfolding codes
 codes-at s i h = default-free (map code s) i 4 (code 0) (let e = length-map s code in omega arith) ∙ List·getD-map code s i 0
-
-pub codes-below : (s : List ℕ) (i : ℕ) → i < length s → getD (codes s) i 4 < 5
-codes-below s i h = rw (codes-at s i h) (code-below (getD s i 0))
 
 pub complement-other : (c : ℕ) → 4 ≤ c → complement c ≡ c
 unfolding complement

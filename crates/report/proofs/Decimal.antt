@@ -1,7 +1,7 @@
 -- The fewest decimal digits of a number: there is one such count, it is `digitCount`, and a bound on the number bounds it. Assumes nothing.
 use Prim.Native.Nat.{ℕ, zero, suc, _-_, _/_, _^_, _≤_, _<_}
 use mathlib.Core.Path.{_≡_, refl, _∙_}
-use mathlib.Core.Logic.{_⊎_, ⊎-elim}
+use mathlib.Core.Logic.{⊎-elim}
 use native.Mathlib.Nat.{pow-suc, pow-le-pow-right}
 use native.Mathlib.Omega.{arith}
 use lib.ListN.{length, length-append}

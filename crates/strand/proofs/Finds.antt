@@ -31,4 +31,4 @@ search-facts S i a x P p h e =
     let nothing : Outcome = record { find = none; counts = a .counts } in
     by-test (λ (o : Outcome). P (o .find)) (extendTried S i a && extended) (record { find = at 0; counts = raise (a .counts) (plain x) }) (cond (ifBackward S (a .window)) r nothing)
     (λ t. e (and-l above due (and-r (isAt (a .end) i) (above && due) (and-l (extendTried S i a) extended t))))
-    (λ _. by-test (λ (o : Outcome). P (o .find)) (ifBackward S (a .window)) r nothing (λ _. backward-facts S (a .window) P p h) (λ _. p))
+    (λ _. by-test (λ (o : Outcome). P (o .find)) (ifBackward S (a .window)) r nothing (λ _. backward-facts S (a .window) (λ find _. P find) (λ _. p) h) (λ _. p))

@@ -10,3 +10,5 @@ pub mod Searching
 pub mod Hand
 pub mod Letter
 pub mod Running
+pub mod Keeping
+pub mod Like

@@ -1,31 +1,33 @@
 -- The window as the code moves it: the entry that leaves and the one that joins, in the ring, the window counts and the sum,
 -- against the definitions' `leave` and `join`.
-use mathlib.Core.Path.{_≡_, refl, sym, ap, _∙_}
-use mathlib.Core.Bool.{Bool, true, false, cond}
-use mathlib.Core.List.{List, [], _∷_, _++_}
+use mathlib.Core.Path.{_≡_, refl, sym, ap, _∙_, subst}
+use mathlib.Core.List.{List, [], _∷_, _++_, map-append}
 use mathlib.Core.Logic.{_≢_, _⊎_, inl, inr}
-use Prim.Native.Nat.{ℕ, suc, _+_, _-_, _/_, _%_, _^_, _≤_, _<_}
+use Prim.Native.Nat.{ℕ, suc, _+_, _-_, _/_, _^_, _≤_, _<_}
 use native.Mathlib.Nat.{eq-or-lt-of-le}
 use native.Mathlib.Omega.{arith}
-use lib.ListN.{length, getD, set, length-set, List·getD-append}
-use lib.Seq.{getD-at}
-use lib.Dec.{eqb}
+use lib.ListN.{length, getD, set, take, drop, length-set, take-append-drop, List·getD-append}
+use lib.Seq.{getD-at, take-take, take-append-seam}
 use lib.IntN.{ℤ}
 use lib.Ieee.{Float, nan}
 use borrow.Author.Tests.{le-leb, lt-leb}
 use Rattle.floats.specs.Arithmetic.{_⊕_, _⊖_}
-use Rattle.letters.specs.Place.{Place, ambiguous, plain, BelowAt}
-use Rattle.letters.specs.Entry.{decode}
+use Rattle.letters.specs.Place.{Place, ambiguous, plain, Below}
+use Rattle.letters.specs.Entry.{decode, decoded}
 use Rattle.scans.specs.declared.Params.{Params}
+use Rattle.scans.specs.declared.Carry.{Carry}
 use Rattle.scans.specs.Setup.{Setup, setupOf}
 use Rattle.scans.specs.Counts.{count, raise, lower}
 use Rattle.scans.specs.Window.{queue, ringIndex, window, countedValue, Windowed}
 use Rattle.scans.proofs.Counting.{Counted, hit-self, count-le, raise-counted, lower-counted}
-use Rattle.scans.proofs.Ring.{ring-index-at, queue-length, queue-join, queue-leave, window-join, window-leave}
+use Rattle.scans.proofs.Ring.{ring-index-at, queue-length, queue-join, queue-leave, window-join, window-leave, window-length}
+use Rattle.scans.proofs.Values.{decode-below}
 use Rattle.scans.proofs.Windows.{long}
 use Rattle.strand.specs.Step.{sumWithout, sumWith, countsWithout, lastWithout, withoutOldest, leave, join}
 use Rattle.strand.specs.declared.Window.{Window}
+use Rattle.strand.specs.Kept.{Kept, carryWithout}
 use Rattle.strand.specs.Held.{heldBy, sumLess, sumMore, Left, Joined}
+use Rattle.strand.proofs.Keeping.{kept-same, kept-oldest}
 
 -- ---- The sum, by window counts that are those of the places q.
 module _ (S : Setup) (counts : List ℕ) (q : List Place) (c : (x : ℕ) → getD counts x 0 ≡ count x q) (sum : Float) where
@@ -41,13 +43,23 @@ pub more-plain : (ln : List Float) (counts : List ℕ) (sum : Float) {v : Float}
     → sum ⊕ v ≡ sumMore ln counts sum e
 more-plain ln counts sum h v-is = rw (v-is, h)
 
-below-at : (m e : ℕ) → e / 2 < m → BelowAt m (decode e)
-unfolding decode
-below-at m e h = go (eqb (e % 2) 0)
-  where
-    go : (b : Bool) → BelowAt m (cond b (plain (e / 2)) ambiguous)
-    go true = h
-    go false = tt
+-- ---- The places of a queue.
+decoded-below : (m : ℕ) (l : List ℕ) → ((j : ℕ) → j < length l → getD l j 0 / 2 < m) → Below m (decoded l)
+unfolding decoded
+decoded-below m [] h = tt
+decoded-below m (e ∷ l) h = (decode-below m e (h 0 (omega arith)), decoded-below m l (λ j k. h (suc j) (omega arith)))
+
+queue-less : (ring : List ℕ) (head n len : ℕ) → n ≤ len → queue ring head n ≡ take n (queue ring head len)
+unfolding queue
+queue-less ring head n len h = sym (take-take n len (drop head ring ++ take head ring) h)
+
+-- The older places of a window, and the others.
+pub window-split : (ring : List ℕ) (head n len : ℕ) → n ≤ len → window ring head len ≡ window ring head n ++ decoded (drop n (queue ring head len))
+unfolding decoded
+window-split ring head n len h =
+    let newer : List ℕ = drop n (queue ring head len) in
+    ap decoded (sym (take-append-drop n (queue ring head len)) ∙ ap (λ (l : List ℕ). l ++ newer) (sym (queue-less ring head n len h)))
+    ∙ map-append decode (queue ring head n) newer
 
 -- ---- A window in its ring.
 module _ {p : Params} {ring : List ℕ} {head len : ℕ} {counts : List ℕ} {n : ℕ} (w : Windowed p ring head len counts n) where
@@ -59,6 +71,13 @@ module _ {p : Params} {ring : List ℕ} {head len : ℕ} {counts : List ℕ} {n 
 
   counts-are : Counted (4 ^ p .kmer) counts (window ring head len)
   counts-are = record { long = w .counts-long; counted = w .counted }
+
+  -- The places before the newest.
+  pub older-long : length (window ring head (len - 1)) ≡ len - 1
+  older-long = window-length ring head (len - 1) head-within (omega (arith, len-within))
+
+  pub window-below : Below (4 ^ p .kmer) (window ring head len)
+  window-below = decoded-below (4 ^ p .kmer) (queue ring head len) (λ j h. w .below j (omega (arith, queue-length ring head len head-within len-within)))
 
   -- The oldest entry of a full queue stands at the head.
   module _ (full : len ≡ p .window) where
@@ -100,7 +119,7 @@ module _ {p : Params} {ring : List ℕ} {head len : ℕ} {counts : List ℕ} {n 
 
     left-counted : Counted (4 ^ p .kmer) (lower counts (decode oldest)) (window ring second (len - 1))
     left-counted =
-        lower-counted (4 ^ p .kmer) counts (decode oldest) (window ring second (len - 1)) (below-at (4 ^ p .kmer) oldest oldest-below)
+        lower-counted (4 ^ p .kmer) counts (decode oldest) (window ring second (len - 1)) (decode-below (4 ^ p .kmer) oldest oldest-below)
         (rw left-window at counts-are)
 
     left-below : (j : ℕ) → j < len - 1 → getD (queue ring second (len - 1)) j 0 / 2 < 4 ^ p .kmer
@@ -144,8 +163,19 @@ module _ {p : Params} {ring : List ℕ} {head len : ℕ} {counts : List ℕ} {n 
       joined-window : window (set ring next e) head (len + 1) ≡ window ring head len ++ decode e ∷ []
       joined-window = rw next-is (window-join ring head len e head-within (omega (arith, w .ring-is)))
 
+      -- Without the newest entry it is the window as it was.
+      joined-before : window (set ring next e) head (len + 1 - 1) ≡ window ring head len
+      joined-before =
+          let one-less : len + 1 - 1 ≡ len = omega arith in
+          let long-is = queue-length ring head len head-within len-within in
+          ap decoded
+          (queue-less (set ring next e) head (len + 1 - 1) (len + 1) (omega arith)
+          ∙ ap (λ (n : ℕ). take n (queue (set ring next e) head (len + 1))) (one-less ∙ sym long-is)
+          ∙ ap (λ (l : List ℕ). take (length (queue ring head len)) l) joined-queue
+          ∙ take-append-seam (queue ring head len) (e ∷ []))
+
       joined-counted : Counted (4 ^ p .kmer) (raise counts (decode e)) (window ring head len ++ decode e ∷ [])
-      joined-counted = raise-counted (4 ^ p .kmer) counts (window ring head len) (decode e) (below-at (4 ^ p .kmer) e e-below) counts-are
+      joined-counted = raise-counted (4 ^ p .kmer) counts (window ring head len) (decode e) (decode-below (4 ^ p .kmer) e e-below) counts-are
 
       joined-below : (j : ℕ) → (j ≡ len) ⊎ (j < len) → getD (queue ring head len ++ e ∷ []) j 0 / 2 < 4 ^ p .kmer
       joined-below j (inl h) = rw (getD-at (queue ring head len) e [] 0 j (queue-length ring head len head-within len-within ∙ sym h)) e-below
@@ -168,22 +198,30 @@ module _ {p : Params} {ring : List ℕ} {head len : ℕ} {counts : List ℕ} {n 
           }
 
 -- ---- The oldest entry leaves a full queue.
-module _ {p : Params} {ln : List Float} {a : Window} {ring counts scan-counts counts′ scan-counts′ : List ℕ} {sum : Float} {last : ℤ} {head : ℕ} where
-  pub left : Windowed p ring (a .head) (a .len) counts (length ln) → a .len ≡ p .window
+abbrev pub lessOldest : Window → Float → Carry → Window
+lessOldest w sum carry = record { sum = sum; last = w .last; head = w .head; len = w .len; live = w .live; carry = carry }
+
+-- b is the window whose sum and carried scan are without the entry.
+module _ {p : Params} {ln : List Float} {a b : Window} {ring counts scan-counts counts′ scan-counts′ : List ℕ} {sum : Float} {last : ℤ} {head : ℕ} where
+  pub left : Windowed p ring (a .head) (a .len) counts (length ln) → a .len ≡ p .window → b ≡ lessOldest a sum (carryWithout (a .last) (a .carry))
       → sum ≡ sumLess ln counts (a .sum) (decode (getD ring (a .head) 0)) → last ≡ lastWithout (a .last) → head ≡ ringIndex (p .window) (a .head) 1
       → counts′ ≡ lower counts (decode (getD ring (a .head) 0)) → scan-counts′ ≡ countsWithout (a .last) scan-counts (decode (getD ring (a .head) 0))
-      → Left p ln a (record { sum = sum; last = last; head = head; len = a .len - 1 }) ring scan-counts counts′ scan-counts′
+      → Left p ln a (record { sum = b .sum; last = last; head = head; len = b .len - 1; live = b .live; carry = b .carry }) ring scan-counts counts′ scan-counts′
   unfolding leave
-  left w full sum-is last-is head-is counts-is scan-is =
+  left w full b-is sum-is last-is head-is counts-is scan-is =
       let q = window ring (a .head) (a .len) in
-      record {
+      rw b-is
+      (record {
+        kept = λ f k.
+            rw (head-is, scan-is)
+            (kept-oldest (subst (λ (z : List Place). Kept (setupOf p ln f) z a scan-counts) (left-window w full) k) last-is refl refl);
         run-is = λ f o saved.
             rw (le-leb (p .window) (length q) (omega (arith, long w)), head-is, last-is, scan-is, sum-is)
             (rw (less-is (setupOf p ln f) counts q (w .counted) (a .sum) (decode (getD ring (a .head) 0)))
             (ap (λ (z : List Place). withoutOldest (setupOf p ln f) (heldBy a o ring scan-counts saved) z) (sym (left-window w full))));
         windowed = rw (head-is, counts-is) (left-windowed w full);
         room = omega (arith, w .wide);
-      }
+      })
 
 -- A queue that is not full has room.
 pub left-none : {p : Params} {ln : List Float} {a : Window} {ring counts scan-counts : List ℕ} → Windowed p ring (a .head) (a .len) counts (length ln)
@@ -191,6 +229,7 @@ pub left-none : {p : Params} {ln : List Float} {a : Window} {ring counts scan-co
 unfolding leave
 left-none {p} {a = a} {ring} w h =
     record {
+      kept = λ f k. k;
       run-is = λ f o saved. rw (lt-leb (p .window) (length (window ring (a .head) (a .len))) (omega (arith, long w, w .len-in)));
       windowed = w;
       room = omega (arith, w .len-in);
@@ -200,14 +239,18 @@ left-none {p} {a = a} {ring} w h =
 module _ {p : Params} {ln : List Float} {a : Window} {ring counts counts′ : List ℕ} {e i : ℕ} {sum : Float} where
   pub joined : Windowed p ring (a .head) (a .len) counts (length ln) → a .len < p .window → e / 2 < 4 ^ p .kmer
       → i ≡ ringIndex (p .window) (a .head) (a .len) → sum ≡ sumMore ln counts′ (a .sum) (decode e) → counts′ ≡ raise counts (decode e)
-      → Joined p ln a (record { sum = sum; last = a .last; head = a .head; len = a .len + 1 }) e ring (set ring i e) counts′
+      → Joined p ln a (record { sum = sum; last = a .last; head = a .head; len = a .len + 1; live = a .live; carry = a .carry }) e ring (set ring i e) counts′
   unfolding join
   joined w room below i-is sum-is counts-is =
       let q = window ring (a .head) (a .len) ++ decode e ∷ [] in
       record {
+        kept = λ f scan-counts k.
+            rw i-is
+            (kept-same (subst (λ (z : List Place). Kept (setupOf p ln f) z a scan-counts) (sym (joined-before w room e below)) k) refl refl refl);
         run-is = λ f o scan-counts saved.
             rw (i-is, joined-window w room e below, sum-is, counts-is)
             (rw (more-is (setupOf p ln f) (raise counts (decode e)) q (joined-counted w room e below .counted) (a .sum) (decode e)));
+        newest = rw i-is (joined-window w room e below ∙ ap (λ (z : List Place). z ++ decode e ∷ []) (sym (joined-before w room e below)));
         windowed = rw (i-is, counts-is) (joined-windowed w room e below);
         some = omega arith;
       }

@@ -1,28 +1,42 @@
--- What the newest entry leads to, as the code asks for it: whether extend is tried, the extension, the back check and the backward scan,
+-- What the newest entry leads to, as the code asks for it: whether extend is tried, the extension, the back check, the carried scan and the backward scan,
 -- against the definitions' `search`.
-use mathlib.Core.Path.{_≡_, refl, sym, ap, _∙_}
-use mathlib.Core.Bool.{Bool, true, false, cond, _&&_, _||_}
-use mathlib.Core.List.{List}
-use Prim.Native.Nat.{ℕ, _/_, _≤_, _<_}
-use lib.ListN.{length, getD}
+use mathlib.Core.Path.{_≡_, refl, sym, ap, _∙_, subst}
+use mathlib.Core.Bool.{Bool, true, false, cond, _&&_, _||_, true≢false}
+use mathlib.Core.List.{List, [], _∷_, _++_}
+use Prim.Native.Nat.{ℕ, zero, suc, _+_, _-_, _/_, _≤_, _<_}
+use native.Mathlib.Omega.{arith}
+use lib.ListN.{length, getD, drop, length-append}
+use lib.Seq.{drop-append-le}
+use lib.Dec.{leb}
 use lib.IntN.{ℤ, pos, _-ℤ_}
 use lib.Signed.{leZ}
 use lib.Ieee.{Float, nan, lt}
 use borrow.Author.Tests.{le-leb, lt-leb}
 use Rattle.floats.specs.Arithmetic.{_⊖_, _⊗_}
 use Rattle.floats.specs.Binary64.{zero64, number}
-use Rattle.letters.specs.Place.{ambiguous, plain}
-use Rattle.letters.specs.Entry.{decode}
+use Rattle.letters.specs.Place.{Place, ambiguous, plain, Below}
+use Rattle.letters.specs.Entry.{decode, decoded}
 use Rattle.intervals.specs.Interval.{Interval}
 use Rattle.scans.specs.declared.Params.{Params}
-use Rattle.scans.specs.Setup.{Setup, setupOf}
+use Rattle.scans.specs.declared.Carry.{Carry}
+use Rattle.scans.specs.declared.Scanned.{Scanned}
+use Rattle.scans.specs.Setup.{Setup, setupOf, kmers}
 use Rattle.scans.specs.Counts.{count, raise}
-use Rattle.scans.specs.Scans.{extends, ifBackward, dustBackward}
-use Rattle.scans.specs.Window.{window, Windowed, Extends, Tells}
+use Rattle.scans.specs.Scans.{Find, none, at, Outcome, extends, ifBackward, dustBackward}
+use Rattle.scans.specs.Window.{queue, window, findOf, Windowed, Extends}
+use Rattle.scans.specs.Carry.{Touched, countsLeft, Answers, CarriesOn}
 use Rattle.scans.proofs.Windows.{long}
-use Rattle.strand.specs.Step.{Run, isAt, windowScore, extendTried, search}
+use Rattle.scans.proofs.Touched.{touched-more}
+use Rattle.strand.specs.Step.{Run, whole, isAt, windowScore, extendTried, search}
+use Rattle.strand.specs.declared.Window.{Window}
 use Rattle.strand.specs.declared.State.{State}
-use Rattle.strand.specs.Held.{heldBy, triedBy, Extended, lookBy}
+use Rattle.strand.specs.declared.Look.{Look}
+use Rattle.strand.specs.declared.Look.the-variants.{Pass, Extension, Scan}
+use Rattle.strand.specs.declared.Sought.{Sought}
+use Rattle.strand.specs.Kept.{Kept, Passes, rescanned, extendedOf, answeredBy}
+use Rattle.strand.specs.Held.{heldBy, triedBy, Extended, lookBy, lookedAs, countsLooked, Looks, lastBy, Seeks}
+use Rattle.strand.proofs.Moving.{window-split, older-long}
+use Rattle.strand.proofs.Keeping.{kept-passed, kept-extended, kept-answered}
 
 -- What the code hands on of end, last_q and start, it reads back from their bits.
 pub tried : (p : Params) (f : List Float) (i : ℕ) (a : State) {end last start : ℤ} {at-end at-zero past : Bool}
@@ -61,36 +75,135 @@ module _ {p : Params} {ln f : List Float} {i : ℕ} {a : State} {x : ℕ} {r : B
   pub extended-is : r ≡ extendTried S i A && extends S counts (length (A .window)) x
   extended-is = h .answer ∙ rw (tried-is, long w)
 
-module _ (S : Setup) (i : ℕ) (a : Run) where
-  -- ---- The search from the k-mer x.
-  module _ (x : ℕ) {b : Bool} {counts : List ℕ} (answer : b ≡ extendTried S i a && extends S (a .counts) (length (a .window)) x)
-      (counts-are : counts ≡ cond b (raise (a .counts) (plain x)) (a .counts)) where
-    pub search-extended : b ≡ true → Tells (search S i a x) 1 counts
-    unfolding search
-    search-extended t = rw (sym answer ∙ t) (record { find-is = refl; counts-are = counts-are ∙ rw t })
-
-    module _ {back : Bool} (t : b ≡ false) (y : back ≡ ifBackward S (a .window)) where
-      pub search-back : {r : ℕ} {counts′ : List ℕ} → back ≡ true → Tells (dustBackward S (a .window)) r counts′ → Tells (search S i a x) r counts′
-      unfolding search
-      search-back s o = rw (sym answer ∙ t, sym y ∙ s) o
-
-      pub search-none : back ≡ false → Tells (search S i a x) 0 counts
-      unfolding search
-      search-none s =
-          rw (sym answer ∙ t, sym y ∙ s)
-          (record { find-is = refl; counts-are = counts-are ∙ ap (λ (z : Bool). cond z (raise (a .counts) (plain x)) (a .counts)) t })
-
-  -- ---- Only a plain entry that stands often enough in the window is searched from.
-  pub look-ambiguous : (e : ℕ) → decode e ≡ ambiguous → Tells (lookBy S i a (decode e)) 0 (a .counts)
+-- ---- What the look answers. Only a plain entry that stands often enough in the window is searched from.
+module _ (S : Setup) (i : ℕ) (a : Run) (e : ℕ) where
+  pub look-ambiguous : decode e ≡ ambiguous → Looks S i a (decode e) Pass (a .counts)
   unfolding lookBy
-  look-ambiguous e h = rw h (record { find-is = refl; counts-are = refl })
+  look-ambiguous h = rw h (record { outcome-is = refl; counts-are = refl })
 
-  module _ (e : ℕ) (h : decode e ≡ plain (e / 2)) where
-    pub look-rare : count (e / 2) (a .window) < S .min-start-cnt → Tells (lookBy S i a (decode e)) 0 (a .counts)
+  module _ (h : decode e ≡ plain (e / 2)) where
+    pub look-rare : count (e / 2) (a .window) < S .min-start-cnt → Looks S i a (decode e) Pass (a .counts)
     unfolding lookBy
-    look-rare l = rw (h, lt-leb (S .min-start-cnt) (count (e / 2) (a .window)) l) (record { find-is = refl; counts-are = refl })
+    look-rare l = rw h (record { outcome-is = rw (lt-leb (S .min-start-cnt) (count (e / 2) (a .window)) l); counts-are = refl })
 
-    pub look-searched : {r : ℕ} {counts : List ℕ} → S .min-start-cnt ≤ count (e / 2) (a .window) → Tells (search S i a (e / 2)) r counts
-        → Tells (lookBy S i a (decode e)) r counts
-    unfolding lookBy
-    look-searched l t = rw (h, le-leb (S .min-start-cnt) (count (e / 2) (a .window)) l) t
+    -- The search from its k-mer.
+    module _ (l : S .min-start-cnt ≤ count (e / 2) (a .window)) {b : Bool} {counts : List ℕ} (answer : b ≡ extendTried S i a && extends S (a .counts) (length (a .window)) (e / 2))
+        (counts-are : counts ≡ cond b (raise (a .counts) (plain (e / 2))) (a .counts)) where
+      often : leb (S .min-start-cnt) (count (e / 2) (a .window)) ≡ true
+      often = le-leb (S .min-start-cnt) (count (e / 2) (a .window)) l
+
+      counts-by : {t : Bool} → b ≡ t → counts ≡ cond t (raise (a .counts) (plain (e / 2))) (a .counts)
+      counts-by t = counts-are ∙ ap (λ (z : Bool). cond z (raise (a .counts) (plain (e / 2))) (a .counts)) t
+
+      pub look-extended : b ≡ true → Looks S i a (decode e) Extension counts
+      unfolding lookBy search
+      look-extended t = rw h (record { outcome-is = rw (often, sym answer ∙ t, counts-by t); counts-are = counts-by t })
+
+      module _ {back : Bool} (t : b ≡ false) (y : back ≡ ifBackward S (a .window)) where
+        pub look-back : back ≡ true → Looks S i a (decode e) Scan counts
+        unfolding lookBy search
+        look-back s = rw h (record { outcome-is = rw (often, sym answer ∙ t, sym y ∙ s); counts-are = counts-by t })
+
+        pub look-none : back ≡ false → Looks S i a (decode e) Pass counts
+        unfolding lookBy search
+        look-none s = rw h (record { outcome-is = rw (often, sym answer ∙ t, sym y ∙ s, counts-by t); counts-are = counts-by t })
+
+-- ---- No find: what the carried scan makes of the newest entry.
+module _ {S : Setup} {w : Window} {e : Place} {counts : List ℕ} where
+  pub passes-on : {l : ℕ} {carry : Carry} {counts′ : List ℕ} → w .carry .on ≡ true → l ≡ whole (w .last) → CarriesOn S (w .len - l) e (w .carry) carry counts counts′
+      → Passes S w e (record { window = rescanned w (w .live) carry; found = 0 }) counts counts′
+  passes-on {carry = carry} {counts′} on l-is h =
+      record {
+        none-found = refl;
+        off = λ off. absurd (true≢false (sym on ∙ off));
+        on = λ _. (refl, subst (λ (l : ℕ). CarriesOn S (w .len - l) e (w .carry) carry counts counts′) l-is h);
+      }
+
+  pub passes-off : w .carry .on ≡ false → Passes S w e (record { window = w; found = 0 }) counts counts
+  passes-off off = record { none-found = refl; off = λ _. (refl, refl); on = λ on. absurd (true≢false (sym on ∙ off)) }
+
+passes-same : {S : Setup} {w : Window} {e : Place} {r : Sought} {counts counts′ : List ℕ} → Passes S w e r counts counts′
+    → r .window ≡ rescanned w (r .window .live) (r .window .carry)
+passes-same {w = w} {r = r} h = go (w .carry .on) refl
+  where
+    go : (t : Bool) → w .carry .on ≡ t → r .window ≡ rescanned w (r .window .live) (r .window .carry)
+    go false off = rw (h .off off .0)
+    go true on =
+        let same = h .on on .0 in
+        same ∙ ap (λ (l : Bool). rescanned w l (r .window .carry)) (sym (ap (λ (z : Window). z .live) same))
+
+-- ---- The backward scan. Scan counts that places before the newest have raised are cleared with those of all.
+module _ {S : Setup} {p : Params} {w : Window} {counts ring window-counts : List ℕ} {head len n : ℕ} (k : Kept S (window ring head (len - 1)) w counts)
+    (h : Windowed p ring head len window-counts n) where
+  pub touched-all : {l : ℕ} → l ≡ whole (w .last) → w .live ≡ true → (l ≤ len) × Touched counts (drop l (window ring head len))
+  touched-all l-is on =
+      let older : List Place = window ring head (len - 1) in
+      let newer : List Place = decoded (drop (len - 1) (queue ring head len)) in
+      let j : ℕ = whole (w .last) in
+      rw l-is (
+        omega (arith, k .inside on, older-long h),
+        subst (λ (z : List Place). Touched counts z)
+        (sym (ap (λ (z : List Place). drop j z) (window-split ring head (len - 1) len (omega arith)) ∙ drop-append-le j older newer (k .inside on)))
+        (touched-more counts (drop j older) newer (k .touched on)),
+      )
+
+left-found : (S : Setup) (o : Outcome) (r : ℕ) → findOf r ≡ o .find → 0 < r → countsLeft S (o .find) (o .counts) ≡ o .counts
+left-found S o zero h l = absurd (let b : ⊥ = omega arith in b)
+left-found S o (suc j) h l = ap (λ (z : Find). countsLeft S z (o .counts)) (sym h)
+
+pub seeks-answered : {S : Setup} {q : List Place} {w : Window} {r : Scanned} {s : Sought} {counts′ : List ℕ} → 0 < length q → Below (kmers S) q
+    → Answers S q (dustBackward S q) r counts′ → s ≡ answeredBy w (r .found) (r .carry) → Seeks S q w (dustBackward S q) s counts′
+seeks-answered {S} {q} {w} {r} some b h e =
+    rw e
+    (record {
+      find-is = h .settles .find-is;
+      counts-are = λ l. h .settles .counts-are ∙ left-found S (dustBackward S q) (r .found) (h .settles .find-is) l;
+      kept = kept-answered w some b h;
+      same = refl;
+    })
+
+-- ---- The search by what the look answers.
+abbrev IsNone : Find → Type 0
+IsNone none = Unit {0}
+IsNone (at j) = ⊥
+
+-- Only a plain entry is extended from.
+extended-kept : (S : Setup) (i : ℕ) (a : Run) (e : Place) {q : List Place} {w : Window} {counts : List ℕ} → Kept S q w (a .counts)
+    → lookBy S i a e ≡ record { find = at 0; counts = counts } → counts ≡ raise (a .counts) e → Kept S (q ++ e ∷ []) (lastBy (extendedOf w .window) (at 0)) counts
+unfolding lookBy
+extended-kept S i a ambiguous k o c = absurd (subst (λ (z : Outcome). IsNone (z .find)) o tt)
+extended-kept S i a (plain x) k o c = rw c (kept-extended x k)
+
+module _ {S : Setup} {i : ℕ} {a : Run} {e : Place} {r : Look} {counts : List ℕ} (h : Looks S i a e r counts) where
+  outcome-by : {r′ : Look} → r ≡ r′ → lookBy S i a e ≡ lookedAs S a r′ counts
+  outcome-by t = h .outcome-is ∙ ap (λ (z : Look). lookedAs S a z counts) t
+
+  pub looked-counts : {r′ : Look} → r ≡ r′ → counts ≡ countsLooked r′ (a .counts) e
+  looked-counts t = h .counts-are ∙ ap (λ (z : Look). countsLooked z (a .counts) e) t
+
+  module _ {q : List Place} {w : Window} (k : Kept S q w (a .counts)) (newest : a .window ≡ q ++ e ∷ []) where
+    pub seeks-passed : {s : Sought} {counts′ : List ℕ} → r ≡ Pass → Below (kmers S) (a .window) → w .len ≡ length (a .window) → Passes S w e s counts counts′
+        → Seeks S (a .window) w (lookBy S i a e) s counts′
+    seeks-passed t b n p =
+        let long : w .len ≡ length q + 1 = omega (arith, n, ap length newest, length-append q (e ∷ [])) in
+        record {
+          find-is = ap findOf (p .none-found) ∙ sym (ap (λ (o : Outcome). o .find) (outcome-by t));
+          counts-are = λ l. absurd (let b : ⊥ = omega (arith, l, p .none-found) in b);
+          kept = rw (newest, p .none-found)
+              (kept-passed (subst (λ (z : List Place). Below (kmers S) z) newest b) long (subst (λ (z : List ℕ). Kept S q w z) (sym (looked-counts t)) k) p);
+          same = passes-same p;
+        }
+
+    pub seeks-extended : {s : Sought} → r ≡ Extension → s ≡ extendedOf w → Seeks S (a .window) w (lookBy S i a e) s counts
+    seeks-extended t u =
+        rw u
+        (record {
+          find-is = sym (ap (λ (o : Outcome). o .find) (outcome-by t));
+          counts-are = λ _. sym (ap (λ (o : Outcome). o .counts) (outcome-by t));
+          kept = rw newest (extended-kept S i a e k (outcome-by t) (looked-counts t));
+          same = refl;
+        })
+
+  pub seeks-scanned : {w : Window} {s : Sought} {counts′ : List ℕ} → r ≡ Scan → Seeks S (a .window) w (dustBackward S (a .window)) s counts′
+      → Seeks S (a .window) w (lookBy S i a e) s counts′
+  seeks-scanned {w} {s} {counts′} t o = subst (λ (z : Outcome). Seeks S (a .window) w z s counts′) (sym (outcome-by t)) o

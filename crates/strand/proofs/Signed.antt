@@ -5,19 +5,20 @@ use mathlib.Core.Bool.{Bool, true, false, cond, _||_}
 use mathlib.Core.List.{List}
 use Prim.Native.Nat.{ℕ, zero, suc, _+_, _-_, _≤_, _<_, _^_}
 use native.Mathlib.Omega.{arith}
-use lib.ListN.{getD}
-use lib.Seq.{set-getD}
-use lib.IntN.{ℤ, pos, negsuc, _-ℤ_}
-use lib.Signed.{ltZ, leZ, mag}
-use lib.Dec.{eqb, ltb, leb}
-use borrow.Author.Tests.{ltb-false, leb-true, leb-false, le-ltb, le-leb, lt-leb, ne-eqb}
+use lib.IntN.{ℤ, pos, negsuc, natAbs, _-ℤ_}
+use lib.Signed.{ltZ, leZ, mag, nonNeg}
+use lib.Dec.{T, eqb, ltb, leb}
+use borrow.Author.Tests.{ltb-true, ltb-false, leb-true, leb-false, le-ltb, le-leb, lt-leb, ne-eqb}
 use mir.Syntax.{w64}
-use mir.Val.{toZ, ofZ, SFits}
+use mir.Val.{toZ, ofZ, SFits, Fits}
 use mir.Facts.{toZ-ofZ, sfits-lit}
 use Rattle.floats.proofs.Whole.{Is, is-as, is-sub}
-use Rattle.letters.specs.Place.{Place, plain}
+use Rattle.letters.specs.Place.{Place}
+use Rattle.scans.specs.declared.Carry.{Carry}
 use Rattle.scans.specs.Counts.{lower}
-use Rattle.strand.specs.Step.{countsWithout, lastWithout, isAt, st2}
+use Rattle.scans.specs.Carry.{noCarry}
+use Rattle.strand.specs.Step.{whole, countsWithout, lastWithout, isAt, st2}
+use Rattle.strand.specs.Kept.{carryWithout}
 use Rattle.strand.proofs.Shape.{st2-is}
 
 -- ---- What is read back.
@@ -100,10 +101,7 @@ last-stays (pos zero) h = refl
 last-stays (pos (suc n)) h = absurd (let l : suc n ≤ 0 = ltb-false 0 (suc n) h in let b : ⊥ = omega arith in b)
 last-stays (negsuc n) h = refl
 
--- A count of 0 stays.
-pub lower-none : (counts : List ℕ) (x : ℕ) → getD counts x 0 ≡ 0 → counts ≡ lower counts (plain x)
-lower-none counts x h = let e : getD counts x 0 - 1 ≡ getD counts x 0 = omega arith in rw e (sym (set-getD counts x 0))
-
+-- ---- The scan counts and the carried scan without the oldest entry.
 module _ (counts : List ℕ) (e : Place) where
   pub counts-fall : (z : ℤ) → SFits w64 z → ofZ w64 z ≡ 0 → lower counts e ≡ countsWithout z counts e
   counts-fall (pos zero) f h = refl
@@ -114,3 +112,26 @@ module _ (counts : List ℕ) (e : Place) where
   counts-stay (pos zero) h = absurd (h refl)
   counts-stay (pos (suc n)) h = refl
   counts-stay (negsuc n) h = refl
+
+pub carry-ends : (z : ℤ) (c : Carry) → SFits w64 z → ofZ w64 z ≡ 0 → noCarry ≡ carryWithout z c
+carry-ends (pos zero) c f h = refl
+carry-ends (pos (suc n)) c f h = absurd (let b : ⊥ = omega arith in b)
+carry-ends (negsuc n) c f h = absurd (let b : ⊥ = omega (arith, f .sfits) in b)
+
+pub carry-stays : (z : ℤ) (c : Carry) → (ofZ w64 z ≡ 0 → ⊥) → c ≡ carryWithout z c
+carry-stays (pos zero) c h = absurd (h refl)
+carry-stays (pos (suc n)) c h = refl
+carry-stays (negsuc n) c h = refl
+
+-- ---- last_q as an index.
+pub whole-none : (z : ℤ) → ltZ z (pos 0) ≡ true → 0 ≡ whole z
+whole-none (pos n) h = absurd (let l : n < 0 = ltb-true n 0 h in let b : ⊥ = omega arith in b)
+whole-none (negsuc n) h = refl
+
+pub whole-fits : (z : ℤ) → SFits w64 z → ltZ z (pos 0) ≡ false → T (nonNeg z) × Fits w64 (natAbs z)
+whole-fits (pos n) f h = (tt, record { fits = omega (arith, f .sfits) })
+whole-fits (negsuc n) f h = absurd (subst (λ (b : Bool). T b) h tt)
+
+pub whole-is : (z : ℤ) → ltZ z (pos 0) ≡ false → natAbs z ≡ whole z
+whole-is (pos n) h = refl
+whole-is (negsuc n) h = absurd (subst (λ (b : Bool). T b) h tt)

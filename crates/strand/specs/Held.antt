@@ -1,8 +1,8 @@
 -- What the code of a run holds in its state and lent buffers, what its parts ask of it, and what they make of it: the terms of their contracts.
 use mathlib.Core.Path.{_≡_}
-use Prim.Native.Nat.{ℕ, _+_, _/_, _^_, _<_, _≤_}
-use mathlib.Core.Bool.{Bool, cond, _&&_, _||_}
-use mathlib.Core.List.{List}
+use Prim.Native.Nat.{ℕ, _+_, _-_, _/_, _^_, _<_, _≤_}
+use mathlib.Core.Bool.{Bool, false, cond, _&&_, _||_}
+use mathlib.Core.List.{List, [], _∷_, _++_}
 use lib.ListN.{length, getD}
 use lib.Dec.{leb}
 use lib.IntN.{ℤ, pos, negsuc, _-ℤ_}
@@ -17,12 +17,17 @@ use Rattle.intervals.specs.Rows.{rows, Room}
 use Rattle.scans.specs.declared.Params.{Params}
 use Rattle.scans.specs.Setup.{Setup, setupOf}
 use Rattle.scans.specs.Counts.{count, raise}
-use Rattle.scans.specs.Scans.{Find, none, at, Outcome, extends}
-use Rattle.scans.specs.Window.{window, Windowed, Roomy}
+use Rattle.scans.specs.Scans.{Find, none, at, Outcome, extends, dustBackward}
+use Rattle.scans.specs.Window.{window, findOf, Windowed, Roomy}
+use Rattle.scans.specs.Carry.{noCarry}
 use Rattle.strand.specs.Step.{Run, leave, join, isAt, search, st2, startAfter, saveFrom, savedAfter, step, run}
 use Rattle.strand.specs.declared.Window.{Window}
 use Rattle.strand.specs.declared.Open.{Open}
 use Rattle.strand.specs.declared.State.{State}
+use Rattle.strand.specs.declared.Look.{Look}
+use Rattle.strand.specs.declared.Look.the-variants.{Pass, Extension, Scan}
+use Rattle.strand.specs.declared.Sought.{Sought}
+use Rattle.strand.specs.Kept.{Kept, rescanned, Like}
 
 -- The run that a window, an interval in hand, the ring, the scan counts and the saved intervals hold.
 abbrev pub heldBy : Window → Open → (ring counts : List ℕ) → List Interval → Run
@@ -52,6 +57,8 @@ sumMore ln counts sum (plain x) = sum ⊕ getD ln (getD counts x 0) nan
 
 -- With a full queue the oldest entry has left, whatever the f table, the interval in hand and the saved ones are.
 pub record Left (p : Params) (ln : List Float) (w w′ : Window) (ring counts window-counts′ counts′ : List ℕ) : Type 0 where
+  pub kept : (f : List Float) → Kept (setupOf p ln f) (window ring (w .head) (w .len)) w counts
+      → Kept (setupOf p ln f) (window ring (w′ .head) (w′ .len)) w′ counts′
   pub run-is : (f : List Float) (o : Open) (saved : List Interval)
       → heldBy w′ o ring counts′ saved ≡ leave (setupOf p ln f) (heldBy w o ring counts saved)
   pub windowed : Windowed p ring (w′ .head) (w′ .len) window-counts′ (length ln)
@@ -59,8 +66,11 @@ pub record Left (p : Params) (ln : List Float) (w w′ : Window) (ring counts wi
 
 -- The entry e has joined, whatever the others are.
 pub record Joined (p : Params) (ln : List Float) (w w′ : Window) (e : ℕ) (ring ring′ window-counts′ : List ℕ) : Type 0 where
+  pub kept : (f : List Float) (counts : List ℕ) → Kept (setupOf p ln f) (window ring (w .head) (w .len)) w counts
+      → Kept (setupOf p ln f) (window ring′ (w′ .head) (w′ .len - 1)) w′ counts
   pub run-is : (f : List Float) (o : Open) (counts : List ℕ) (saved : List Interval)
       → heldBy w′ o ring′ counts saved ≡ join (setupOf p ln f) (heldBy w o ring counts saved) (decode e)
+  pub newest : window ring′ (w′ .head) (w′ .len) ≡ window ring′ (w′ .head) (w′ .len - 1) ++ decode e ∷ []
   pub windowed : Windowed p ring′ (w′ .head) (w′ .len) window-counts′ (length ln)
   pub some : 0 < w′ .len
 
@@ -83,10 +93,32 @@ unfoldable pub lookBy : Setup → ℕ → Run → Place → Outcome
 lookBy S i a ambiguous = record { find = none; counts = a .counts }
 lookBy S i a (plain x) = cond (leb (S .min-start-cnt) (count x (a .window))) (search S i a x) (record { find = none; counts = a .counts })
 
+-- What the look of the code answers: nothing more, a find by extension, or that the backward scan is due.
+abbrev pub lookedAs : Setup → Run → Look → List ℕ → Outcome
+lookedAs S a Pass counts = record { find = none; counts = counts }
+lookedAs S a Extension counts = record { find = at 0; counts = counts }
+lookedAs S a Scan counts = dustBackward S (a .window)
+
+abbrev pub countsLooked : Look → List ℕ → Place → List ℕ
+countsLooked Pass counts e = counts
+countsLooked Extension counts e = raise counts e
+countsLooked Scan counts e = counts
+
+pub record Looks (S : Setup) (i : ℕ) (a : Run) (e : Place) (r : Look) (counts′ : List ℕ) : Type 0 where
+  pub outcome-is : lookBy S i a e ≡ lookedAs S a r counts′
+  pub counts-are : counts′ ≡ countsLooked r (a .counts) e
+
 -- ---- A find changes last_q, start, end and what is saved.
 abbrev pub lastBy : Window → Find → Window
 lastBy w none = w
-lastBy w (at j) = record { sum = w .sum; last = pos j; head = w .head; len = w .len }
+lastBy w (at j) = record { sum = w .sum; last = pos j; head = w .head; len = w .len; live = w .live; carry = w .carry }
+
+-- The search from a window w of the places q answers the outcome's find, with its scan counts where something is found.
+pub record Seeks (S : Setup) (q : List Place) (w : Window) (o : Outcome) (r : Sought) (counts′ : List ℕ) : Type 0 where
+  pub find-is : findOf (r .found) ≡ o .find
+  pub counts-are : 0 < r .found → counts′ ≡ o .counts
+  pub kept : Kept S q (lastBy (r .window) (findOf (r .found))) counts′
+  pub same : r .window ≡ rescanned w (r .window .live) (r .window .carry)
 
 abbrev pub startBy : (k i len : ℕ) → Open → Find → ℤ
 startBy k i len o none = o .start
@@ -126,16 +158,18 @@ pub record Stepping (p : Params) (i e : ℕ) (a : State) (ring window-counts sta
   pub windowed : Windowed p ring (a .window .head) (a .window .len) window-counts n-ln
   pub roomy : Roomy p n-f n-counts n-places n-scores
   pub saving : Saving (a .hand) starts ends
+  pub ended : isAt (a .hand .end) (i + 1) ≡ false
 
 pub record Stepped (p : Params) (ln f : List Float) (i e : ℕ) (a a′ : State) (ring counts starts ends : List ℕ)
     (ring′ window-counts′ counts′ starts′ ends′ : List ℕ) : Type 0 where
-  pub run-is : held a′ ring′ counts′ starts′ ends′ ≡ step (setupOf p ln f) i (held a ring counts starts ends) (decode e)
+  pub like : Like (i + 1) (held a′ ring′ counts′ starts′ ends′) (step (setupOf p ln f) i (held a ring counts starts ends) (decode e))
   pub windowed : Windowed p ring′ (a′ .window .head) (a′ .window .len) window-counts′ (length ln)
+  pub kept : Kept (setupOf p ln f) (window ring′ (a′ .window .head) (a′ .window .len)) (a′ .window) counts′
 
 -- ---- The run over a strand of n letters.
 -- start, end and last_q at -1, sum 0, no queue entry, nothing saved.
 abbrev pub begun : State
-begun = record { window = record { sum = zero64; last = negsuc 0; head = 0; len = 0 }; hand = record { start = negsuc 0; end = negsuc 0; count = 0 } }
+begun = record { window = record { sum = zero64; last = negsuc 0; head = 0; len = 0; live = false; carry = noCarry }; hand = record { start = negsuc 0; end = negsuc 0; count = 0 } }
 
 -- The numbers lie in their ranges, and the lent slices have the sizes that the paper lists.
 pub record Lent (p : Params) (n n-ln n-f n-ring n-window-counts n-counts n-places n-scores n-starts n-ends : ℕ) : Type 0 where
@@ -153,5 +187,5 @@ pub record Lent (p : Params) (n n-ln n-f n-ring n-window-counts n-counts n-place
 
 -- The run over all letters, and its last interval can be saved.
 pub record Ran (p : Params) (codes : List ℕ) (ln f : List Float) (a : State) (ring counts starts ends : List ℕ) : Type 0 where
-  pub run-is : held a ring counts starts ends ≡ run (setupOf p ln f) (places (p .kmer) codes)
+  pub like : Like (length codes) (held a ring counts starts ends) (run (setupOf p ln f) (places (p .kmer) codes))
   pub saving : Saving (a .hand) starts ends

@@ -1,3 +1,4 @@
 pub mod Step
 pub mod Range
+pub mod Kept
 pub mod Held

@@ -1,7 +1,7 @@
 // One strand: the run over its letters and the intervals that it saves.
 
 ghost use mathlib.Core.Path.{_≡_};
-ghost use mathlib.Core.List.{List};
+ghost use mathlib.Core.List.{List, [], _∷_, _++_};
 ghost use Prim.Native.Nat.{_+_, _-_, _/_, _^_, _<_, _≤_};
 ghost use lib.ListN.{length, getD, replicate};
 ghost use lib.IntN.{pos, _-ℤ_};
@@ -12,19 +12,25 @@ ghost use Rattle.intervals.specs.Interval.{Interval};
 ghost use Rattle.intervals.specs.Rows.{rows};
 ghost use Rattle.scans.specs.Setup.{setupOf};
 ghost use Rattle.scans.specs.Counts.{raise, lower};
-ghost use Rattle.scans.specs.Window.{findOf, Windowed, Roomy, Tells};
-ghost use Rattle.strand.specs.Step.{countsWithout, lastWithout, isAt, st2, startAfter, saveFrom, savedAfter, intervalsOf};
+ghost use Rattle.scans.specs.Scans.{dustBackward};
+ghost use Rattle.scans.specs.Window.{findOf, window, Windowed, Roomy};
+ghost use Rattle.strand.specs.Step.{whole, lastWithout, isAt, st2, startAfter, saveFrom, savedAfter, intervalsOf};
 ghost use Rattle.strand.specs.Held.{heldBy, sumLess, sumMore, Left, Joined, triedBy, Extended, lookBy};
 ghost use Rattle.strand.specs.Held.{lastBy, Found, Saving, Stepping, Stepped, begun, Lent, Ran};
+ghost use Rattle.strand.specs.Held.{Looks, Seeks};
+ghost use Rattle.strand.specs.Kept.{Kept, Passing, Passes, extendedOf, answeredBy};
 
 // ---- The window.
 
 // The window's float sum, last_q, and where its entries stand in the ring: `len` of them, the oldest at `head`.
+// Unless `live`, all scan counts are 0; `carry` is the forward scan from last_q on.
 struct Window {
     sum: f64,
     last: i64,
     head: usize,
     len: usize,
+    live: bool,
+    carry: scans::Carry,
 }
 
 // The sum without an entry that leaves: if plain, the ln entry of its count leaves the sum, and the count falls.
@@ -57,22 +63,6 @@ fn sum_with(sum: f64, counts: &mut [u16], ln: &[f64], entry: u32) -> f64
     sum + value
 }
 
-// The scan counts without an entry that leaves: last_q = 0 lowers its k-mer's count if it is plain and the count above 0.
-fn scan_without(last: i64, counts: &mut [u16], entry: u32)
-    requires { ⌜ entry / 2 < length (now counts) ⌝ }
-    ensures { λ _. ⌜ now (counts .exit) ≡ countsWithout last (now (counts .entry)) (decode entry) ⌝ }
-{
-    if last == 0 {
-        if entry & 1 == 0 {
-            let kmer = (entry >> 1) as usize;
-            let c = counts[kmer];
-            if 0 < c {
-                counts[kmer] = c - 1;
-            }
-        }
-    }
-}
-
 // last_q without the oldest entry.
 fn last_without(last: i64) -> i64
     ensures { λ r. ⌜ r ≡ lastWithout last ⌝ }
@@ -80,8 +70,24 @@ fn last_without(last: i64) -> i64
     if last > 0 { last - 1 } else { last }
 }
 
+// last_q as an index; 0 where there is none.
+fn last_index(last: i64) -> usize
+    ensures { λ r. ⌜ r ≡ whole last ⌝ }
+{
+    if last < 0 {
+        return 0;
+    }
+    last as usize
+}
+
+// What a search found: one past its index, 0 for none, and the window with the scan counts that it left.
+struct Sought {
+    window: Window,
+    found: usize,
+}
+
 impl Window {
-    // The oldest entry leaves a full queue.
+    // The oldest entry leaves a full queue; last_q = 0 lowers its scan count, and ends a carried scan, which began there.
     fn leave(
         mut self,
         p: scans::Params,
@@ -99,7 +105,10 @@ impl Window {
         let last = self.last;
         let entry = queue[head];
         self.sum = sum_without(self.sum, window_counts, ln, entry);
-        scan_without(last, scan_counts, entry);
+        if last == 0 {
+            scans::lower_entry(scan_counts, entry);
+            self.carry = scans::Carry::none();
+        }
         self.last = last_without(last);
         self.head = scans::ring_index(p.window, head, 1);
         self.len -= 1;
@@ -145,6 +154,94 @@ impl Window {
         self.sum = sum_with(self.sum, window_counts, ln, entry);
         self.len += 1;
         self
+    }
+
+    // No find: a carried scan goes on to the newest entry.
+    fn passed(
+        mut self,
+        p: scans::Params,
+        entry: u32,
+        ln: &[f64],
+        f: &[f64],
+        scan_counts: &mut [u16],
+    ) -> Sought
+        requires { ⌜ (0 < self .len) × (self .len ≤ p .window) × (p .window ≤ 65535) × (p .window < length (now ln)) × (p .window < length (now f)) × (entry / 2 < length (now «scan_counts»)) ⌝ }
+        requires { ⌜ Passing self entry (now «scan_counts») ⌝ }
+        ensures { λ r. ⌜ Passes (setupOf p (now (ln .entry)) (now (f .entry))) self (decode entry) r (now («scan_counts» .entry)) (now («scan_counts» .exit)) ⌝ }
+    {
+        if self.carry.on {
+            let l = self.len - last_index(self.last);
+            self.carry = self.carry.next(p, l, entry, ln, f, scan_counts);
+        }
+        Sought {
+            window: self,
+            found: 0,
+        }
+    }
+
+    // A find by extension, at the oldest entry.
+    fn extended(mut self) -> Sought
+        ensures { λ r. ⌜ r ≡ extendedOf self ⌝ }
+    {
+        self.live = true;
+        self.carry = scans::Carry::none();
+        Sought {
+            window: self,
+            found: 1,
+        }
+    }
+
+    // What a backward scan found, with the scan that it left to carry on.
+    fn answered(mut self, found: usize, carry: scans::Carry) -> Sought
+        ensures { λ r. ⌜ r ≡ answeredBy self found carry ⌝ }
+    {
+        self.live = found != 0;
+        self.carry = carry;
+        Sought {
+            window: self,
+            found: found,
+        }
+    }
+
+    // The backward scan, from cleared counts.
+    fn scanned(
+        self,
+        p: scans::Params,
+        queue: &[u32],
+        window_counts: &[u16],
+        ln: &[f64],
+        f: &[f64],
+        scan_counts: &mut [u16],
+        places: &mut [u32],
+        scores: &mut [f64],
+    ) -> Sought
+        requires { ⌜ 0 < self .len ⌝ }
+        requires { ⌜ Windowed p (now queue) (self .head) (self .len) (now «window_counts») (length (now ln)) ⌝ }
+        requires { ⌜ Roomy p (length (now f)) (length (now «scan_counts»)) (length (now places)) (length (now scores)) ⌝ }
+        requires { ⌜ Kept (setupOf p (now ln) (now f)) (window (now queue) (self .head) (self .len - 1)) self (now «scan_counts») ⌝ }
+        ensures { λ r. ⌜ Seeks (setupOf p (now (ln .entry)) (now (f .entry))) (window (now (queue .entry)) (self .head) (self .len)) self (dustBackward (setupOf p (now (ln .entry)) (now (f .entry))) (window (now (queue .entry)) (self .head) (self .len))) r (now («scan_counts» .exit)) ⌝ }
+    {
+        let head = self.head;
+        let len = self.len;
+        let last = last_index(self.last);
+        if self.live {
+            scans::clear_from(queue, head, len, last, scan_counts);
+        }
+        let r = scans::dust_backward(
+            p,
+            self.carry,
+            last,
+            queue,
+            head,
+            len,
+            window_counts,
+            ln,
+            f,
+            scan_counts,
+            places,
+            scores,
+        );
+        self.answered(r.found, r.carry)
     }
 
     // last_q after a search: r is one past the index found, 0 for none.
@@ -248,6 +345,13 @@ impl Open {
 
 // ---- A letter.
 
+// What a letter leads to: nothing more, a find by extension, or the backward scan.
+enum Look {
+    Pass,
+    Extension,
+    Scan,
+}
+
 struct State {
     window: Window,
     hand: Open,
@@ -303,8 +407,44 @@ impl State {
         false
     }
 
-    // What the newest entry leads to at letter i: one past the index found, 0 for none.
+    // What the newest entry leads to at letter i. An extension raises its scan count.
     fn look(
+        self,
+        p: scans::Params,
+        i: usize,
+        entry: u32,
+        queue: &[u32],
+        window_counts: &[u16],
+        scan_counts: &mut [u16],
+        ln: &[f64],
+        f: &[f64],
+    ) -> Look
+        requires { ⌜ (i < 2147483648) × (0 < self .window .len) × (entry / 2 < 4 ^ p .kmer) × (length (now «scan_counts») ≡ 4 ^ p .kmer) × (p .window < length (now f)) ⌝ }
+        requires { ⌜ Windowed p (now queue) (self .window .head) (self .window .len) (now «window_counts»)
+            (length (now ln)) ⌝ }
+        ensures { λ r. ⌜ ((saved : List Interval) → Looks (setupOf p (now (ln .entry)) (now (f .entry))) i
+            (heldBy (self .window) (self .hand) (now (queue .entry)) (now («scan_counts» .entry)) saved) (decode entry)
+            r (now («scan_counts» .exit))) ⌝ }
+    {
+        if entry & 1 != 0 {
+            return Look::Pass;
+        }
+        let kmer = entry >> 1;
+        let x = kmer as usize;
+        if window_counts[x] < p.least {
+            return Look::Pass;
+        }
+        if self.extended(p, i, kmer, ln, f, scan_counts) {
+            return Look::Extension;
+        }
+        if scans::if_backward(p, queue, self.window.head, self.window.len, window_counts, ln) {
+            return Look::Scan;
+        }
+        Look::Pass
+    }
+
+    // The search from the newest entry at letter i.
+    fn search(
         self,
         p: scans::Params,
         i: usize,
@@ -316,43 +456,24 @@ impl State {
         f: &[f64],
         places: &mut [u32],
         scores: &mut [f64],
-    ) -> usize
+    ) -> Sought
         requires { ⌜ (i < 2147483648) × (0 < self .window .len) × (entry / 2 < 4 ^ p .kmer) ⌝ }
         requires { ⌜ Windowed p (now queue) (self .window .head) (self .window .len) (now «window_counts»)
             (length (now ln)) ⌝ }
         requires { ⌜ Roomy p (length (now f)) (length (now «scan_counts»)) (length (now places)) (length (now scores)) ⌝ }
-        ensures { λ r. ⌜ ((saved : List Interval) → Tells (lookBy (setupOf p (now (ln .entry)) (now (f .entry))) i
-            (heldBy (self .window) (self .hand) (now (queue .entry)) (now («scan_counts» .entry)) saved) (decode entry))
+        requires { ⌜ Kept (setupOf p (now ln) (now f)) (window (now queue) (self .window .head) (self .window .len - 1)) (self .window) (now «scan_counts») ⌝ }
+        requires { ⌜ window (now queue) (self .window .head) (self .window .len) ≡ window (now queue) (self .window .head) (self .window .len - 1) ++ decode entry ∷ [] ⌝ }
+        ensures { λ r. ⌜ ((saved : List Interval) → Seeks (setupOf p (now (ln .entry)) (now (f .entry)))
+            (window (now (queue .entry)) (self .window .head) (self .window .len)) (self .window)
+            (lookBy (setupOf p (now (ln .entry)) (now (f .entry))) i (heldBy (self .window) (self .hand) (now (queue .entry)) (now («scan_counts» .entry)) saved) (decode entry))
             r (now («scan_counts» .exit))) ⌝ }
     {
-        if entry & 1 != 0 {
-            return 0;
+        match self.look(p, i, entry, queue, window_counts, scan_counts, ln, f) {
+            Look::Pass => self.window.passed(p, entry, ln, f, scan_counts),
+            Look::Extension => self.window.extended(),
+            Look::Scan => self.window
+                .scanned(p, queue, window_counts, ln, f, scan_counts, places, scores),
         }
-        let kmer = entry >> 1;
-        let x = kmer as usize;
-        if window_counts[x] < p.least {
-            return 0;
-        }
-        if self.extended(p, i, kmer, ln, f, scan_counts) {
-            return 1;
-        }
-        let head = self.window.head;
-        let len = self.window.len;
-        if scans::if_backward(p, queue, head, len, window_counts, ln) {
-            return scans::dust_backward(
-                p,
-                queue,
-                head,
-                len,
-                window_counts,
-                ln,
-                f,
-                scan_counts,
-                places,
-                scores,
-            );
-        }
-        0
     }
 
     // The state after letter i, whose place is `entry` in the queue.
@@ -373,6 +494,7 @@ impl State {
     ) -> Self
         requires { ⌜ Stepping p i entry self (now queue) (now «window_counts») (now starts) (now ends) (length (now ln))
             (length (now f)) (length (now «scan_counts»)) (length (now places)) (length (now scores)) ⌝ }
+        requires { ⌜ Kept (setupOf p (now ln) (now f)) (window (now queue) (self .window .head) (self .window .len)) (self .window) (now «scan_counts») ⌝ }
         ensures { λ r. ⌜ Stepped p (now (ln .entry)) (now (f .entry)) i entry self r
             (now (queue .entry)) (now («scan_counts» .entry)) (now (starts .entry)) (now (ends .entry))
             (now (queue .exit)) (now («window_counts» .exit)) (now («scan_counts» .exit)) (now (starts .exit)) (now (ends .exit)) ⌝ }
@@ -380,7 +502,7 @@ impl State {
         let room = self.window
             .make_room(p, queue, window_counts, scan_counts, ln);
         self.window = room.join(p, queue, window_counts, ln, entry);
-        let r = self.look(
+        let sought = self.search(
             p,
             i,
             entry,
@@ -392,8 +514,9 @@ impl State {
             places,
             scores,
         );
+        let r = sought.found;
         self.hand = self.hand.found(p.kmer, i, self.window.len, r, starts, ends);
-        self.window = self.window.found(r);
+        self.window = sought.window.found(r);
         self
     }
 }
@@ -409,6 +532,8 @@ fn begin() -> State
             last: -1,
             head: 0,
             len: 0,
+            live: false,
+            carry: scans::Carry::none(),
         },
         hand: Open {
             start: -1,

@@ -7,8 +7,11 @@ use Rattle.strand.proofs.inner_process.Tie as tie
 abbrev start : tie.After-clear → tie.Start
 start c = c .before .before .before .before .before .before .before .before .before .before .before .before
 
+abbrev cleared2 : tie.After-run → tie.After-clear2
+cleared2 c = c .before .before .before .before .before .before .before .before .before .before
+
 abbrev cleared : tie.After-run → tie.After-clear
-cleared c = c .before .before .before .before .before .before .before .before .before .before .before .before .before .before
+cleared c = cleared2 c .before .before .before .before
 
 abbrev ran : tie.After-slice-known18 → tie.After-run
 ran c = c .before .before .before .before .before .before .before .before .before .before .before .before .before .before .before .before .before .before .before .before .before
@@ -41,7 +44,9 @@ same-length-2 c =
     r .run .kept .1 .1 .1 .1 .1 .0 ∙ cleared r .clear .kept .0
 
 same-length-3 : tie.Need-same-length-3
-same-length-3 c = search needs
+same-length-3 c =
+    let r = ran c in
+    r .run .kept .1 .1 .1 .1 .1 .1 .0 ∙ cleared2 r .clear2 .kept .0
 
 same-length-4 : tie.Need-same-length-4
 same-length-4 c = search needs

@@ -11,7 +11,7 @@ use Rattle.letters.proofs.Rolling.{run-few, value-small, entry-below}
 use Rattle.scans.specs.declared.Params.{Params}
 use Rattle.strand.specs.declared.State.{State}
 use Rattle.strand.specs.Held.{Saving}
-use Rattle.strand.proofs.Running.{Inv, saving, inv-start, kmer-after, inv-turn, inv-end}
+use Rattle.strand.proofs.Running.{Inv, saving, inv-start, kmer-after, not-ended, inv-turn, inv-end}
 use Rattle.strand.proofs.run.Statement.{statement}
 use Rattle.strand.proofs.run.Tie as tie
 
@@ -104,19 +104,23 @@ letter-requires c κs =
     let h = g .loop .inv in
     let k = b .args .p .kmer in
     let below = entry-below k (b .args .codes .now) (g .loop .i + 1) (n .next .result) (rolled n) in
-    record {
-      kmer-small = l .kmer-small;
-      letter-in = omega (arith, t .loop-test .taken, l .letters-in);
-      below = subst (λ (z : ℕ). z / 2 < 4 ^ k) (sym (e .entry .ensures)) below;
-      windowed = h .inv .windowed;
-      roomy = record {
-        f-long = l .roomy .f-long;
-        counts-is = h .same-scan-counts ∙ l .roomy .counts-is;
-        places-long = omega (arith, h .same-places, l .roomy .places-long);
-        scores-long = omega (arith, h .same-scores, l .roomy .scores-long);
-      };
-      saving = can-save g;
-    }
+    (
+      record {
+        kmer-small = l .kmer-small;
+        letter-in = omega (arith, t .loop-test .taken, l .letters-in);
+        below = subst (λ (z : ℕ). z / 2 < 4 ^ k) (sym (e .entry .ensures)) below;
+        windowed = h .inv .windowed;
+        roomy = record {
+          f-long = l .roomy .f-long;
+          counts-is = h .same-scan-counts ∙ l .roomy .counts-is;
+          places-long = omega (arith, h .same-places, l .roomy .places-long);
+          scores-long = omega (arith, h .same-scores, l .roomy .scores-long);
+        };
+        saving = can-save g;
+        ended = not-ended (h .inv);
+      },
+      h .inv .kept,
+    )
 
 abbrev lettered : tie.After-slice-known14 Inv-loop μ-loop → tie.After-letter Inv-loop μ-loop
 lettered c = c .before .before .before .before .before .before .before .before .before .before .before .before .before .before

@@ -14,35 +14,37 @@ start c = c .before .before .before .before .before .before .before .before .bef
 abbrev roomed : tie.After-join → tie.After-make-room
 roomed c = c .before .before .before .before .before .before .before
 
-abbrev joined : tie.After-look → tie.After-join
+abbrev joined : tie.After-search → tie.After-join
 joined c = c .before .before .before .before .before .before .before .before .before .before
 
-within : (c : tie.After-look) → c .look .result ≤ joined c .join .result .len
+within : (c : tie.After-search) → c .search .result .found ≤ joined c .join .result .len
 within c =
     let j = joined c in
     let a = start (roomed j) .args in
-    found-within (setupOf (a .p) (a .ln .now) (a .f .now)) (a .i) (a .self .hand) _ (j .join .ensures) (c .look .ensures [])
+    found-within (setupOf (a .p) (a .ln .now) (a .f .now)) (a .i) (a .self .hand) _ (j .join .ensures) (c .search .ensures [])
 
-abbrev looked : tie.After-found2 → tie.After-look
-looked c = c .before .before .before .before .before .before .before .before .before .before .before .before .before .before
+abbrev searched : tie.After-found2 → tie.After-search
+searched c = c .before .before .before .before .before .before .before .before .before .before .before .before .before .before
 
 make-room-requires : tie.Need-make-room-requires
 make-room-requires c κs =
     let b = c .before .before .before .before .before .before .before .before .before .before .before .before in
-    (b .pre .roomy .counts-is, b .pre .windowed)
+    (b .pre .0 .roomy .counts-is, b .pre .0 .windowed)
 
 join-requires : tie.Need-join-requires
 join-requires c κs =
     let m = c .before .before .before .before .before .before in
-    ((m .make-room .ensures .room, start m .pre .below), m .make-room .ensures .windowed)
+    ((m .make-room .ensures .room, start m .pre .0 .below), m .make-room .ensures .windowed)
 
-look-requires : tie.Need-look-requires
-look-requires c κs =
+search-requires : tie.Need-search-requires
+search-requires c κs =
     let j = c .before .before .before .before .before .before .before .before .before in
     let m = roomed j in
     let b = start m in
-    let roomy = roomy-as (m .make-room .kept .1 .1 .1 .1 .0) (b .pre .roomy) in
-    ((b .pre .letter-in, j .join .ensures .some, b .pre .below), (j .join .ensures .windowed, roomy))
+    let q = b .pre .0 in
+    let roomy = roomy-as (m .make-room .kept .1 .1 .1 .1 .0) (q .roomy) in
+    let kept = j .join .ensures .kept (b .args .f .now) _ (m .make-room .ensures .kept (b .args .f .now) (b .pre .1)) in
+    ((q .letter-in, j .join .ensures .some, q .below), (j .join .ensures .windowed, (roomy, (kept, j .join .ensures .newest))))
 
 found-requires : tie.Need-found-requires
 found-requires c κs =
@@ -50,7 +52,7 @@ found-requires c κs =
     let j = joined l in
     let b = start (roomed j) in
     let w = j .join .ensures .windowed in
-    ((b .pre .letter-in, omega (arith, w .len-in, w .small), within l, b .pre .kmer-small), b .pre .saving)
+    ((b .pre .0 .letter-in, omega (arith, w .len-in, w .small), within l, b .pre .0 .kmer-small), b .pre .0 .saving)
 
 found-requires-2 : tie.Need-found-requires-2
 found-requires-2 c κs =
@@ -59,17 +61,17 @@ found-requires-2 c κs =
     omega (arith, within l, w .len-in, w .small)
 
 same-length : tie.Need-same-length
-same-length c = search needs
+same-length c = joined (searched c) .join .kept .1 .1 .0
 
 same-length-2 : tie.Need-same-length-2
 same-length-2 c =
-    let j = joined (looked c) in
+    let j = joined (searched c) in
     j .join .kept .1 .1 .1 .0 ∙ roomed j .make-room .kept .1 .1 .1 .0
 
 same-length-3 : tie.Need-same-length-3
 same-length-3 c =
-    let l = looked c in
-    l .look .kept .1 .1 .1 .1 .1 .1 .0 ∙ roomed (joined l) .make-room .kept .1 .1 .1 .1 .0
+    let l = searched c in
+    l .search .kept .1 .1 .1 .1 .1 .1 .0 ∙ roomed (joined l) .make-room .kept .1 .1 .1 .1 .0
 
 same-length-4 : tie.Need-same-length-4
 same-length-4 c = search needs
@@ -86,9 +88,10 @@ same-length-7 c = search needs
 returns : tie.Need-returns
 returns c =
     let h = c .before .before .before .before .before in
-    let l = looked c in
+    let l = searched c in
     let j = joined l in
-    stepped (roomed j .make-room .ensures) (j .join .ensures) (l .look .ensures) (h .found .ensures) (c .found2 .ensures)
+    let m = roomed j in
+    stepped (start m .pre .0 .ended) (m .make-room .ensures) (j .join .ensures) (l .search .ensures) (h .found .ensures) (c .found2 .ensures)
 
 pub letter-spec : {M : Type 1} → statement M
 letter-spec =
@@ -96,7 +99,7 @@ letter-spec =
     (tie.spec
     make-room-requires
     join-requires
-    look-requires
+    search-requires
     found-requires
     found-requires-2
     same-length
