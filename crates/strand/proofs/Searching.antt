@@ -143,8 +143,8 @@ module _ {S : Setup} {p : Params} {w : Window} {counts ring window-counts : List
       rw l-is (
         omega (arith, k .inside on, older-long h),
         subst (λ (z : List Place). Touched counts z)
-        (sym (ap (λ (z : List Place). drop j z) (window-split ring head (len - 1) len (omega arith)) ∙ drop-append-le j older newer (k .inside on)))
-        (touched-more counts (drop j older) newer (k .touched on)),
+            (sym (ap (λ (z : List Place). drop j z) (window-split ring head (len - 1) len (omega arith)) ∙ drop-append-le j older newer (k .inside on)))
+            (touched-more counts (drop j older) newer (k .touched on)),
       )
 
 left-found : (S : Setup) (o : Outcome) (r : ℕ) → findOf r ≡ o .find → 0 < r → countsLeft S (o .find) (o .counts) ≡ o .counts

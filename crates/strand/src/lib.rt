@@ -437,7 +437,14 @@ impl State {
         if self.extended(p, i, kmer, ln, f, scan_counts) {
             return Look::Extension;
         }
-        if scans::if_backward(p, queue, self.window.head, self.window.len, window_counts, ln) {
+        if scans::if_backward(
+            p,
+            queue,
+            self.window.head,
+            self.window.len,
+            window_counts,
+            ln,
+        ) {
             return Look::Scan;
         }
         Look::Pass
@@ -471,8 +478,16 @@ impl State {
         match self.look(p, i, entry, queue, window_counts, scan_counts, ln, f) {
             Look::Pass => self.window.passed(p, entry, ln, f, scan_counts),
             Look::Extension => self.window.extended(),
-            Look::Scan => self.window
-                .scanned(p, queue, window_counts, ln, f, scan_counts, places, scores),
+            Look::Scan => self.window.scanned(
+                p,
+                queue,
+                window_counts,
+                ln,
+                f,
+                scan_counts,
+                places,
+                scores,
+            ),
         }
     }
 

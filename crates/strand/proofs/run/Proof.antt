@@ -103,8 +103,7 @@ letter-requires c κs =
     let l = b .pre .0 in
     let h = g .loop .inv in
     let k = b .args .p .kmer in
-    let below = entry-below k (b .args .codes .now) (g .loop .i + 1) (n .next .result) (rolled n) in
-    (
+    let below = entry-below k (b .args .codes .now) (g .loop .i + 1) (n .next .result) (rolled n) in (
       record {
         kmer-small = l .kmer-small;
         letter-in = omega (arith, t .loop-test .taken, l .letters-in);

@@ -1,4 +1,4 @@
-use mathlib.Core.Path.{_≡_, sym, subst}
+use mathlib.Core.Path.{_≡_, sym}
 use mathlib.Core.List.{List, []}
 use Prim.Native.Nat.{ℕ, _-_}
 use native.Mathlib.Omega.{arith}
@@ -6,9 +6,6 @@ use borrow.Author.Needs.{needs}
 use Rattle.scans.specs.Setup.{setupOf}
 use Rattle.scans.specs.Window.{window}
 use Rattle.scans.proofs.Windows.{long}
-use Rattle.strand.specs.declared.Look.{Look}
-use Rattle.strand.specs.declared.Look.the-variants.{Pass, Scan}
-use Rattle.strand.specs.Held.{countsLooked}
 use Rattle.strand.specs.Kept.{Kept}
 use Rattle.strand.proofs.Moving.{older-long, window-below}
 use Rattle.strand.proofs.Keeping.{passing}

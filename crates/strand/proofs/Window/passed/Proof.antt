@@ -1,5 +1,4 @@
 use mathlib.Core.Path.{_≡_, ap, _∙_}
-use Prim.Native.Nat.{_/_}
 use native.Mathlib.Omega.{arith}
 use mir.Syntax.{w64}
 use mir.Facts.{toZ-ofZ}
