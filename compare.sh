@@ -45,6 +45,13 @@ mask AAAAAAAAAAAAAAAAAAAA $'0\t20'
 mask AAAAAAAAA ""
 mask ACGTACG "refused 3"
 
+echo "== the recorded list of crates/replay"
+if "$program" record | cmp - crates/replay/stdin; then
+  passed=$((passed + 1))
+else
+  failed=$((failed + 1))
+fi
+
 run "$program" cases
 run "$program" tables
 run "$program" random 1 200000
