@@ -24,9 +24,8 @@ use Rattle.scans.proofs.CarriedScan.{carried-next, found-counted}
 use Rattle.scans.proofs.Finds.{backward-facts}
 use Rattle.strand.specs.Step.{whole, countsWithout, lastWithout}
 use Rattle.strand.specs.declared.Window.{Window}
-use Rattle.strand.specs.declared.Sought.{Sought}
 use Rattle.strand.specs.Kept.{Kept, carryWithout, Passing, Passes, extendedOf, answeredBy}
-use Rattle.strand.specs.Held.{lastBy, begun}
+use Rattle.strand.specs.Held.{lastBy, unread}
 
 -- It depends on last_q, `live` and the carried scan alone.
 pub kept-same : {S : Setup} {q : List Place} {w w′ : Window} {counts : List ℕ} → Kept S q w counts
@@ -89,8 +88,8 @@ kept-counted {S} {q} {j} {counts = counts} l n s =
       carried = s;
     }
 
-pub kept-begun : {S : Setup} → Kept S [] (begun .window) (cleared S)
-kept-begun = kept-same (kept-clear refl refl) refl refl refl
+pub kept-unread : {S : Setup} → Kept S [] (unread .window) (cleared S)
+kept-unread = kept-same (kept-clear refl refl) refl refl refl
 
 kept-off : {S : Setup} {q : List Place} {w : Window} {counts : List ℕ} → Kept S q w counts → w .live ≡ false → w .carry .on ≡ false
 kept-off {w = w} k n = go (w .carry .on) refl
@@ -167,11 +166,11 @@ module _ {S : Setup} {q : List Place} {w : Window} {counts : List ℕ} (k : Kept
       (subst (λ (z : List Place). Counted (kmers S) (raise counts e) z) (sym (more e l)) (raise-counted (kmers S) counts es e (below-right (kmers S) q (e ∷ []) b .0) n))
       (subst (λ (z : List Place). Carried S z (carriedOn S (length es + 1) counts e (w .carry))) (sym (more e l)) (carried-next S es e (w .carry) counts (k .carried) bes n))
 
-pub kept-passed : {S : Setup} {q : List Place} {e : Place} {w : Window} {r : Sought} {counts counts′ : List ℕ} → Below (kmers S) (q ++ e ∷ []) → w .len ≡ length q + 1
-    → Kept S q w counts → Passes S w e r counts counts′ → Kept S (q ++ e ∷ []) (r .window) counts′
-kept-passed {S} {q} {e} {w} {r} {counts} {counts′} b n k p = go (w .carry .on) refl
+pub kept-passed : {S : Setup} {q : List Place} {e : Place} {w w′ : Window} {counts counts′ : List ℕ} → Below (kmers S) (q ++ e ∷ []) → w .len ≡ length q + 1
+    → Kept S q w counts → Passes S w e w′ counts counts′ → Kept S (q ++ e ∷ []) w′ counts′
+kept-passed {S} {q} {e} {w} {w′} {counts} {counts′} b n k p = go (w .carry .on) refl
   where
-    go : (t : Bool) → w .carry .on ≡ t → Kept S (q ++ e ∷ []) (r .window) counts′
+    go : (t : Bool) → w .carry .on ≡ t → Kept S (q ++ e ∷ []) w′ counts′
     go false off = rw (p .off off .0, p .off off .1) (kept-uncounted k e off)
     go true on =
         let j : ℕ = whole (w .last) in
@@ -179,7 +178,7 @@ kept-passed {S} {q} {e} {w} {r} {counts} {counts′} b n k p = go (w .carry .on)
         let next = p .on on .1 in
         let l = k .live on in
         let size : w .len - j ≡ length (drop j q) + 1 = omega (arith, n, k .inside l, length-drop j q) in
-        subst (λ (z : List ℕ). Kept S (q ++ e ∷ []) (r .window) z) (sym (next .counts-are))
+        subst (λ (z : List ℕ). Kept S (q ++ e ∷ []) w′ z) (sym (next .counts-are))
         (kept-same (kept-next k e b on) (ap (λ (z : Window). z .last) same ∙ k .from l) (ap (λ (z : Window). z .live) same ∙ l)
         (next .carry-is ∙ ap (λ (z : ℕ). carriedOn S z counts e (w .carry)) size))
 

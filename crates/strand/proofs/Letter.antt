@@ -1,9 +1,9 @@
--- One letter as the code takes it: the window with room, the entry that joins, what it leads to and what a find does,
+-- One letter as the code takes it: the entry that enters the window, what it leads to and what a find does,
 -- put together to the definitions' `step`.
 use mathlib.Core.Path.{_≡_, refl, sym, ap, ap₂, _∙_, subst}
 use mathlib.Core.Bool.{Bool, true, false, cond}
 use mathlib.Core.List.{List, []}
-use Prim.Native.Nat.{ℕ, zero, suc, _+_, _≤_, _<_}
+use Prim.Native.Nat.{ℕ, zero, suc, _+_, _/_, _^_, _≤_, _<_}
 use native.Mathlib.Omega.{arith}
 use lib.ListN.{length}
 use lib.Dec.{leb}
@@ -18,7 +18,7 @@ use Rattle.scans.specs.Setup.{Setup, setupOf}
 use Rattle.scans.specs.Counts.{count}
 use Rattle.scans.specs.Scans.{Find, none, at, Outcome}
 use Rattle.scans.specs.declared.Carry.{Carry}
-use Rattle.scans.specs.Window.{window, findOf, Roomy}
+use Rattle.scans.specs.Window.{window, findOf, Windowed, Roomy}
 use Rattle.scans.proofs.Test.{by-test}
 use Rattle.scans.proofs.Windows.{long}
 use Rattle.strand.specs.Step.{Run, join, isAt, search, st2, startAfter, savedAfter, foundBy, found, look, step}
@@ -27,9 +27,9 @@ use Rattle.strand.specs.declared.Open.{Open}
 use Rattle.strand.specs.declared.State.{State}
 use Rattle.strand.specs.declared.Sought.{Sought}
 use Rattle.strand.specs.Kept.{Kept, rescanned, Like}
-use Rattle.strand.specs.Held.{heldBy, Left, Joined, lookBy, lastBy, Seeks, Found, Stepped}
+use Rattle.strand.specs.Held.{heldBy, Left, Joined, Entered, Enters, lookBy, lastBy, Seeks, Found, Settled}
 use Rattle.strand.proofs.Shape.{InWindow, search-inside}
-use Rattle.strand.proofs.Like.{like-found}
+use Rattle.strand.proofs.Like.{like-end, like-trans, like-found, like-step}
 
 -- A scan keeps the number of scan counts.
 pub roomy-as : {p : Params} {n-f n n′ n-places n-scores : ℕ} → n′ ≡ n → Roomy p n-f n n-places n-scores → Roomy p n-f n′ n-places n-scores
@@ -62,12 +62,12 @@ inside-le q zero h = omega arith
 inside-le q (suc j) h = omega arith
 
 -- A find lies in the window.
-pub found-within : (S : Setup) (i : ℕ) (o : Open) (counts : List ℕ) {p : Params} {ln : List Float} {w w′ : Window} {e : ℕ} {s : Sought} {q : List Place}
-    {ring ring′ window-counts counts′ : List ℕ} → Joined p ln w w′ e ring ring′ window-counts → Seeks S q w′ (lookBy S i (heldBy w′ o ring′ counts []) (decode e)) s counts′ → s .found ≤ w′ .len
-found-within S i o counts {w′ = w′} {e} {s} {ring′ = ring′} j t =
-    let q = window ring′ (w′ .head) (w′ .len) in
+pub found-within : (S : Setup) (i : ℕ) (o : Open) {p : Params} {ln f : List Float} {w : Window} {e : ℕ} {s : Sought} {q : List Place}
+    {ring window-counts counts counts′ : List ℕ} → Entered p ln f w e ring window-counts counts → Seeks S q w (lookBy S i (heldBy w o ring counts []) (decode e)) s counts′ → s .found ≤ w .len
+found-within S i o {w = w} {e} {s} {ring = ring} {counts = counts} j t =
+    let q = window ring (w .head) (w .len) in
     let n = long (j .windowed) in
-    let h = look-inside S i (heldBy w′ o ring′ counts []) (decode e) (omega (arith, j .some)) in
+    let h = look-inside S i (heldBy w o ring counts []) (decode e) (omega (arith, j .some)) in
     omega (arith, inside-le q (s .found) (subst (λ (find : Find). InWindow q find) (sym (t .find-is)) h))
 
 -- ---- What a find does.
@@ -108,36 +108,63 @@ module _ (w : Window) {u : Window} (r : Sought) (same : r .window ≡ rescanned 
   len-same : u .len ≡ w .len
   len-same = ap (λ (z : Window). z .len) u-is ∙ last-len (r .window) (findOf (r .found)) ∙ ap (λ (z : Window). z .len) same
 
--- ---- A letter.
-module _ {p : Params} {ln f : List Float} {i e : ℕ} {a : State} {w w′ w″ : Window} {o : Open} {r : Sought}
-    {ring counts starts ends window-counts counts₁ ring′ window-counts′ counts′ starts′ ends′ : List ℕ} where
-  pub stepped : isAt (a .hand .end) (i + 1) ≡ false → Left p ln (a .window) w ring counts window-counts counts₁ → Joined p ln w w′ e ring ring′ window-counts′
-      → ((saved : List Interval) → Seeks (setupOf p ln f) (window ring′ (w′ .head) (w′ .len)) w′ (lookBy (setupOf p ln f) i (heldBy w′ (a .hand) ring′ counts₁ saved) (decode e)) r counts′)
-      → Found (p .kmer) i (w′ .len) (a .hand) o (findOf (r .found)) (rows (a .hand .count) starts ends) (rows (o .count) starts′ ends′)
-      → w″ ≡ lastBy (r .window) (findOf (r .found))
-      → Stepped p ln f i e a (record { window = w″; hand = o }) ring counts starts ends ring′ window-counts′ counts′ starts′ ends′
-  unfolding step
-  stepped ended l j t h u =
-      let S = setupOf p ln f in
-      let saved = rows (a .hand .count) starts ends in
-      let saved′ = rows (o .count) starts′ ends′ in
-      let b = heldBy w′ (a .hand) ring′ counts₁ saved in
+-- ---- After the search: where the window stands, its scan counts, and the run.
+module _ {S : Setup} {w w′ : Window} {x : Outcome} {r : Sought} (ring : List ℕ) {counts′ : List ℕ} (t : Seeks S (window ring (w .head) (w .len)) w x r counts′)
+    (u : w′ ≡ lastBy (r .window) (findOf (r .found))) where
+  pub looked-windowed : {p : Params} {window-counts : List ℕ} {n : ℕ} → Windowed p ring (w .head) (w .len) window-counts n → Windowed p ring (w′ .head) (w′ .len) window-counts n
+  looked-windowed n = rw (head-same w r (t .same) u, len-same w r (t .same) u) n
+
+  pub looked-kept : Kept S (window ring (w′ .head) (w′ .len)) w′ counts′
+  looked-kept =
+      let places = ap₂ (λ (head len : ℕ). window ring head len) (head-same w r (t .same) u) (len-same w r (t .same) u) in
+      subst (λ (q : List Place). Kept S q w′ counts′) (sym places) (subst (λ (z : Window). Kept S (window ring (w .head) (w .len)) z counts′) (sym u) (t .kept))
+
+  pub looked-like : (i : ℕ) (e : Place) (o : Open) (counts : List ℕ) (saved : List Interval) {o′ : Open} {saved′ : List Interval} → length (window ring (w .head) (w .len)) ≡ w .len
+      → isAt (o .end) (i + 1) ≡ false → x ≡ lookBy S i (heldBy w o ring counts saved) e → Found (S .kmer) i (w .len) o o′ (findOf (r .found)) saved saved′
+      → Like (i + 1) (heldBy w′ o′ ring counts′ saved′) (look S i (heldBy w o ring counts saved) e)
+  looked-like i e o counts saved {o′} {saved′} n ended x-is h =
+      let a = heldBy w o ring counts saved in
       let find = findOf (r .found) in
-      let same = t saved .same in
-      let x = lookBy S i b (decode e) in
-      let now : heldBy w″ o ring′ counts′ saved′ ≡ foundBy S i b counts′ find =
-      ap (λ (z : Window). heldBy z o ring′ counts′ saved′) (u ∙ ap (λ (z : Window). lastBy z find) same)
-      ∙ found-is S i w′ (a .hand) o ring′ counts₁ counts′ saved saved′ (long (j .windowed)) (r .window .live) (r .window .carry) find h in
-      let then : foundBy S i b (x .counts) (x .find) ≡ step S i (heldBy (a .window) (a .hand) ring counts saved) (decode e) =
-      sym (look-is S i b (decode e))
-      ∙ ap (λ (z : Run). look S i z (decode e)) (j .run-is f (a .hand) counts₁ saved)
-      ∙ ap (λ (z : Run). look S i (join S z (decode e)) (decode e)) (l .run-is f (a .hand) saved) in
+      let now : heldBy w′ o′ ring counts′ saved′ ≡ foundBy S i a counts′ find =
+      ap (λ (z : Window). heldBy z o′ ring counts′ saved′) (u ∙ ap (λ (z : Window). lastBy z find) (t .same))
+      ∙ found-is S i w o o′ ring counts counts′ saved saved′ n (r .window .live) (r .window .carry) find h in
+      let then : foundBy S i a (x .counts) (x .find) ≡ look S i a e = ap (λ (z : Outcome). foundBy S i a (z .counts) (z .find)) x-is ∙ sym (look-is S i a e) in
+      subst (λ (z : Run). Like (i + 1) z (look S i a e)) (sym now)
+      (subst (λ (z : Run). Like (i + 1) (foundBy S i a counts′ find) z) then
+      (like-found S i a counts′ x (r .found) ended (t .find-is) (t .counts-are)))
+
+module _ {p : Params} {ln f : List Float} {i e : ℕ} {a : State} {w′ : Window} {o′ : Open} {r : Sought} {ring window-counts counts starts ends counts′ starts′ ends′ : List ℕ} where
+  pub settles : isAt (a .hand .end) (i + 1) ≡ false → Windowed p ring (a .window .head) (a .window .len) window-counts (length ln)
+      → ((saved : List Interval) → Seeks (setupOf p ln f) (window ring (a .window .head) (a .window .len)) (a .window)
+      (lookBy (setupOf p ln f) i (heldBy (a .window) (a .hand) ring counts saved) (decode e)) r counts′)
+      → Found (p .kmer) i (a .window .len) (a .hand) o′ (findOf (r .found)) (rows (a .hand .count) starts ends) (rows (o′ .count) starts′ ends′)
+      → w′ ≡ lastBy (r .window) (findOf (r .found))
+      → Settled p ln f i e a (record { window = w′; hand = o′ }) ring window-counts counts starts ends counts′ starts′ ends′
+  settles ended n t h u =
+      let saved = rows (a .hand .count) starts ends in
+      let s = t saved in
       record {
-        like = subst (λ (z : Run). Like (i + 1) z (step S i (heldBy (a .window) (a .hand) ring counts saved) (decode e))) (sym now)
-            (subst (λ (z : Run). Like (i + 1) (foundBy S i b counts′ find) z) then
-            (like-found S i b counts′ x (r .found) ended (t saved .find-is) (t saved .counts-are)));
-        windowed = rw (head-same w′ r same u, len-same w′ r same u) (j .windowed);
-        kept =
-            let places = ap₂ (λ (head len : ℕ). window ring′ head len) (head-same w′ r same u) (len-same w′ r same u) in
-            subst (λ (q : List Place). Kept S q w″ counts′) (sym places) (subst (λ (z : Window). Kept S (window ring′ (w′ .head) (w′ .len)) z counts′) (sym u) (t saved .kept));
+        like = looked-like ring s u i (decode e) (a .hand) counts saved (long n) ended refl h;
+        windowed = looked-windowed ring s u n;
+        kept = looked-kept ring s u;
       }
+
+-- ---- The entry enters the window, which then leads to the definitions' step.
+module _ {p : Params} {ln : List Float} (f : List Float) {e : ℕ} {w w₁ w′ : Window} {ring counts window-counts₁ ring′ window-counts′ counts′ : List ℕ} where
+  pub entering : e / 2 < 4 ^ p .kmer → Kept (setupOf p ln f) (window ring (w .head) (w .len)) w counts → Left p ln w w₁ ring counts window-counts₁ counts′
+      → Joined p ln w₁ w′ e ring ring′ window-counts′ → Enters p ln f w w′ e ring counts ring′ window-counts′ counts′
+  entering below k l j =
+      record {
+        run-is = λ o saved. j .run-is f o counts′ saved ∙ ap (λ (z : Run). join (setupOf p ln f) z (decode e)) (l .run-is f o saved);
+        entered = record { some = j .some; below = below; windowed = j .windowed; kept = j .kept f counts′ (l .kept f k); newest = j .newest };
+      }
+
+module _ {p : Params} {ln f : List Float} {i e : ℕ} {w w′ : Window} (o : Open) {ring counts ring′ window-counts′ counts′ : List ℕ} (saved : List Interval) where
+  pub stepped : {a real : Run} → Enters p ln f w w′ e ring counts ring′ window-counts′ counts′ → isAt (o .end) (i + 1) ≡ false
+      → Like (i + 1) a (look (setupOf p ln f) i (heldBy w′ o ring′ counts′ saved) (decode e)) → Like i (heldBy w o ring counts saved) real
+      → Like (i + 1) a (step (setupOf p ln f) i real (decode e))
+  unfolding step
+  stepped {a} n ended l before =
+      let S = setupOf p ln f in
+      like-trans (subst (λ (z : Run). Like (i + 1) a (look S i z (decode e))) (n .run-is o saved) l)
+      (like-step S (decode e) before (subst (λ (z : ℤ). isAt z (i + 1) ≡ false) (like-end before) ended))

@@ -9,6 +9,7 @@ pub mod Moving
 pub mod Searching
 pub mod Hand
 pub mod Letter
+pub mod ReadingOn
 pub mod Running
 pub mod Keeping
 pub mod Like

@@ -31,6 +31,12 @@ like-same {i} {a} e = subst (λ (z : Run). Like i a z) e like-refl
 pub like-end : {i : ℕ} {a b : Run} → Like i a b → a .end ≡ b .end
 like-end l = ap (λ (z : Run). z .end) (l .run-is)
 
+pub like-start : {i : ℕ} {a b : Run} → Like i a b → a .start ≡ b .start
+like-start l = ap (λ (z : Run). z .start) (l .run-is)
+
+pub like-saved : {i : ℕ} {a b : Run} → Like i a b → a .saved ≡ b .saved
+like-saved l = ap (λ (z : Run). z .saved) (l .run-is)
+
 pub like-trans : {i : ℕ} {a b c : Run} → Like i a b → Like i b c → Like i a c
 like-trans {i} {a} l m =
     record {

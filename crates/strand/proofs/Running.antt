@@ -4,15 +4,13 @@ use mathlib.Core.Bool.{false}
 use mathlib.Core.List.{List}
 use Prim.Native.Nat.{ℕ, _+_, _/_, _^_, _≤_, _<_}
 use native.Mathlib.Omega.{arith}
-use lib.ListN.{length, getD, drop, replicate, length-replicate, drop-of-length-le}
+use lib.ListN.{length, drop, replicate, length-replicate, drop-of-length-le}
 use lib.IntN.{ℤ, pos, negsuc}
 use lib.Ieee.{Float}
-use Rattle.letters.specs.declared.Kmer.{Kmer}
-use Rattle.letters.specs.Place.{Place, placeAt, places}
+use Rattle.letters.specs.Place.{places}
 use Rattle.letters.specs.Entry.{decode, decoded}
-use Rattle.letters.specs.Rolling.{noLetter, rolledOn, kmerAfter, entryOf}
-use Rattle.letters.proofs.Places.{places-length, places-drop}
-use Rattle.letters.proofs.Rolling.{kmer-none, kmer-next, entry-place}
+use Rattle.letters.proofs.Places.{places-length}
+use Rattle.letters.proofs.Rolling.{kmer-none, entry-place}
 use Rattle.intervals.specs.Interval.{Interval}
 use Rattle.intervals.specs.Rows.{rows}
 use Rattle.intervals.proofs.Rows.{length-rows}
@@ -23,12 +21,15 @@ use Rattle.scans.specs.Window.{queue, window, Windowed}
 use Rattle.scans.proofs.Counting.{cleared-counted}
 use Rattle.strand.specs.Step.{Run, begin, isAt, whole, saveFrom, step, runFrom, run, intervalsOfPlaces, intervalsOf}
 use Rattle.strand.specs.declared.Open.{Open}
-use Rattle.strand.specs.declared.State.{State}
+use Rattle.strand.specs.declared.Window.{Window}
+use Rattle.strand.specs.declared.Reading.{Reading}
 use Rattle.strand.specs.Kept.{Kept, Like}
-use Rattle.strand.specs.Held.{held, Closing, Saving, Stepped, begun, Lent, Ran}
-use Rattle.strand.proofs.Shape.{StartOk, Shaped, ShapedAt, saved-room, begin-shaped, step-shaped}
-use Rattle.strand.proofs.Keeping.{kept-begun}
-use Rattle.strand.proofs.Like.{ended, like-refl, like-end, like-trans, like-step}
+use Rattle.strand.specs.Held.{heldBy, Closing, Saving, Settled, unread, noInterval, readOn, Read, Skims, Stops, Lent, Ran}
+use Rattle.strand.proofs.Shape.{StartOk, Shaped, ShapedAt, shaped-more, saved-room, begin-shaped, step-shaped}
+use Rattle.strand.proofs.Keeping.{kept-unread}
+use Rattle.strand.proofs.Like.{ended, like-refl, like-start, like-end, like-saved}
+use Rattle.strand.proofs.Letter.{stepped}
+use Rattle.strand.proofs.ReadingOn.{run-turn}
 
 -- ---- Room to save.
 closing-of : (k i : ℕ) (start end : ℤ) → 0 < k → i < 2147483648 → whole end ≤ i → StartOk k start (whole end) → Closing start end
@@ -56,26 +57,22 @@ pub lent-as : {p : Params} {n n-ln n-f n-ring m m′ c c′ n-places n-scores n-
     → Lent p n n-ln n-f n-ring m c n-places n-scores n-starts n-ends → Lent p n n-ln n-f n-ring m′ c′ n-places n-scores n-starts n-ends
 lent-as e f l = rw (e, f) l
 
--- ---- Before letter i.
-pub record Inv (p : Params) (codes : List ℕ) (ln f : List Float) (i : ℕ) (kmer : Kmer) (a : State)
-    (ring window-counts counts starts ends : List ℕ) : Type 0 where
-  pub i-in : i ≤ length codes
-  pub kmer-is : kmer ≡ kmerAfter (p .kmer) codes i
-  pub windowed : Windowed p ring (a .window .head) (a .window .len) window-counts (length ln)
-  pub kept : Kept (setupOf p ln f) (window ring (a .window .head) (a .window .len)) (a .window) counts
-  pub shaped : Shaped (p .kmer) i (a .hand .start) (a .hand .end) (rows (a .hand .count) starts ends)
+-- ---- Before a letter.
+pub record Inv (p : Params) (codes : List ℕ) (ln f : List Float) (at : Reading) (o : Open) (ring window-counts counts starts ends : List ℕ) : Type 0 where
+  pub read : Read p codes ln f (at .i) (at .kmer) (at .window) ring window-counts counts
+  pub shaped : Shaped (p .kmer) (at .i) (o .start) (o .end) (rows (o .count) starts ends)
   pub real : Run  -- the definition's run
-  pub like : Like i (held a ring counts starts ends) real
-  pub rest : run (setupOf p ln f) (places (p .kmer) codes) ≡ runFrom (setupOf p ln f) i real (drop i (places (p .kmer) codes))
+  pub like : Like (at .i) (heldBy (at .window) o ring counts (rows (o .count) starts ends)) real
+  pub rest : run (setupOf p ln f) (places (p .kmer) codes) ≡ runFrom (setupOf p ln f) (at .i) real (drop (at .i) (places (p .kmer) codes))
 
 -- ---- No letter yet.
-begun-is : (S : Setup) (ring counts starts ends : List ℕ) → counts ≡ cleared S → held begun ring counts starts ends ≡ begin S
+begun-is : (S : Setup) (ring counts starts ends : List ℕ) → counts ≡ cleared S → heldBy (unread .window) noInterval ring counts (rows 0 starts ends) ≡ begin S
 unfolding begin queue decoded rows
 begun-is S ring counts starts ends h = rw h
 
-begun-kept : (S : Setup) (ring counts : List ℕ) → counts ≡ cleared S → Kept S (window ring 0 0) (begun .window) counts
+begun-kept : (S : Setup) (ring counts : List ℕ) → counts ≡ cleared S → Kept S (window ring 0 0) (unread .window) counts
 unfolding queue decoded
-begun-kept S ring counts h = rw h kept-begun
+begun-kept S ring counts h = rw h kept-unread
 
 begun-windowed : {p : Params} {ring counts : List ℕ} {n : ℕ} → length ring ≡ p .window → 1 < p .window → p .window ≤ 65535 → p .window < n
     → counts ≡ replicate (4 ^ p .kmer) 0 → Windowed p ring 0 0 counts n
@@ -93,34 +90,27 @@ begun-windowed {p} e wide small ln-long h =
       counted = rw h (cleared-counted (4 ^ p .kmer) .counted);
     }
 
-module _ {p : Params} {codes : List ℕ} {ln f : List Float} {kmer : Kmer} {a : State} {ring window-counts counts starts ends : List ℕ} where
+module _ {p : Params} {codes : List ℕ} {ln f : List Float} {at : Reading} {o : Open} {ring window-counts counts starts ends : List ℕ} where
   pub inv-start : length ring ≡ p .window → 1 < p .window → p .window ≤ 65535 → p .window < length ln
-      → window-counts ≡ replicate (4 ^ p .kmer) 0 → counts ≡ replicate (4 ^ p .kmer) 0 → kmer ≡ noLetter → a ≡ begun
-      → Inv p codes ln f 0 kmer a ring window-counts counts starts ends
+      → window-counts ≡ replicate (4 ^ p .kmer) 0 → counts ≡ replicate (4 ^ p .kmer) 0 → at ≡ unread → o ≡ noInterval
+      → Inv p codes ln f at o ring window-counts counts starts ends
   unfolding run
-  inv-start e wide small ln-long hw hc hk ha =
+  inv-start e wide small ln-long hw hc ha ho =
       let S = setupOf p ln f in
       let b = begun-is S ring counts starts ends hc in
-      rw ha
+      rw (ha, ho)
       (record {
-        i-in = omega arith;
-        kmer-is = hk ∙ kmer-none (p .kmer) codes;
-        windowed = begun-windowed e wide small ln-long hw;
-        kept = begun-kept S ring counts hc;
+        read = record {
+          i-in = omega arith;
+          kmer-is = kmer-none (p .kmer) codes;
+          windowed = begun-windowed e wide small ln-long hw;
+          kept = begun-kept S ring counts hc;
+        };
         shaped = subst (λ (z : Run). ShapedAt S 0 z) (sym b) (begin-shaped S);
         real = begin S;
-        like = subst (λ (z : Run). Like 0 (held begun ring counts starts ends) z) b like-refl;
+        like = subst (λ (z : Run). Like 0 (heldBy (unread .window) noInterval ring counts (rows 0 starts ends)) z) b like-refl;
         rest = refl;
       })
-
--- ---- Letter i.
-run-turn : (S : Setup) (codes : List ℕ) (i e : ℕ) (a : Run) → i < length codes → decode e ≡ placeAt (S .kmer) codes i
-    → runFrom S i a (drop i (places (S .kmer) codes)) ≡ runFrom S (i + 1) (step S i a (decode e)) (drop (i + 1) (places (S .kmer) codes))
-unfolding runFrom
-run-turn S codes i e a l h =
-    let rest = drop (i + 1) (places (S .kmer) codes) in
-    ap (λ (z : List Place). runFrom S i a z) (places-drop (S .kmer) codes i l)
-    ∙ ap (λ (z : Place). runFrom S (i + 1) (step S i a z) rest) (sym h)
 
 run-end : (S : Setup) (codes : List ℕ) (i : ℕ) (a : Run) → length codes ≤ i → runFrom S i a (drop i (places (S .kmer) codes)) ≡ a
 unfolding runFrom
@@ -128,44 +118,52 @@ run-end S codes i a h =
     let ps = places (S .kmer) codes in
     rw (drop-of-length-le ps {i = i} (let l : length ps ≤ i = omega (arith, places-length (S .kmer) codes) in l))
 
-module _ {p : Params} {codes : List ℕ} {ln f : List Float} {i : ℕ} {kmer : Kmer} {a : State} {ring window-counts counts starts ends : List ℕ}
-    (v : Inv p codes ln f i kmer a ring window-counts counts starts ends) where
-  pub kmer-after : {kmer′ : Kmer} → i < length codes → kmer′ ≡ rolledOn (p .kmer) kmer (getD codes i 0) → kmer′ ≡ kmerAfter (p .kmer) codes (i + 1)
-  kmer-after l e = kmer-next (p .kmer) codes i kmer (v .kmer-is) _ l e
-
+module _ {p : Params} {codes : List ℕ} {ln f : List Float} {at : Reading} {o : Open} {ring window-counts counts starts ends : List ℕ}
+    (v : Inv p codes ln f at o ring window-counts counts starts ends) where
   -- No interval ends past the letters that were read.
-  pub not-ended : isAt (a .hand .end) (i + 1) ≡ false
-  not-ended = ended (a .hand .end) (v .shaped .end-in)
+  pub not-ended : {i : ℕ} → at .i ≤ i → isAt (o .end) (i + 1) ≡ false
+  not-ended l = ended (o .end) (omega (arith, v .shaped .end-in))
 
-  pub inv-turn : {kmer′ : Kmer} {e : ℕ} {a′ : State} {ring′ window-counts′ counts′ starts′ ends′ : List ℕ} → i < length codes
-      → kmer′ ≡ rolledOn (p .kmer) kmer (getD codes i 0) → e ≡ entryOf (p .kmer) kmer′
-      → Stepped p ln f i e a a′ ring counts starts ends ring′ window-counts′ counts′ starts′ ends′
-      → Inv p codes ln f (i + 1) kmer′ a′ ring′ window-counts′ counts′ starts′ ends′
-  inv-turn {kmer′} {e} {a′} {ring′} {counts′ = counts′} {starts′} {ends′} l hk he t =
-      let S = setupOf p ln f in
-      let b = held a ring counts starts ends in
-      let place = ap decode he ∙ entry-place (p .kmer) codes i kmer′ (kmer-after l hk) in
-      record {
-        i-in = omega arith;
-        kmer-is = kmer-after l hk;
-        windowed = t .windowed;
-        kept = t .kept;
-        shaped = subst (λ (z : Run). ShapedAt S (i + 1) z) (sym (t .like .run-is)) (step-shaped S i b (decode e) (v .shaped));
-        real = step S i (v .real) (decode e);
-        like = like-trans (t .like) (like-step S (decode e) (v .like) (subst (λ (z : ℤ). isAt z (i + 1) ≡ false) (like-end (v .like)) not-ended));
-        rest = v .rest ∙ run-turn S codes i e (v .real) l place;
-      }
+  -- ---- A letter that is searched from.
+  module _ {r : Reading} {ring′ window-counts′ counts₁ : List ℕ} (s : Stops p codes ln f at r ring counts ring′ window-counts′ counts₁) (l : r .i < length codes) where
+    pub inv-turn : {at′ : Reading} {w′ : Window} {o′ : Open} {counts′ starts′ ends′ : List ℕ}
+        → Settled p ln f (r .i) (r .entry) (record { window = r .window; hand = o }) (record { window = w′; hand = o′ }) ring′ window-counts′ counts₁ starts ends counts′ starts′ ends′
+        → at′ ≡ readOn r w′ → Inv p codes ln f at′ o′ ring′ window-counts′ counts′ starts′ ends′
+    inv-turn t u =
+        let S = setupOf p ln f in
+        let i = r .i in
+        let e = decode (r .entry) in
+        let saved = rows (o .count) starts ends in
+        let b = heldBy (s .window₀) o (s .ring₀) (s .counts₀) saved in
+        let x = s .skims .onward o saved (v .real) (v .shaped .end-in) (v .like) in
+        let past = not-ended (s .skims .further) in
+        let place = ap decode (s .entry-is) ∙ entry-place (p .kmer) codes i (r .kmer) (s .kmer-is) in
+        let code = stepped o saved (s .enters) past (t .like) (like-refl {a = b}) in
+        rw u
+        (record {
+          read = record { i-in = omega arith; kmer-is = s .kmer-is; windowed = t .windowed; kept = t .kept };
+          shaped = subst (λ (z : Run). ShapedAt S (i + 1) z) (sym (code .run-is))
+              (step-shaped S i b e (shaped-more (p .kmer) (at .i) i (o .start) (o .end) saved (s .skims .further) (v .shaped)));
+          real = step S i (x .real′) e;
+          like = stepped o saved (s .enters) past (t .like) (x .like);
+          rest = v .rest ∙ x .rest ∙ run-turn S codes i (r .entry) (x .real′) l place;
+        })
 
   -- ---- All letters.
-  pub inv-end : length codes ≤ i → Saving (a .hand) starts ends → Ran p codes ln f a ring counts starts ends
-  inv-end h s =
-      let b = held a ring counts starts ends in
-      let at-end : i ≡ length codes = omega (arith, v .i-in) in
-      let all = v .rest ∙ run-end (setupOf p ln f) codes i (v .real) h in
-      record { like = subst (λ (n : ℕ). Like n b (run (setupOf p ln f) (places (p .kmer) codes))) at-end (subst (λ (z : Run). Like i b z) (sym all) (v .like)); saving = s }
+  pub inv-end : {i : ℕ} {w′ : Window} {ring′ counts′ : List ℕ} → Skims p codes ln f (at .i) (at .window) ring counts i w′ ring′ counts′ → length codes ≤ i
+      → Saving o starts ends → Ran p codes ln f o starts ends
+  inv-end {i} s h c =
+      let x = s .onward o (rows (o .count) starts ends) (v .real) (v .shaped .end-in) (v .like) in
+      let all = sym (v .rest ∙ x .rest ∙ run-end (setupOf p ln f) codes i (x .real′) h) in
+      record {
+        start-is = like-start (x .like) ∙ ap (λ (z : Run). z .start) all;
+        end-is = like-end (x .like) ∙ ap (λ (z : Run). z .end) all;
+        saved-is = like-saved (x .like) ∙ ap (λ (z : Run). z .saved) all;
+        saving = c;
+      }
 
 -- The last interval is saved.
-pub last-saved : {p : Params} {codes : List ℕ} {ln f : List Float} {a : State} {ring counts starts ends : List ℕ} {is : List Interval}
-    → Ran p codes ln f a ring counts starts ends → is ≡ saveFrom (rows (a .hand .count) starts ends) (a .hand .start) (a .hand .end) → is ≡ intervalsOf (setupOf p ln f) codes
+pub last-saved : {p : Params} {codes : List ℕ} {ln f : List Float} {o : Open} {starts ends : List ℕ} {is : List Interval}
+    → Ran p codes ln f o starts ends → is ≡ saveFrom (rows (o .count) starts ends) (o .start) (o .end) → is ≡ intervalsOf (setupOf p ln f) codes
 unfolding intervalsOf intervalsOfPlaces
-last-saved r h = h ∙ ap (λ (b : Run). saveFrom (b .saved) (b .start) (b .end)) (r .like .run-is)
+last-saved r h = h ∙ rw (r .saved-is, r .start-is, r .end-is)

@@ -3,19 +3,20 @@
 use mathlib.Core.Path.{_≡_, refl, sym, ap, _∙_, subst}
 use mathlib.Core.Bool.{Bool, true, false, cond, _&&_, _||_, true≢false}
 use mathlib.Core.List.{List, [], _∷_, _++_}
-use Prim.Native.Nat.{ℕ, zero, suc, _+_, _-_, _/_, _≤_, _<_}
+use Prim.Native.Nat.{ℕ, zero, suc, _+_, _-_, _/_, _%_, _≤_, _<_}
 use native.Mathlib.Omega.{arith}
 use lib.ListN.{length, getD, drop, length-append}
 use lib.Seq.{drop-append-le}
-use lib.Dec.{leb}
+use lib.Dec.{leb, eqb}
 use lib.IntN.{ℤ, pos, _-ℤ_}
 use lib.Signed.{leZ}
 use lib.Ieee.{Float, nan, lt}
-use borrow.Author.Tests.{le-leb, lt-leb}
+use borrow.Author.Tests.{le-leb, leb-true, eqb-true, eqb-false}
 use Rattle.floats.specs.Arithmetic.{_⊖_, _⊗_}
 use Rattle.floats.specs.Binary64.{zero64, number}
 use Rattle.letters.specs.Place.{Place, ambiguous, plain, Below}
 use Rattle.letters.specs.Entry.{decode, decoded}
+use Rattle.letters.proofs.Entries.{decode-plain, decode-ambiguous}
 use Rattle.intervals.specs.Interval.{Interval}
 use Rattle.scans.specs.declared.Params.{Params}
 use Rattle.scans.specs.declared.Carry.{Carry}
@@ -34,7 +35,7 @@ use Rattle.strand.specs.declared.Look.{Look}
 use Rattle.strand.specs.declared.Look.the-variants.{Pass, Extension, Scan}
 use Rattle.strand.specs.declared.Sought.{Sought}
 use Rattle.strand.specs.Kept.{Kept, Passes, rescanned, extendedOf, answeredBy}
-use Rattle.strand.specs.Held.{heldBy, triedBy, Extended, lookBy, lookedAs, countsLooked, Looks, lastBy, Seeks}
+use Rattle.strand.specs.Held.{heldBy, isSearched, triedBy, Extended, lookBy, lookedAs, countsLooked, Looks, lastBy, Seeks}
 use Rattle.strand.proofs.Moving.{window-split, older-long}
 use Rattle.strand.proofs.Keeping.{kept-passed, kept-extended, kept-answered}
 
@@ -75,17 +76,30 @@ module _ {p : Params} {ln f : List Float} {i : ℕ} {a : State} {x : ℕ} {r : B
   pub extended-is : r ≡ extendTried S i A && extends S counts (length (A .window)) x
   extended-is = h .answer ∙ rw (tried-is, long w)
 
--- ---- What the look answers. Only a plain entry that stands often enough in the window is searched from.
+-- ---- What the look answers. A letter that is not searched from leads to nothing.
+pub look-unsearched : (S : Setup) (i : ℕ) (a : Run) (e : Place) (window-counts : List ℕ) → ((x : ℕ) → getD window-counts x 0 ≡ count x (a .window))
+    → isSearched (S .min-start-cnt) window-counts e ≡ false → Looks S i a e Pass (a .counts)
+unfolding lookBy
+look-unsearched S i a ambiguous window-counts n h = record { outcome-is = refl; counts-are = refl }
+look-unsearched S i a (plain x) window-counts n h = record { outcome-is = rw (sym (n x), h); counts-are = refl }
+
+-- An entry that is searched from is plain, and stands often enough in the window.
+module _ (least e : ℕ) (window-counts : List ℕ) where
+  searched-odd : decode e ≡ ambiguous → isSearched least window-counts (decode e) ≡ false
+  searched-odd h = ap (isSearched least window-counts) h
+
+  pub searched-plain : isSearched least window-counts (decode e) ≡ true → decode e ≡ plain (e / 2)
+  searched-plain t = go (eqb (e % 2) 0) refl
+    where
+      go : (b : Bool) → eqb (e % 2) 0 ≡ b → decode e ≡ plain (e / 2)
+      go true h = decode-plain e (eqb-true (e % 2) 0 h)
+      go false h = absurd (true≢false (sym t ∙ searched-odd (decode-ambiguous e (eqb-false (e % 2) 0 h))))
+
+  pub searched-often : isSearched least window-counts (decode e) ≡ true → least ≤ getD window-counts (e / 2) 0
+  searched-often t = leb-true least (getD window-counts (e / 2) 0) (sym (ap (isSearched least window-counts) (searched-plain t)) ∙ t)
+
 module _ (S : Setup) (i : ℕ) (a : Run) (e : ℕ) where
-  pub look-ambiguous : decode e ≡ ambiguous → Looks S i a (decode e) Pass (a .counts)
-  unfolding lookBy
-  look-ambiguous h = rw h (record { outcome-is = refl; counts-are = refl })
-
   module _ (h : decode e ≡ plain (e / 2)) where
-    pub look-rare : count (e / 2) (a .window) < S .min-start-cnt → Looks S i a (decode e) Pass (a .counts)
-    unfolding lookBy
-    look-rare l = rw h (record { outcome-is = rw (lt-leb (S .min-start-cnt) (count (e / 2) (a .window)) l); counts-are = refl })
-
     -- The search from its k-mer.
     module _ (l : S .min-start-cnt ≤ count (e / 2) (a .window)) {b : Bool} {counts : List ℕ} (answer : b ≡ extendTried S i a && extends S (a .counts) (length (a .window)) (e / 2))
         (counts-are : counts ≡ cond b (raise (a .counts) (plain (e / 2))) (a .counts)) where
@@ -111,26 +125,25 @@ module _ (S : Setup) (i : ℕ) (a : Run) (e : ℕ) where
 -- ---- No find: what the carried scan makes of the newest entry.
 module _ {S : Setup} {w : Window} {e : Place} {counts : List ℕ} where
   pub passes-on : {l : ℕ} {carry : Carry} {counts′ : List ℕ} → w .carry .on ≡ true → l ≡ whole (w .last) → CarriesOn S (w .len - l) e (w .carry) carry counts counts′
-      → Passes S w e (record { window = rescanned w (w .live) carry; found = 0 }) counts counts′
+      → Passes S w e (rescanned w (w .live) carry) counts counts′
   passes-on {carry = carry} {counts′} on l-is h =
       record {
-        none-found = refl;
         off = λ off. absurd (true≢false (sym on ∙ off));
         on = λ _. (refl, subst (λ (l : ℕ). CarriesOn S (w .len - l) e (w .carry) carry counts counts′) l-is h);
       }
 
-  pub passes-off : w .carry .on ≡ false → Passes S w e (record { window = w; found = 0 }) counts counts
-  passes-off off = record { none-found = refl; off = λ _. (refl, refl); on = λ on. absurd (true≢false (sym on ∙ off)) }
+  pub passes-off : w .carry .on ≡ false → Passes S w e w counts counts
+  passes-off off = record { off = λ _. (refl, refl); on = λ on. absurd (true≢false (sym on ∙ off)) }
 
-passes-same : {S : Setup} {w : Window} {e : Place} {r : Sought} {counts counts′ : List ℕ} → Passes S w e r counts counts′
-    → r .window ≡ rescanned w (r .window .live) (r .window .carry)
-passes-same {w = w} {r = r} h = go (w .carry .on) refl
+passes-same : {S : Setup} {w : Window} {e : Place} {w′ : Window} {counts counts′ : List ℕ} → Passes S w e w′ counts counts′
+    → w′ ≡ rescanned w (w′ .live) (w′ .carry)
+passes-same {w = w} {w′ = w′} h = go (w .carry .on) refl
   where
-    go : (t : Bool) → w .carry .on ≡ t → r .window ≡ rescanned w (r .window .live) (r .window .carry)
+    go : (t : Bool) → w .carry .on ≡ t → w′ ≡ rescanned w (w′ .live) (w′ .carry)
     go false off = rw (h .off off .0)
     go true on =
         let same = h .on on .0 in
-        same ∙ ap (λ (l : Bool). rescanned w l (r .window .carry)) (sym (ap (λ (z : Window). z .live) same))
+        same ∙ ap (λ (l : Bool). rescanned w l (w′ .carry)) (sym (ap (λ (z : Window). z .live) same))
 
 -- ---- The backward scan. Scan counts that places before the newest have raised are cleared with those of all.
 module _ {S : Setup} {p : Params} {w : Window} {counts ring window-counts : List ℕ} {head len n : ℕ} (k : Kept S (window ring head (len - 1)) w counts)
@@ -182,14 +195,14 @@ module _ {S : Setup} {i : ℕ} {a : Run} {e : Place} {r : Look} {counts : List �
   looked-counts t = h .counts-are ∙ ap (λ (z : Look). countsLooked z (a .counts) e) t
 
   module _ {q : List Place} {w : Window} (k : Kept S q w (a .counts)) (newest : a .window ≡ q ++ e ∷ []) where
-    pub seeks-passed : {s : Sought} {counts′ : List ℕ} → r ≡ Pass → Below (kmers S) (a .window) → w .len ≡ length (a .window) → Passes S w e s counts counts′
-        → Seeks S (a .window) w (lookBy S i a e) s counts′
+    pub seeks-passed : {w′ : Window} {counts′ : List ℕ} → r ≡ Pass → Below (kmers S) (a .window) → w .len ≡ length (a .window) → Passes S w e w′ counts counts′
+        → Seeks S (a .window) w (lookBy S i a e) (record { window = w′; found = 0 }) counts′
     seeks-passed t b n p =
         let long : w .len ≡ length q + 1 = omega (arith, n, ap length newest, length-append q (e ∷ [])) in
         record {
-          find-is = ap findOf (p .none-found) ∙ sym (ap (λ (o : Outcome). o .find) (outcome-by t));
-          counts-are = λ l. absurd (let b : ⊥ = omega (arith, l, p .none-found) in b);
-          kept = rw (newest, p .none-found)
+          find-is = sym (ap (λ (o : Outcome). o .find) (outcome-by t));
+          counts-are = λ l. absurd (let b : ⊥ = omega (arith, l) in b);
+          kept = rw newest
               (kept-passed (subst (λ (z : List Place). Below (kmers S) z) newest b) long (subst (λ (z : List ℕ). Kept S q w z) (sym (looked-counts t)) k) p);
           same = passes-same p;
         }

@@ -65,10 +65,10 @@ saved-room n k i start end saved l h = (
   canonical-room n k (saveFrom saved start end) (ascending-more i n k 0 (saveFrom saved start end) l (saved-canonical k i start end saved h)),
 )
 
--- One letter more, without a find.
-shaped-more : (k i : ℕ) (start end : ℤ) (saved : List Interval) → Shaped k i start end saved → Shaped k (i + 1) start end saved
-shaped-more k i start end saved h =
-    record { canonical = ascending-more i (i + 1) k 0 saved (omega arith) (h .canonical); ends-below = h .ends-below; end-in = omega (arith, h .end-in); start-ok = h .start-ok }
+-- More letters, without a find.
+pub shaped-more : (k i i′ : ℕ) (start end : ℤ) (saved : List Interval) → i ≤ i′ → Shaped k i start end saved → Shaped k i′ start end saved
+shaped-more k i i′ start end saved l h =
+    record { canonical = ascending-more i i′ k 0 saved l (h .canonical); ends-below = h .ends-below; end-in = omega (arith, h .end-in); start-ok = h .start-ok }
 
 -- With a find whose letters start at s.
 shaped-find : (k i : ℕ) (start end s : ℤ) (saved : List Interval) → Shaped k i start end saved → StartOk k s (i + 1)
@@ -122,7 +122,7 @@ module _ (S : Setup) where
 
   pub found-shaped : (i : ℕ) (a : Run) (counts : List ℕ) (f : Find) → InWindow (a .window) f → ShapedAt S i a → ShapedAt S (i + 1) (foundBy S i a counts f)
   unfolding foundBy
-  found-shaped i a counts none w h = shaped-more (S .kmer) i (a .start) (a .end) (a .saved) h
+  found-shaped i a counts none w h = shaped-more (S .kmer) i (i + 1) (a .start) (a .end) (a .saved) (omega arith) h
   found-shaped i a counts (at j) w h =
       let k : ℕ = S .kmer in
       let len : ℕ = length (a .window) in
@@ -130,12 +130,12 @@ module _ (S : Setup) where
 
   look-shaped : (i : ℕ) (a : Run) (e : Place) → 0 < length (a .window) → ShapedAt S i a → ShapedAt S (i + 1) (look S i a e)
   unfolding look found
-  look-shaped i a ambiguous some h = shaped-more (S .kmer) i (a .start) (a .end) (a .saved) h
+  look-shaped i a ambiguous some h = shaped-more (S .kmer) i (i + 1) (a .start) (a .end) (a .saved) (omega arith) h
   look-shaped i a (plain x) some h =
       let r : Outcome = search S i a x in
       by-test (λ (b : Run). ShapedAt S (i + 1) b) (leb (S .min-start-cnt) (count x (a .window))) (foundBy S i a (r .counts) (r .find)) a
       (λ _. found-shaped i a (r .counts) (r .find) (search-inside i a x some) h)
-      (λ _. shaped-more (S .kmer) i (a .start) (a .end) (a .saved) h)
+      (λ _. shaped-more (S .kmer) i (i + 1) (a .start) (a .end) (a .saved) (omega arith) h)
 
   pub step-shaped : (i : ℕ) (a : Run) (e : Place) → ShapedAt S i a → ShapedAt S (i + 1) (step S i a e)
   unfolding step

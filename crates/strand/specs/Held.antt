@@ -1,9 +1,9 @@
 -- What the code of a run holds in its state and lent buffers, what its parts ask of it, and what they make of it: the terms of their contracts.
 use mathlib.Core.Path.{_≡_}
 use Prim.Native.Nat.{ℕ, _+_, _-_, _/_, _^_, _<_, _≤_}
-use mathlib.Core.Bool.{Bool, false, cond, _&&_, _||_}
+use mathlib.Core.Bool.{Bool, true, false, cond, _&&_, _||_}
 use mathlib.Core.List.{List, [], _∷_, _++_}
-use lib.ListN.{length, getD}
+use lib.ListN.{length, getD, drop}
 use lib.Dec.{leb}
 use lib.IntN.{ℤ, pos, negsuc, _-ℤ_}
 use lib.Signed.{leZ}
@@ -11,7 +11,9 @@ use lib.Ieee.{Float, nan, lt}
 use Rattle.floats.specs.Arithmetic.{_⊕_, _⊖_, _⊗_}
 use Rattle.floats.specs.Binary64.{zero64, number}
 use Rattle.letters.specs.Place.{Place, ambiguous, plain, places}
+use Rattle.letters.specs.declared.Kmer.{Kmer}
 use Rattle.letters.specs.Entry.{decode}
+use Rattle.letters.specs.Rolling.{noLetter, kmerAfter, entryOf}
 use Rattle.intervals.specs.Interval.{Interval}
 use Rattle.intervals.specs.Rows.{rows, Room}
 use Rattle.scans.specs.declared.Params.{Params}
@@ -20,13 +22,14 @@ use Rattle.scans.specs.Counts.{count, raise}
 use Rattle.scans.specs.Scans.{Find, none, at, Outcome, extends, dustBackward}
 use Rattle.scans.specs.Window.{window, findOf, Windowed, Roomy}
 use Rattle.scans.specs.Carry.{noCarry}
-use Rattle.strand.specs.Step.{Run, leave, join, isAt, search, st2, startAfter, saveFrom, savedAfter, step, run}
+use Rattle.strand.specs.Step.{Run, leave, join, isAt, search, st2, startAfter, whole, saveFrom, savedAfter, look, runFrom, run}
 use Rattle.strand.specs.declared.Window.{Window}
 use Rattle.strand.specs.declared.Open.{Open}
 use Rattle.strand.specs.declared.State.{State}
 use Rattle.strand.specs.declared.Look.{Look}
 use Rattle.strand.specs.declared.Look.the-variants.{Pass, Extension, Scan}
 use Rattle.strand.specs.declared.Sought.{Sought}
+use Rattle.strand.specs.declared.Reading.{Reading}
 use Rattle.strand.specs.Kept.{Kept, rescanned, Like}
 
 -- The run that a window, an interval in hand, the ring, the scan counts and the saved intervals hold.
@@ -74,7 +77,26 @@ pub record Joined (p : Params) (ln : List Float) (w w′ : Window) (e : ℕ) (ri
   pub windowed : Windowed p ring′ (w′ .head) (w′ .len) window-counts′ (length ln)
   pub some : 0 < w′ .len
 
+-- The entry e stands last in the window, and the scan counts are those before it.
+pub record Entered (p : Params) (ln f : List Float) (w : Window) (e : ℕ) (ring window-counts counts : List ℕ) : Type 0 where
+  pub some : 0 < w .len
+  pub below : e / 2 < 4 ^ p .kmer
+  pub windowed : Windowed p ring (w .head) (w .len) window-counts (length ln)
+  pub kept : Kept (setupOf p ln f) (window ring (w .head) (w .len - 1)) w counts
+  pub newest : window ring (w .head) (w .len) ≡ window ring (w .head) (w .len - 1) ++ decode e ∷ []
+
+-- It has entered the window w, from which the oldest entry has left if that was full.
+pub record Enters (p : Params) (ln f : List Float) (w w′ : Window) (e : ℕ) (ring counts ring′ window-counts′ counts′ : List ℕ) : Type 0 where
+  pub run-is : (o : Open) (saved : List Interval)
+      → heldBy w′ o ring′ counts′ saved ≡ join (setupOf p ln f) (leave (setupOf p ln f) (heldBy w o ring counts saved)) (decode e)
+  pub entered : Entered p ln f w′ e ring′ window-counts′ counts′
+
 -- ---- The search.
+-- Whether a place is searched from: it is plain, and its window count at least min_start_cnt.
+abbrev pub isSearched : ℕ → List ℕ → Place → Bool
+isSearched least window-counts ambiguous = false
+isSearched least window-counts (plain x) = leb least (getD window-counts x 0)
+
 -- Whether extend is tried at letter i, by the numbers that the code reads.
 abbrev pub triedBy : Params → List Float → ℕ → State → Bool
 triedBy p f i a =
@@ -149,28 +171,66 @@ pub record Saving (o : Open) (starts ends : List ℕ) : Type 0 where
   pub room : Room (o .count) starts ends
   pub room-after : Room (length (saveFrom (rows (o .count) starts ends) (o .start) (o .end))) starts ends
 
--- ---- A letter: what it asks, and the run that it leads to.
-pub record Stepping (p : Params) (i e : ℕ) (a : State) (ring window-counts starts ends : List ℕ)
-    (n-ln n-f n-counts n-places n-scores : ℕ) : Type 0 where
+-- ---- A letter i that is searched from and has entered the window: what it asks, and the run that it leads to.
+pub record Settling (p : Params) (i : ℕ) (o : Open) (starts ends : List ℕ) (n-f n-counts n-places n-scores : ℕ) : Type 0 where
   pub kmer-small : p .kmer ≤ 12
   pub letter-in : i < 2147483648
-  pub below : e / 2 < 4 ^ p .kmer
-  pub windowed : Windowed p ring (a .window .head) (a .window .len) window-counts n-ln
   pub roomy : Roomy p n-f n-counts n-places n-scores
-  pub saving : Saving (a .hand) starts ends
-  pub ended : isAt (a .hand .end) (i + 1) ≡ false
+  pub saving : Saving o starts ends
+  pub ended : isAt (o .end) (i + 1) ≡ false
 
-pub record Stepped (p : Params) (ln f : List Float) (i e : ℕ) (a a′ : State) (ring counts starts ends : List ℕ)
-    (ring′ window-counts′ counts′ starts′ ends′ : List ℕ) : Type 0 where
-  pub like : Like (i + 1) (held a′ ring′ counts′ starts′ ends′) (step (setupOf p ln f) i (held a ring counts starts ends) (decode e))
-  pub windowed : Windowed p ring′ (a′ .window .head) (a′ .window .len) window-counts′ (length ln)
-  pub kept : Kept (setupOf p ln f) (window ring′ (a′ .window .head) (a′ .window .len)) (a′ .window) counts′
+pub record Settled (p : Params) (ln f : List Float) (i e : ℕ) (a a′ : State) (ring window-counts counts starts ends : List ℕ)
+    (counts′ starts′ ends′ : List ℕ) : Type 0 where
+  pub like : Like (i + 1) (held a′ ring counts′ starts′ ends′) (look (setupOf p ln f) i (held a ring counts starts ends) (decode e))
+  pub windowed : Windowed p ring (a′ .window .head) (a′ .window .len) window-counts (length ln)
+  pub kept : Kept (setupOf p ln f) (window ring (a′ .window .head) (a′ .window .len)) (a′ .window) counts′
+
+-- ---- Reading on.
+-- At first: start, end and last_q at -1, sum 0, no queue entry, nothing saved.
+abbrev pub unread : Reading
+unread = record { kmer = noLetter; window = record { sum = zero64; last = negsuc 0; head = 0; len = 0; live = false; carry = noCarry }; entry = 1; i = 0 }
+
+abbrev pub noInterval : Open
+noInterval = record { start = negsuc 0; end = negsuc 0; count = 0 }
+
+abbrev pub readOn : Reading → Window → Reading
+readOn r w = record { kmer = r .kmer; window = w; entry = r .entry; i = r .i + 1 }
+
+-- The letters before i are read.
+pub record Read (p : Params) (codes : List ℕ) (ln f : List Float) (i : ℕ) (kmer : Kmer) (w : Window) (ring window-counts counts : List ℕ) : Type 0 where
+  pub i-in : i ≤ length codes
+  pub kmer-is : kmer ≡ kmerAfter (p .kmer) codes i
+  pub windowed : Windowed p ring (w .head) (w .len) window-counts (length ln)
+  pub kept : Kept (setupOf p ln f) (window ring (w .head) (w .len)) w counts
+
+-- The definition's run from letter i on is that from letter i′ on, with a state there that a′ is like.
+pub record Onward (S : Setup) (ps : List Place) (i : ℕ) (real : Run) (i′ : ℕ) (a′ : Run) : Type 0 where
+  pub real′ : Run
+  pub like : Like i′ a′ real′
+  pub rest : runFrom S i real (drop i ps) ≡ runFrom S i′ real′ (drop i′ ps)
+
+-- No letter from i to i′ - 1 is searched from, so the interval in hand, which ends before i, stays the same.
+pub record Skims (p : Params) (codes : List ℕ) (ln f : List Float) (i : ℕ) (w : Window) (ring counts : List ℕ) (i′ : ℕ) (w′ : Window) (ring′ counts′ : List ℕ) : Type 0 where
+  pub further : i ≤ i′
+  pub onward : (o : Open) (saved : List Interval) (real : Run) → whole (o .end) ≤ i → Like i (heldBy w o ring counts saved) real
+      → Onward (setupOf p ln f) (places (p .kmer) codes) i real i′ (heldBy w′ o ring′ counts′ saved)
+
+-- Then letter r .i, which is searched from, has entered the window.
+pub record Stops (p : Params) (codes : List ℕ) (ln f : List Float) (from r : Reading) (ring counts ring′ window-counts′ counts′ : List ℕ) : Type 0 where
+  pub window₀ : Window
+  pub ring₀ : List ℕ
+  pub counts₀ : List ℕ
+  pub skims : Skims p codes ln f (from .i) (from .window) ring counts (r .i) window₀ ring₀ counts₀
+  pub enters : Enters p ln f window₀ (r .window) (r .entry) ring₀ counts₀ ring′ window-counts′ counts′
+  pub kmer-is : r .kmer ≡ kmerAfter (p .kmer) codes (r .i + 1)
+  pub entry-is : r .entry ≡ entryOf (p .kmer) (r .kmer)
+  pub searched : isSearched (p .least) window-counts′ (decode (r .entry)) ≡ true
+
+pub record Skimmed (p : Params) (codes : List ℕ) (ln f : List Float) (from r : Reading) (ring counts ring′ window-counts′ counts′ : List ℕ) : Type 0 where
+  pub ends : length codes ≤ r .i → Skims p codes ln f (from .i) (from .window) ring counts (r .i) (r .window) ring′ counts′
+  pub stops : r .i < length codes → Stops p codes ln f from r ring counts ring′ window-counts′ counts′
 
 -- ---- The run over a strand of n letters.
--- start, end and last_q at -1, sum 0, no queue entry, nothing saved.
-abbrev pub begun : State
-begun = record { window = record { sum = zero64; last = negsuc 0; head = 0; len = 0; live = false; carry = noCarry }; hand = record { start = negsuc 0; end = negsuc 0; count = 0 } }
-
 -- The numbers lie in their ranges, and the lent slices have the sizes that the paper lists.
 pub record Lent (p : Params) (n n-ln n-f n-ring n-window-counts n-counts n-places n-scores n-starts n-ends : ℕ) : Type 0 where
   pub kmer-some : 0 < p .kmer
@@ -186,6 +246,8 @@ pub record Lent (p : Params) (n n-ln n-f n-ring n-window-counts n-counts n-place
   pub ends-long : (n + 1) / (p .kmer + 1) ≤ n-ends
 
 -- The run over all letters, and its last interval can be saved.
-pub record Ran (p : Params) (codes : List ℕ) (ln f : List Float) (a : State) (ring counts starts ends : List ℕ) : Type 0 where
-  pub like : Like (length codes) (held a ring counts starts ends) (run (setupOf p ln f) (places (p .kmer) codes))
-  pub saving : Saving (a .hand) starts ends
+pub record Ran (p : Params) (codes : List ℕ) (ln f : List Float) (o : Open) (starts ends : List ℕ) : Type 0 where
+  pub start-is : o .start ≡ run (setupOf p ln f) (places (p .kmer) codes) .start
+  pub end-is : o .end ≡ run (setupOf p ln f) (places (p .kmer) codes) .end
+  pub saved-is : rows (o .count) starts ends ≡ run (setupOf p ln f) (places (p .kmer) codes) .saved
+  pub saving : Saving o starts ends

@@ -41,10 +41,9 @@ pub record Passing (w : Window) (e : ℕ) (counts : List ℕ) : Type 0 where
   pub inside : w .carry .on ≡ true → whole (w .last) ≤ w .len
   pub few : w .carry .on ≡ true → getD counts (e / 2) 0 < w .len
 
-pub record Passes (S : Setup) (w : Window) (e : Place) (r : Sought) (counts counts′ : List ℕ) : Type 0 where
-  pub none-found : r .found ≡ 0
-  pub off : w .carry .on ≡ false → (r .window ≡ w) × (counts′ ≡ counts)
-  pub on : w .carry .on ≡ true → (r .window ≡ rescanned w (w .live) (r .window .carry)) × CarriesOn S (w .len - whole (w .last)) e (w .carry) (r .window .carry) counts counts′
+pub record Passes (S : Setup) (w : Window) (e : Place) (w′ : Window) (counts counts′ : List ℕ) : Type 0 where
+  pub off : w .carry .on ≡ false → (w′ ≡ w) × (counts′ ≡ counts)
+  pub on : w .carry .on ≡ true → (w′ ≡ rescanned w (w .live) (w′ .carry)) × CarriesOn S (w .len - whole (w .last)) e (w .carry) (w′ .carry) counts counts′
 
 -- A find by extension.
 abbrev pub extendedOf : Window → Sought

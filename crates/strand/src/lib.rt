@@ -1,7 +1,8 @@
 // One strand: the run over its letters and the intervals that it saves.
 
 ghost use mathlib.Core.Path.{_≡_};
-ghost use mathlib.Core.List.{List, [], _∷_, _++_};
+ghost use mathlib.Core.Bool.{true};
+ghost use mathlib.Core.List.{List};
 ghost use Prim.Native.Nat.{_+_, _-_, _/_, _^_, _<_, _≤_};
 ghost use lib.ListN.{length, getD, replicate};
 ghost use lib.IntN.{pos, _-ℤ_};
@@ -16,8 +17,8 @@ ghost use Rattle.scans.specs.Scans.{dustBackward};
 ghost use Rattle.scans.specs.Window.{findOf, window, Windowed, Roomy};
 ghost use Rattle.strand.specs.Step.{whole, lastWithout, isAt, st2, startAfter, saveFrom, savedAfter, intervalsOf};
 ghost use Rattle.strand.specs.Held.{heldBy, sumLess, sumMore, Left, Joined, triedBy, Extended, lookBy};
-ghost use Rattle.strand.specs.Held.{lastBy, Found, Saving, Stepping, Stepped, begun, Lent, Ran};
-ghost use Rattle.strand.specs.Held.{Looks, Seeks};
+ghost use Rattle.strand.specs.Held.{lastBy, Found, Saving, Settling, Settled, unread, noInterval, readOn, Lent, Ran};
+ghost use Rattle.strand.specs.Held.{isSearched, Entered, Looks, Seeks, Read, Skimmed};
 ghost use Rattle.strand.specs.Kept.{Kept, Passing, Passes, extendedOf, answeredBy};
 
 // ---- The window.
@@ -164,7 +165,7 @@ impl Window {
         ln: &[f64],
         f: &[f64],
         scan_counts: &mut [u16],
-    ) -> Sought
+    ) -> Self
         requires { ⌜ (0 < self .len) × (self .len ≤ p .window) × (p .window ≤ 65535) × (p .window < length (now ln)) × (p .window < length (now f)) × (entry / 2 < length (now «scan_counts»)) ⌝ }
         requires { ⌜ Passing self entry (now «scan_counts») ⌝ }
         ensures { λ r. ⌜ Passes (setupOf p (now (ln .entry)) (now (f .entry))) self (decode entry) r (now («scan_counts» .entry)) (now («scan_counts» .exit)) ⌝ }
@@ -173,10 +174,7 @@ impl Window {
             let l = self.len - last_index(self.last);
             self.carry = self.carry.next(p, l, entry, ln, f, scan_counts);
         }
-        Sought {
-            window: self,
-            found: 0,
-        }
+        self
     }
 
     // A find by extension, at the oldest entry.
@@ -288,6 +286,17 @@ fn start_after(start: i64, end: i64, s: i64) -> i64
 }
 
 impl Open {
+    // No interval.
+    fn new() -> Self
+        ensures { λ r. ⌜ r ≡ noInterval ⌝ }
+    {
+        Open {
+            start: -1,
+            end: -1,
+            count: 0,
+        }
+    }
+
     // The interval is saved if its start is not below 0; answers how many are saved then.
     fn close(self, starts: &mut [u32], ends: &mut [u32]) -> usize
         requires { ⌜ Saving self (now starts) (now ends) ⌝ }
@@ -343,7 +352,7 @@ impl Open {
     }
 }
 
-// ---- A letter.
+// ---- A letter that is searched from.
 
 // What a letter leads to: nothing more, a find by extension, or the backward scan.
 enum Look {
@@ -407,7 +416,7 @@ impl State {
         false
     }
 
-    // What the newest entry leads to at letter i. An extension raises its scan count.
+    // What the newest entry, which is searched from, leads to at letter i. An extension raises its scan count.
     fn look(
         self,
         p: scans::Params,
@@ -422,18 +431,12 @@ impl State {
         requires { ⌜ (i < 2147483648) × (0 < self .window .len) × (entry / 2 < 4 ^ p .kmer) × (length (now «scan_counts») ≡ 4 ^ p .kmer) × (p .window < length (now f)) ⌝ }
         requires { ⌜ Windowed p (now queue) (self .window .head) (self .window .len) (now «window_counts»)
             (length (now ln)) ⌝ }
+        requires { ⌜ isSearched (p .least) (now «window_counts») (decode entry) ≡ true ⌝ }
         ensures { λ r. ⌜ ((saved : List Interval) → Looks (setupOf p (now (ln .entry)) (now (f .entry))) i
             (heldBy (self .window) (self .hand) (now (queue .entry)) (now («scan_counts» .entry)) saved) (decode entry)
             r (now («scan_counts» .exit))) ⌝ }
     {
-        if entry & 1 != 0 {
-            return Look::Pass;
-        }
         let kmer = entry >> 1;
-        let x = kmer as usize;
-        if window_counts[x] < p.least {
-            return Look::Pass;
-        }
         if self.extended(p, i, kmer, ln, f, scan_counts) {
             return Look::Extension;
         }
@@ -464,19 +467,19 @@ impl State {
         places: &mut [u32],
         scores: &mut [f64],
     ) -> Sought
-        requires { ⌜ (i < 2147483648) × (0 < self .window .len) × (entry / 2 < 4 ^ p .kmer) ⌝ }
-        requires { ⌜ Windowed p (now queue) (self .window .head) (self .window .len) (now «window_counts»)
-            (length (now ln)) ⌝ }
+        requires { ⌜ (i < 2147483648) × (isSearched (p .least) (now «window_counts») (decode entry) ≡ true) ⌝ }
+        requires { ⌜ Entered p (now ln) (now f) (self .window) entry (now queue) (now «window_counts») (now «scan_counts») ⌝ }
         requires { ⌜ Roomy p (length (now f)) (length (now «scan_counts»)) (length (now places)) (length (now scores)) ⌝ }
-        requires { ⌜ Kept (setupOf p (now ln) (now f)) (window (now queue) (self .window .head) (self .window .len - 1)) (self .window) (now «scan_counts») ⌝ }
-        requires { ⌜ window (now queue) (self .window .head) (self .window .len) ≡ window (now queue) (self .window .head) (self .window .len - 1) ++ decode entry ∷ [] ⌝ }
         ensures { λ r. ⌜ ((saved : List Interval) → Seeks (setupOf p (now (ln .entry)) (now (f .entry)))
             (window (now (queue .entry)) (self .window .head) (self .window .len)) (self .window)
             (lookBy (setupOf p (now (ln .entry)) (now (f .entry))) i (heldBy (self .window) (self .hand) (now (queue .entry)) (now («scan_counts» .entry)) saved) (decode entry))
             r (now («scan_counts» .exit))) ⌝ }
     {
         match self.look(p, i, entry, queue, window_counts, scan_counts, ln, f) {
-            Look::Pass => self.window.passed(p, entry, ln, f, scan_counts),
+            Look::Pass => Sought {
+                window: self.window.passed(p, entry, ln, f, scan_counts),
+                found: 0,
+            },
             Look::Extension => self.window.extended(),
             Look::Scan => self.window.scanned(
                 p,
@@ -491,32 +494,29 @@ impl State {
         }
     }
 
-    // The state after letter i, whose place is `entry` in the queue.
-    fn letter(
+    // The state after letter i, which is searched from and stands last in the window.
+    fn settled(
         mut self,
         p: scans::Params,
         i: usize,
         entry: u32,
         ln: &[f64],
         f: &[f64],
-        queue: &mut [u32],
-        window_counts: &mut [u16],
+        queue: &[u32],
+        window_counts: &[u16],
         scan_counts: &mut [u16],
         places: &mut [u32],
         scores: &mut [f64],
         starts: &mut [u32],
         ends: &mut [u32],
     ) -> Self
-        requires { ⌜ Stepping p i entry self (now queue) (now «window_counts») (now starts) (now ends) (length (now ln))
-            (length (now f)) (length (now «scan_counts»)) (length (now places)) (length (now scores)) ⌝ }
-        requires { ⌜ Kept (setupOf p (now ln) (now f)) (window (now queue) (self .window .head) (self .window .len)) (self .window) (now «scan_counts») ⌝ }
-        ensures { λ r. ⌜ Stepped p (now (ln .entry)) (now (f .entry)) i entry self r
-            (now (queue .entry)) (now («scan_counts» .entry)) (now (starts .entry)) (now (ends .entry))
-            (now (queue .exit)) (now («window_counts» .exit)) (now («scan_counts» .exit)) (now (starts .exit)) (now (ends .exit)) ⌝ }
+        requires { ⌜ Settling p i (self .hand) (now starts) (now ends) (length (now f)) (length (now «scan_counts»)) (length (now places)) (length (now scores)) ⌝ }
+        requires { ⌜ Entered p (now ln) (now f) (self .window) entry (now queue) (now «window_counts») (now «scan_counts») ⌝ }
+        requires { ⌜ isSearched (p .least) (now «window_counts») (decode entry) ≡ true ⌝ }
+        ensures { λ r. ⌜ Settled p (now (ln .entry)) (now (f .entry)) i entry self r
+            (now (queue .entry)) (now («window_counts» .entry)) (now («scan_counts» .entry)) (now (starts .entry)) (now (ends .entry))
+            (now («scan_counts» .exit)) (now (starts .exit)) (now (ends .exit)) ⌝ }
     {
-        let room = self.window
-            .make_room(p, queue, window_counts, scan_counts, ln);
-        self.window = room.join(p, queue, window_counts, ln, entry);
         let sought = self.search(
             p,
             i,
@@ -536,27 +536,103 @@ impl State {
     }
 }
 
-// ---- The run.
+// ---- Reading on.
 
-fn begin() -> State
-    ensures { λ r. ⌜ r ≡ begun ⌝ }
-{
-    State {
-        window: Window {
-            sum: 0.0,
-            last: -1,
-            head: 0,
-            len: 0,
-            live: false,
-            carry: scans::Carry::none(),
-        },
-        hand: Open {
-            start: -1,
-            end: -1,
-            count: 0,
-        },
+// How far a strand is read: the next letter i, with the k-mer and the window before it; or a letter i that is searched from, with those that its place, `entry`, has joined.
+struct Reading {
+    kmer: letters::Kmer,
+    window: Window,
+    entry: u32,
+    i: usize,
+}
+
+impl Reading {
+    // No letter is read.
+    fn new() -> Self
+        ensures { λ r. ⌜ r ≡ unread ⌝ }
+    {
+        Reading {
+            kmer: letters::Kmer::new(),
+            window: Window {
+                sum: 0.0,
+                last: -1,
+                head: 0,
+                len: 0,
+                live: false,
+                carry: scans::Carry::none(),
+            },
+            entry: 1,
+            i: 0,
+        }
+    }
+
+    // The next letter, with the window that the search left.
+    fn after(mut self, window: Window) -> Self
+        requires { ⌜ self .i < 2147483648 ⌝ }
+        ensures { λ r. ⌜ r ≡ readOn self window ⌝ }
+    {
+        self.window = window;
+        self.i += 1;
+        self
     }
 }
+
+// Whether an entry is searched from: it is plain, and its count at least min_start_cnt.
+fn is_searched(p: scans::Params, entry: u32, window_counts: &[u16]) -> bool
+    requires { ⌜ entry / 2 < length (now «window_counts») ⌝ }
+    ensures { λ r. ⌜ r ≡ isSearched (p .least) (now («window_counts» .entry)) (decode entry) ⌝ }
+{
+    if entry & 1 != 0 {
+        return false;
+    }
+    let kmer = (entry >> 1) as usize;
+    window_counts[kmer] >= p.least
+}
+
+// Reads on to the next letter that is searched from, or to the end.
+fn skim(
+    p: scans::Params,
+    at: Reading,
+    codes: &[u8],
+    ln: &[f64],
+    f: &[f64],
+    queue: &mut [u32],
+    window_counts: &mut [u16],
+    scan_counts: &mut [u16],
+) -> Reading
+    requires { ⌜ (p .kmer ≤ 12) × (length (now codes) < 2147483648) × (p .window < length (now f)) × (length (now «scan_counts») ≡ 4 ^ p .kmer) ⌝ }
+    requires { ⌜ Read p (now codes) (now ln) (now f) (at .i) (at .kmer) (at .window) (now queue) (now «window_counts») (now «scan_counts») ⌝ }
+    ensures { λ r. ⌜ Skimmed p (now (codes .entry)) (now (ln .entry)) (now (f .entry)) at r
+        (now (queue .entry)) (now («scan_counts» .entry)) (now (queue .exit)) (now («window_counts» .exit)) (now («scan_counts» .exit)) ⌝ }
+{
+    let mut kmer = at.kmer;
+    let mut window = at.window;
+    let mut i = at.i;
+    while i < codes.len() {
+        kmer = kmer.next(codes[i], p.kmer);
+        let entry = kmer.entry(p.kmer);
+        let room = window.make_room(p, queue, window_counts, scan_counts, ln);
+        window = room.join(p, queue, window_counts, ln, entry);
+        if is_searched(p, entry, window_counts) {
+            return Reading {
+                kmer: kmer,
+                window: window,
+                entry: entry,
+                i: i,
+            };
+        }
+        window = window.passed(p, entry, ln, f, scan_counts);
+        i += 1;
+    }
+    Reading {
+        kmer: kmer,
+        window: window,
+        entry: 1,
+        i: i,
+    }
+}
+
+// ---- The run.
 
 // The run over all letters, from cleared counts.
 fn run(
@@ -571,24 +647,29 @@ fn run(
     scores: &mut [f64],
     starts: &mut [u32],
     ends: &mut [u32],
-) -> State
+) -> Open
     requires { ⌜ Lent p (length (now codes)) (length (now ln)) (length (now f)) (length (now queue))
         (length (now «window_counts»)) (length (now «scan_counts»)) (length (now places)) (length (now scores))
         (length (now starts)) (length (now ends)) ⌝ }
     requires { ⌜ (now «window_counts» ≡ replicate (4 ^ p .kmer) 0) × (now «scan_counts» ≡ replicate (4 ^ p .kmer) 0) ⌝ }
-    ensures { λ r. ⌜ Ran p (now (codes .entry)) (now (ln .entry)) (now (f .entry)) r
-        (now (queue .exit)) (now («scan_counts» .exit)) (now (starts .exit)) (now (ends .exit)) ⌝ }
+    ensures { λ r. ⌜ Ran p (now (codes .entry)) (now (ln .entry)) (now (f .entry)) r (now (starts .exit)) (now (ends .exit)) ⌝ }
 {
-    let mut kmer = letters::Kmer::new();
-    let mut st = begin();
-    let mut i = 0;
-    while i < codes.len() {
-        kmer = kmer.next(codes[i], p.kmer);
-        let entry = kmer.entry(p.kmer);
-        st = st.letter(
+    let mut at = Reading::new();
+    let mut hand = Open::new();
+    loop {
+        at = skim(p, at, codes, ln, f, queue, window_counts, scan_counts);
+        if at.i >= codes.len() {
+            return hand;
+        }
+        let window = at.window;
+        let st = State {
+            window: window,
+            hand: hand,
+        };
+        let next = st.settled(
             p,
-            i,
-            entry,
+            at.i,
+            at.entry,
             ln,
             f,
             queue,
@@ -599,9 +680,9 @@ fn run(
             starts,
             ends,
         );
-        i += 1;
+        hand = next.hand;
+        at = at.after(next.window);
     }
-    st
 }
 
 // The intervals of a strand of codes, in the first entries of `starts` and `ends`; answers how many there are.
@@ -626,7 +707,7 @@ pub fn inner_process(
 {
     buffers::clear(window_counts);
     buffers::clear(scan_counts);
-    let st = run(
+    let hand = run(
         p,
         codes,
         ln,
@@ -639,5 +720,5 @@ pub fn inner_process(
         starts,
         ends,
     );
-    st.hand.close(starts, ends)
+    hand.close(starts, ends)
 }

@@ -26,10 +26,13 @@ scanning-look c = c .before .before .before .before
 -- A look that does not extend leaves the scan counts as they were.
 kept-still : (c : tie.After-look) {counts : List ℕ} → let a = start c .args in counts ≡ a .scan-counts .now
     → Kept (setupOf (a .p) (a .ln .now) (a .f .now)) (window (a .queue .now) (a .self .window .head) (a .self .window .len - 1)) (a .self .window) counts
-kept-still c e = rw e (start c .pre .1 .1 .1 .0)
+kept-still c e = rw e (start c .pre .1 .0 .kept)
 
 look-requires : tie.Need-look-requires
-look-requires c κs = search needs
+look-requires c κs =
+    let b = c .before .before .before .before .before .before .before .before in
+    let n = b .pre .1 .0 in
+    ((b .pre .0 .0, n .some, n .below, b .pre .1 .1 .counts-is, b .pre .1 .1 .f-long), (n .windowed, b .pre .0 .1))
 
 enum-told : tie.Need-enum-told
 enum-told c = search needs
@@ -39,11 +42,12 @@ passed-requires c κs =
     let t = c .before in
     let l = passing-look t in
     let b = start l in
-    let w = b .pre .1 .0 in
-    let roomy = b .pre .1 .1 .0 in
+    let n = b .pre .1 .0 in
+    let w = n .windowed in
+    let roomy = b .pre .1 .1 in
     let kept = kept-still l (looked-counts (l .look .ensures []) (t .enum-told .given .1)) in (
-      (b .pre .0 .1, w .len-in, w .small, w .ln-long, roomy .f-long, omega (arith, b .pre .0 .2, roomy .counts-is, l .look .kept .1 .1 .1 .1 .1 .1 .0)),
-      passing kept (omega (arith, older-long w, b .pre .0 .1)) (b .args .entry),
+      (n .some, w .len-in, w .small, w .ln-long, roomy .f-long, omega (arith, n .below, roomy .counts-is, l .look .kept .1 .1 .1 .1 .1 .1 .0)),
+      passing kept (omega (arith, older-long w, n .some)) (b .args .entry),
     )
 
 enum-told-2 : tie.Need-enum-told-2
@@ -60,8 +64,8 @@ scanned-requires c κs =
     let t = c .before .before .before in
     let l = scanning-look t in
     let b = start l in
-    let roomy = roomy-as (l .look .kept .1 .1 .1 .1 .1 .1 .0) (b .pre .1 .1 .0) in
-    (b .pre .0 .1, (b .pre .1 .0, (roomy, kept-still l (looked-counts (l .look .ensures []) (t .enum-told3 .given .1)))))
+    let roomy = roomy-as (l .look .kept .1 .1 .1 .1 .1 .1 .0) (b .pre .1 .1) in
+    (b .pre .1 .0 .some, (b .pre .1 .0 .windowed, (roomy, kept-still l (looked-counts (l .look .ensures []) (t .enum-told3 .given .1)))))
 
 same-length : tie.Need-same-length
 same-length c = search needs
@@ -72,8 +76,9 @@ returns c saved =
     let t = p .before .before in
     let l = passing-look t in
     let b = start l in
-    let w = b .pre .1 .0 in
-    seeks-passed (l .look .ensures saved) (b .pre .1 .1 .1 .0) (b .pre .1 .1 .1 .1) (t .enum-told .given .1) (window-below w) (sym (long w)) (p .passed .ensures)
+    let n = b .pre .1 .0 in
+    let w = n .windowed in
+    seeks-passed (l .look .ensures saved) (n .kept) (n .newest) (t .enum-told .given .1) (window-below w) (sym (long w)) (p .passed .ensures)
 
 same-length-2 : tie.Need-same-length-2
 same-length-2 c = search needs
@@ -83,7 +88,7 @@ returns-2 c saved =
     let t = c .before in
     let l = t .before .before .before .before in
     let b = start l in
-    seeks-extended (l .look .ensures saved) (b .pre .1 .1 .1 .0) (b .pre .1 .1 .1 .1) (t .enum-told2 .given .1) (c .extended .ensures)
+    seeks-extended (l .look .ensures saved) (b .pre .1 .0 .kept) (b .pre .1 .0 .newest) (t .enum-told2 .given .1) (c .extended .ensures)
 
 same-length-3 : tie.Need-same-length-3
 same-length-3 c = search needs
