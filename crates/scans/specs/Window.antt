@@ -12,7 +12,7 @@ use Rattle.letters.specs.Place.{Place, ambiguous, plain}
 use Rattle.letters.specs.Entry.{decoded}
 use Rattle.scans.specs.Setup.{Setup}
 use Rattle.scans.specs.Counts.{count, raise}
-use Rattle.scans.specs.Scans.{Find, none, at, Outcome, extends}
+use Rattle.scans.specs.Scans.{Find, none, at, extends}
 use Rattle.scans.specs.declared.Params.{Params}
 
 unfoldable pub queue : List ℕ → ℕ → ℕ → List ℕ
@@ -68,8 +68,3 @@ pub record Roomy (p : Params) (f-length counts-length places-length scores-lengt
 abbrev pub findOf : ℕ → Find
 findOf zero = none
 findOf (suc j) = at j
-
--- The answer r and the scan counts left are those of an outcome.
-pub record Tells (o : Outcome) (r : ℕ) (counts : List ℕ) : Type 0 where
-  pub find-is : findOf r ≡ o .find
-  pub counts-are : counts ≡ o .counts
