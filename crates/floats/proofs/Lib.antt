@@ -2,6 +2,7 @@ pub mod Value
 pub mod Rounding
 pub mod Arithmetic
 pub mod Compare
+pub mod Order
 pub mod Binary64
 pub mod Tests
 pub mod Constants

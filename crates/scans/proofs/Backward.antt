@@ -1,8 +1,8 @@
 -- The backward scan put together: nothing found, the best place with the candidates, and the candidates tried. Assumes nothing.
-use mathlib.Core.Path.{_≡_, refl, sym, ap, ap₂, _∙_, subst}
+use mathlib.Core.Path.{_≡_, ap, _∙_, subst}
 use mathlib.Core.List.{List, [], _∷_}
 use mathlib.Core.Logic.{_≢_}
-use Prim.Native.Nat.{ℕ, zero, suc, _+_, _<_, _≤_}
+use Prim.Native.Nat.{ℕ, zero, suc, _<_, _≤_}
 use native.Mathlib.Omega.{arith}
 use lib.ListN.{length, getD}
 use lib.Ieee.{Float}
@@ -10,24 +10,20 @@ use borrow.Author.Tests.{eq-eqb, ne-eqb}
 use Rattle.letters.specs.Place.{Place}
 use Rattle.scans.specs.declared.Params.{Params}
 use Rattle.scans.specs.declared.BackwardState.{BackwardState}
+use Rattle.scans.specs.declared.Scanned.{Scanned as Answer}
 use Rattle.scans.specs.Setup.{Setup}
-use Rattle.scans.specs.Scans.{Candidate, noCandidate, Backward, withBest, tryFrom, tried, dustBackward}
-use Rattle.scans.specs.Window.{Windowed, Roomy, Tells}
+use Rattle.scans.specs.Scans.{none, Candidate, noCandidate, Backward, withBest, tryFrom, tried, dustBackward}
+use Rattle.scans.specs.Window.{Windowed, Roomy}
 use Rattle.scans.specs.Parts.{Ringed, candidates, ScansBackward, Holds}
+use Rattle.scans.specs.Carry.{Answers}
 use Rattle.scans.proofs.Candidates.{AllBelow, Scanned, backward-scanned, candidates-fit}
+use Rattle.scans.proofs.Walk.{windowed-queued}
 use Rattle.scans.proofs.Slices.{candidates-length, candidates-at}
 
 pub ringed : {p : Params} {ring : List ℕ} {head len : ℕ} {window-counts : List ℕ} {n m k a b : ℕ} (k′ : ℕ) → k′ ≡ k → Windowed p ring head len window-counts n → Roomy p m k a b → Ringed ring head len n m k′
 ringed k′ e w r =
     let l = w .ring-is in
-    record {
-      head-in = omega (arith, w .head-in);
-      len-in = omega (arith, w .len-in);
-      small = omega (arith, w .small);
-      ln-long = omega (arith, w .ln-long);
-      f-long = omega (arith, r .f-long);
-      below = λ j h. omega (arith, w .below j h, r .counts-is);
-    }
+    record { queued = windowed-queued w (e ∙ r .counts-is); ln-long = omega (arith, w .ln-long); f-long = omega (arith, r .f-long) }
 
 below-at : (n : ℕ) (cs : List Candidate) (j : ℕ) → AllBelow n cs → j < length cs → getD cs j noCandidate .place < n
 below-at n [] j h l = absurd (let b : ⊥ = omega arith in b)
@@ -35,9 +31,9 @@ below-at n (c ∷ cs) zero h l = h .0
 below-at n (c ∷ cs) (suc j) h l = below-at n cs j (h .1) (omega arith)
 
 module _ (S : Setup) (q : List Place) (b : BackwardState) (counts places : List ℕ) (scores : List Float) (h : ScansBackward S q b counts (candidates (b .noted) places scores)) where
-  pub tells-none : b .found ≡ 0 → Tells (dustBackward S q) 0 counts
+  pub no-best : b .found ≡ 0 → dustBackward S q .find ≡ none
   unfolding dustBackward tried
-  tells-none z = rw (h .scanned, eq-eqb (b .found) 0 z) (record { find-is = refl; counts-are = refl })
+  no-best z = rw (h .scanned, eq-eqb (b .found) 0 z)
 
   module _ (len : ℕ) (l : length q ≡ len) (some : 0 < len) (is-found : b .found ≡ 0 → ⊥) where
     scanned : Scanned len (record { best = b .best; found = b .found; counts = counts; candidates = candidates (b .noted) places scores })
@@ -63,8 +59,8 @@ module _ (S : Setup) (q : List Place) (b : BackwardState) (counts places : List 
                 omega (arith, below-at len (candidates n places′ scores′) j (fit .1) (omega arith));
           }
 
-      pub tells-tried : (r : ℕ) (counts′ : List ℕ) → Tells (tryFrom S q (candidates n places′ scores′) n 0 counts) r counts′ → Tells (dustBackward S q) r counts′
+      pub answers-tried : (r : Answer) (counts′ : List ℕ) → ((before : List ℕ) → Answers S q (tryFrom S q (candidates n places′ scores′) n 0 before) r counts′) → Answers S q (dustBackward S q) r counts′
       unfolding dustBackward tried
-      tells-tried r counts′ t =
+      answers-tried r counts′ t =
           let k : length (candidates n places′ scores′) ≡ n = candidates-length n places′ scores′ in
-          rw (h .scanned, ne-eqb (b .found) 0 is-found, ← w, k) t
+          rw (h .scanned, ne-eqb (b .found) 0 is-found, ← w, k) (t counts)

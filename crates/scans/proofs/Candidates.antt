@@ -44,7 +44,7 @@ judged-in n a s sw sl i h l =
     (λ _. omega arith) (λ _. h)
 
 -- The last score is -1.0 at first, which is no peak above 0.
-first-not-noted : (sl : Float) → isNoted backwardStart sl ≡ false
+pub first-not-noted : (sl : Float) → isNoted backwardStart sl ≡ false
 unfolding lt neg ofBits ofFields
 first-not-noted sl = go (lt sl (backwardStart .last))
   where

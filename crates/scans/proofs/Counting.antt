@@ -10,6 +10,7 @@ use lib.Dec.{eqb}
 use borrow.Author.Tests.{eqb-true, eqb-false, eq-eqb, ne-eqb}
 use Rattle.letters.specs.Place.{Place, ambiguous, plain, BelowAt, Below}
 use Rattle.scans.specs.Counts.{hit, count, raise, lower}
+pub use Rattle.scans.specs.Counts.{Counted}
 
 pub hit-self : (x : ℕ) → hit x (plain x) ≡ 1
 hit-self x = rw (eq-eqb x x refl)
@@ -25,7 +26,7 @@ hit-le x (plain y) = go (eqb x y)
     go true = omega arith
     go false = omega arith
 
-count-append : (x : ℕ) (q r : List Place) → count x (q ++ r) ≡ count x q + count x r
+pub count-append : (x : ℕ) (q r : List Place) → count x (q ++ r) ≡ count x q + count x r
 count-append x [] r = omega arith
 count-append x (e ∷ q) r = omega (arith, count-append x q r)
 
@@ -52,10 +53,6 @@ module _ (m : ℕ) where
   below-drop (suc j) (e ∷ q) a = below-drop j q (a .1)
 
 -- ---- Counts kept in a list, one for each k-mer below m.
-pub record Counted (m : ℕ) (counts : List ℕ) (q : List Place) : Type 0 where
-  pub long : length counts ≡ m
-  pub counted : (x : ℕ) → getD counts x 0 ≡ count x q
-
 module _ (counts : List ℕ) (x y : ℕ) (l : x < length counts) where
   raise-at : (b : Bool) → eqb y x ≡ b → getD (raise counts (plain x)) y 0 ≡ hit y (plain x) + getD counts y 0
   raise-at true e =

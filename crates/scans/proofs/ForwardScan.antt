@@ -1,5 +1,5 @@
 -- The forward scan, a turn at a time, over a straight part of the ring. Assumes nothing.
-use mathlib.Core.Path.{_≡_, refl, sym, ap, ap₂, _∙_, subst}
+use mathlib.Core.Path.{_≡_, refl, sym, ap, _∙_, subst}
 use mathlib.Core.Bool.{Bool, true, false, cond, true≢false}
 use mathlib.Core.List.{List, [], _∷_}
 use mathlib.Core.Logic.{inl, inr}
@@ -19,7 +19,7 @@ use Rattle.scans.specs.Setup.{Setup, fAt, setupOf}
 use Rattle.scans.specs.Counts.{raise}
 use Rattle.scans.specs.Scans.{value, ForwardSums, Forward, forwardStart, forwardJudged, forwardFrom, dustForward}
 use Rattle.scans.specs.Window.{At, queue, window, countedValue, CountsEntry}
-use Rattle.scans.specs.Parts.{Seam, Straight, Ringed, Within, forwardOf, ForwardPart, Finds}
+use Rattle.scans.specs.Parts.{Seam, Straight, Queued, Ringed, Within, forwardOf, ForwardPart, Finds}
 use Rattle.scans.proofs.Counting.{cleared-counted}
 use Rattle.scans.proofs.Ring.{ring-index-at, queue-at, window-at, window-length}
 use Rattle.scans.proofs.Values.{raised-value, decode-below}
@@ -93,14 +93,14 @@ module _ (S : Setup) (limit : Float) (ring : List ℕ) (head start from to : ℕ
 
       entry-below : getD ring (head + i - turn) 0 / 2 < length counts
       entry-below =
-          let e : getD (queue ring head to) i 0 ≡ getD ring (head + i - turn) 0 = queue-at ring head to i (head + i - turn) (r .head-in) (r .len-in) h entry-at in
-          subst (λ (z : ℕ). z / 2 < length counts) e (omega (arith, r .below i h, c .same))
+          let e : getD (queue ring head to) i 0 ≡ getD ring (head + i - turn) 0 = queue-at ring head to i (head + i - turn) (r .queued .head-in) (r .queued .len-in) h entry-at in
+          subst (λ (z : ℕ). z / 2 < length counts) e (omega (arith, r .queued .below i h, c .same))
 
       -- There is room to count the entry.
       pub entry-counts : (getD ring (head + i - turn) 0 / 2 < length counts) × (getD counts (getD ring (head + i - turn) 0 / 2) 0 < 65535) × (getD counts (getD ring (head + i - turn) 0 / 2) 0 + 1 < n)
       entry-counts =
           let w = c .few .at-most (getD ring (head + i - turn) 0 / 2) in
-          (entry-below, omega (arith, r .len-in, r .small), omega (arith, r .len-in, r .ln-long))
+          (entry-below, omega (arith, r .queued .len-in, r .queued .small), omega (arith, r .queued .len-in, r .ln-long))
 
       module _ (v : Float) (counts′ : List ℕ) (k : CountsEntry (S .ln) counts (decode (getD ring (head + i - turn) 0)) v counts′) (s : start ≤ from) (b′ : ForwardState)
           (judged : forwardOf b′ ≡ forwardJudged (forwardOf b) (nextSum S (forwardOf b) v) (nextScore S start i (forwardOf b) v) i) where
@@ -114,8 +114,8 @@ module _ (S : Setup) (limit : Float) (ring : List ℕ) (head start from to : ℕ
             let e : Place = decode (getD ring (head + i - turn) 0) in
             let z : v ≡ value S counts e = k .value-is ∙ ap (λ (g : List ℕ). countedValue (S .ln) g e) (k .counts-are) ∙ raised-value S counts e (decode-below (length counts) (getD ring (head + i - turn) 0) entry-below) in
             c .rest len l y
-            ∙ forward-turn S limit (window ring head len) start i (forwardOf b) counts e v (omega (arith, window-length ring head len (r .head-in) y)) (omega (arith, c .from-in))
-            (window-at ring head len i (head + i - turn) (r .head-in) y (omega arith) entry-at) z
+            ∙ forward-turn S limit (window ring head len) start i (forwardOf b) counts e v (omega (arith, window-length ring head len (r .queued .head-in) y)) (omega (arith, c .from-in))
+            (window-at ring head len i (head + i - turn) (r .queued .head-in) y (omega arith) entry-at) z
             ∙ rw (judged, k .counts-are)
 
         pub forwarding-turn : b′ .done ≡ b .done → lt limit score ≡ false → Forwarding S limit ring head start from to a counts₀ (i + 1) b′ counts′
@@ -148,20 +148,21 @@ module _ (w head len start r : ℕ) (s : Seam w head len start r) (h : head < w)
   pub past-seam : len ≤ w → Straight w head r len w
   past-seam l = record { turned = λ i a b. omega (arith, s .past (omega arith)); at = λ i a b. let g = s .past (omega arith) in (omega arith, inr (omega arith)) }
 
-pub ringed-less : {ring : List ℕ} {head len n m k : ℕ} (to k′ : ℕ) → to ≤ len → k′ ≡ k → Ringed ring head len n m k → Ringed ring head to n m k′
-ringed-less {ring} {head} {len} {n} {m} {k} to k′ l ek r =
+pub queued-less : {ring : List ℕ} {head len n : ℕ} (to n′ : ℕ) → to ≤ len → n′ ≡ n → Queued ring head len n → Queued ring head to n′
+queued-less {ring} {head} {len} {n} to n′ l e r =
     record {
       head-in = r .head-in;
       len-in = omega (arith, r .len-in);
       small = r .small;
-      ln-long = r .ln-long;
-      f-long = r .f-long;
       below = λ j b.
           let at = ring-index-at (length ring) head j (r .head-in) (omega (arith, r .len-in)) in
-          let e : getD (queue ring head len) j 0 ≡ getD (queue ring head to) j 0 =
+          let q : getD (queue ring head len) j 0 ≡ getD (queue ring head to) j 0 =
           queue-at ring head len j _ (r .head-in) (r .len-in) (omega arith) at ∙ sym (queue-at ring head to j _ (r .head-in) (omega (arith, r .len-in)) b at) in
-          subst (λ (z : ℕ). z / 2 < k′) e (omega (arith, r .below j (omega arith)));
+          subst (λ (z : ℕ). z / 2 < n′) q (omega (arith, r .below j (omega arith)));
     }
+
+pub ringed-less : {ring : List ℕ} {head len n m k : ℕ} (to k′ : ℕ) → to ≤ len → k′ ≡ k → Ringed ring head len n m k → Ringed ring head to n m k′
+ringed-less to k′ l e r = record { queued = queued-less to k′ l e (r .queued); ln-long = r .ln-long; f-long = r .f-long }
 
 module _ (p : Params) (ln f : List Float) (ring : List ℕ) (head len start mid : ℕ) (h : head < length ring) (l : len ≤ length ring) (s : Seam (length ring) head len start mid) (max-back limit : Float) (e : limit ≡ max-back ⊕ slack)
     (a b : ForwardState) (counts₀ counts : List ℕ) (fresh : forwardOf a ≡ forwardStart) (clear : counts₀ ≡ replicate (4 ^ p .kmer) 0)
@@ -178,13 +179,13 @@ module _ (p : Params) (ln f : List Float) (ring : List ℕ) (head len start mid 
       let one : start + 1 - start ≡ 1 = omega arith in
       rw (← fresh, ← clear, ← e) (ap (λ (n : ℕ). forwardFrom S limit (drop start q) n start (forwardOf a) counts₀) (sym one) ∙ part .scanned len (s .to) l)
 
-  pub forward-stopped : b .done ≡ true → Finds (dustForward S q start max-back) (b .found) counts
-  forward-stopped d = rw (first, d) (record { found-is = refl; counts-are = refl })
+  pub forward-stopped : b .done ≡ true → Finds (dustForward S q start max-back) b counts
+  forward-stopped d = rw (first, d) (record { sums-are = refl; counts-are = refl })
 
-  pub forward-both : b .done ≡ false → (c : ForwardState) (counts′ : List ℕ) → ForwardPart S limit ring head start mid len b c counts counts′ → Finds (dustForward S q start max-back) (c .found) counts′
+  pub forward-both : b .done ≡ false → (c : ForwardState) (counts′ : List ℕ) → ForwardPart S limit ring head start mid len b c counts counts′ → Finds (dustForward S q start max-back) c counts′
   unfolding forwardFrom
   forward-both d c counts′ next =
       let last : drop len q ≡ [] = drop-of-length-le q {i = len} (omega (arith, window-length ring head len h l)) in
       let all : dustForward S q start max-back ≡ record { sums = forwardOf c; counts = counts′ } =
       rw (first, d) (next .scanned len (omega arith) l ∙ rw last (cond-same (c .done) (record { sums = forwardOf c; counts = counts′ }))) in
-      rw all (record { found-is = refl; counts-are = refl })
+      rw all (record { sums-are = refl; counts-are = refl })

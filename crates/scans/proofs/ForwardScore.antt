@@ -2,20 +2,17 @@
 -- With tables in range that best is within (L + 1) * 2^-33 of the exact score of the stretch of L places from the find to the newest.
 use mathlib.Core.Path.{_≡_, refl, sym, ap, _∙_, subst}
 use Prim.Native.Nat.{ℕ, suc, _+_, _*_, _≤_, _<_}
-use native.Mathlib.Nat.{mul-le-mul-left}
 use native.Mathlib.Omega.{arith}
-use mathlib.Core.Bool.{true, false}
 use mathlib.Core.List.{List, [], _∷_, _++_, append-nil}
 use lib.ListN.{length, drop, length-append, length-drop}
 use lib.Seq.{append-snoc}
 use lib.Dec.{T}
 use lib.IntN.{pos, _+ℤ_}
 use lib.Signed.{_≤ℤ_}
-use lib.Ieee.{Float, nan, inf, fin, binary64, up, down, add, sub, ofBits, ofFields, lt, le, eq}
-use lib.Ieee.Fits.{down-pos}
+use lib.Ieee.{Float, binary64, add, sub, lt, le}
 use Rattle.floats.specs.Value.{Near}
 use Rattle.floats.specs.Binary64.{pos64, value64, zero64, slack}
-use Rattle.floats.proofs.Compare.{le-fin}
+use Rattle.floats.proofs.Order.{le-trans}
 use Rattle.floats.proofs.Tests.{le-near, le-sure}
 use Rattle.floats.proofs.Sums.{err, zero-near, After, after-as, after-start, after-step, after-score}
 use Rattle.floats.proofs.Whole.{near-value}
@@ -38,36 +35,11 @@ forward-inside S q j m some e = go (drop j q) refl e
     go [] d h = absurd (omega arith)
     go (x ∷ es) d h = omega (arith, length-drop j q, ap length d)
 
-no-product : (x c : ℕ) → 0 < c → x * c ≤ 0 → x ≡ 0
-no-product x c p h = omega (arith, mul-le-mul-left x p)
-
--- What is not below a float that is not below 0 is not below 0.
-not-below : (x y : Float) → T (le zero64 x) → T (le x y) → T (le zero64 y)
-unfolding le lt eq ofBits ofFields
-not-below nan y a b = absurd a
-not-below (inf s) nan a b = absurd b
-not-below (inf true) (inf t) a b = absurd a
-not-below (inf false) (inf true) a b = absurd b
-not-below (inf false) (inf false) a b = tt
-not-below (inf true) (fin t n d) a b = absurd a
-not-below (inf false) (fin t n d) a b = absurd b
-not-below (fin s m e) nan a b = absurd b
-not-below (fin s m e) (inf true) a b = absurd b
-not-below (fin s m e) (inf false) a b = tt
-not-below (fin s m e) (fin false n d) a b = le-fin false false 0 n (pos 0) d .1 (omega arith)
-not-below (fin false m e) (fin true n d) a b =
-    let h = no-product (n * up d) (down e) (down-pos e) (omega (arith, le-fin false true m n e d .0 b)) in
-    le-fin false true 0 n (pos 0) d .1 (omega arith)
-not-below (fin true m e) (fin true n d) a b =
-    let z : m * up e ≡ 0 = omega (arith, le-fin false true 0 m (pos 0) e .0 a) in
-    let h = no-product (n * up d) (down e) (down-pos e) (omega (arith, le-fin true true m n e d .0 b, ap (λ (x : ℕ). x * down d) z)) in
-    le-fin false true 0 n (pos 0) d .1 (omega arith)
-
 module _ (S : Setup) where
   judged-best : (a : ForwardSums) (s sl : Float) (i : ℕ) → T (le zero64 (a .best)) → T (le zero64 (forwardJudged a s sl i .best))
   judged-best a s sl i b =
       by-test (λ (r : ForwardSums). T (le zero64 (r .best))) (le (a .best) sl) (record { s = s; best = sl; found = i + 1 }) (record { s = s; best = a .best; found = a .found })
-      (λ t. not-below (a .best) sl b t) (λ _. b)
+      (λ t. le-trans zero64 (a .best) sl b t) (λ _. b)
 
   from-best : (limit : Float) (es : List Place) (l i : ℕ) (a : ForwardSums) (counts : List ℕ) → T (le zero64 (a .best)) → T (le zero64 (forwardFrom S limit es l i a counts .sums .best))
   unfolding forwardFrom

@@ -4,3 +4,5 @@ pub mod Scans
 pub mod Score
 pub mod Window
 pub mod Parts
+pub mod Carry
+pub mod Quick

@@ -1,6 +1,6 @@
 -- The scans over the straight parts of the ring: what their loops ask and answer, and the code's states as the definitions' records.
 use mathlib.Core.Path.{_≡_}
-use mathlib.Core.Bool.{false, cond}
+use mathlib.Core.Bool.{Bool, true, false, cond}
 use mathlib.Core.List.{List, [], _∷_, _++_}
 use Prim.Native.Nat.{ℕ, zero, suc, _+_, _-_, _/_, _<_, _≤_}
 use lib.ListN.{length, getD, drop}
@@ -10,8 +10,8 @@ use Rattle.floats.specs.Binary64.{zero64}
 use Rattle.letters.specs.Place.{Place, ambiguous, plain}
 use Rattle.scans.specs.declared.ForwardState.{ForwardState}
 use Rattle.scans.specs.declared.BackwardState.{BackwardState}
-use Rattle.scans.specs.Setup.{Setup}
-use Rattle.scans.specs.Counts.{count, raise, cleared}
+use Rattle.scans.specs.Setup.{Setup, kmers}
+use Rattle.scans.specs.Counts.{raise, cleared, Counted}
 use Rattle.scans.specs.Scans.{ForwardSums, Forward, forwardFrom, Candidate, candidate, BackwardSums, backwardStart, noted, backwardFrom}
 use Rattle.scans.specs.Window.{At, queue, window, countedValue}
 
@@ -27,14 +27,18 @@ pub record Straight (w head from to turn : ℕ) : Type 0 where
   pub turned : (i : ℕ) → from ≤ i → i < to → turn ≤ head + i
   pub at : (i : ℕ) → from ≤ i → i < to → At w head i (head + i - turn)
 
--- A ring holds `len` entries, and the tables and the scan counts are long enough for them.
-pub record Ringed (ring : List ℕ) (head len ln-length f-length counts-length : ℕ) : Type 0 where
+-- A ring holds `len` entries, and each of their k-mers has a count.
+pub record Queued (ring : List ℕ) (head len counts-length : ℕ) : Type 0 where
   pub head-in : head < length ring
   pub len-in : len ≤ length ring
   pub small : length ring ≤ 65535
+  pub below : (j : ℕ) → j < len → getD (queue ring head len) j 0 / 2 < counts-length
+
+-- The tables are long enough for them too.
+pub record Ringed (ring : List ℕ) (head len ln-length f-length counts-length : ℕ) : Type 0 where
+  pub queued : Queued ring head len counts-length
   pub ln-long : length ring < ln-length
   pub f-long : length ring < f-length
-  pub below : (j : ℕ) → j < len → getD (queue ring head len) j 0 / 2 < counts-length
 
 -- Each count is at most n.
 pub record Within (counts : List ℕ) (n : ℕ) : Type 0 where
@@ -51,8 +55,8 @@ pub record ForwardPart (S : Setup) (limit : Float) (ring : List ℕ) (head start
       ≡ cond (b .done) (record { sums = forwardOf b; counts = counts′ }) (forwardFrom S limit (drop to (window ring head len)) (to + 1 - start) to (forwardOf b) counts′)
   pub few : b .done ≡ false → Within counts′ to
 
-pub record Finds (a : Forward) (r : ℕ) (counts : List ℕ) : Type 0 where
-  pub found-is : r ≡ a .sums .found
+pub record Finds (a : Forward) (r : ForwardState) (counts : List ℕ) : Type 0 where
+  pub sums-are : forwardOf r ≡ a .sums
   pub counts-are : counts ≡ a .counts
 
 -- ---- The backward scan.
@@ -65,7 +69,7 @@ candidates zero places scores = []
 candidates (suc n) places scores = candidates n places scores ++ candidate (getD places n 0) (getD scores n nan) ∷ []
 
 abbrev pub withSums : BackwardState → Float → Float → BackwardState
-withSums a s sw = record { s = s; sw = sw; last = a .last; best = a .best; found = a .found; noted = a .noted; done = a .done }
+withSums a s sw = record { s = s; sw = sw; last = a .last; best = a .best; found = a .found; noted = a .noted; low = a .low; done = a .done; tied = a .tied }
 
 -- The ln entry of what a place's window count has left over its raised scan count, 0 if ambiguous.
 abbrev pub leftValue : List Float → List ℕ → List ℕ → Place → Float
@@ -79,13 +83,17 @@ pub record AddsEntry (t : Float) (window-counts : List ℕ) (ln : List Float) (e
 
 -- The score sl of entry i is the new best, or is below the best.
 abbrev pub withBestAt : BackwardState → Float → ℕ → BackwardState
-withBestAt a sl i = record { s = a .s; sw = a .sw; last = sl; best = sl; found = i + 1; noted = a .noted; done = a .done }
+withBestAt a sl i = record { s = a .s; sw = a .sw; last = sl; best = sl; found = i + 1; noted = a .noted; low = a .low; done = a .done; tied = a .tied }
 
 abbrev pub withLast : BackwardState → Float → BackwardState
-withLast a sl = record { s = a .s; sw = a .sw; last = sl; best = a .best; found = a .found; noted = a .noted; done = a .done }
+withLast a sl = record { s = a .s; sw = a .sw; last = sl; best = a .best; found = a .found; noted = a .noted; low = a .low; done = a .done; tied = a .tied }
 
 abbrev pub withNoted : BackwardState → ℕ → BackwardState
-withNoted a n = record { s = a .s; sw = a .sw; last = a .last; best = a .best; found = a .found; noted = n; done = a .done }
+withNoted a n = record { s = a .s; sw = a .sw; last = a .last; best = a .best; found = a .found; noted = n; low = a .low; done = a .done; tied = a .tied }
+
+-- The scan stops at entry i, for a near tie or not.
+abbrev pub stoppedAt : BackwardState → ℕ → Bool → BackwardState
+stoppedAt a i tied = record { s = a .s; sw = a .sw; last = a .last; best = a .best; found = a .found; noted = a .noted; low = i; done = true; tied = tied }
 
 -- At entry i with the score sl, the place of a peak is noted.
 pub record Notes (sl : Float) (i : ℕ) (a b : BackwardState) (cs cs′ : List Candidate) : Type 0 where
@@ -93,22 +101,39 @@ pub record Notes (sl : Float) (i : ℕ) (a b : BackwardState) (cs cs′ : List C
   pub at-most : b .noted ≤ a .noted + 1
   pub candidates-are : cs′ ≡ noted (backwardOf a) sl i cs
 
+-- The scan has not stopped.
+abbrev pub Unstopped : BackwardState → Type 0
+Unstopped a = (a .low ≡ 0) × (a .done ≡ false) × (a .tied ≡ false)
+
+-- It begins.
+pub record Fresh (a : BackwardState) : Type 0 where
+  pub sums-are : backwardOf a ≡ backwardStart
+  pub none-noted : a .noted ≡ 0
+  pub unstopped : Unstopped a
+
+-- It is over, and the counts are those of the entries from the oldest read on.
+pub record Ended (m : ℕ) (q : List Place) (a : BackwardState) (counts : List ℕ) : Type 0 where
+  pub low-in : a .low ≤ length q
+  pub counted : Counted m counts (drop (a .low) q)
+
 -- A scan at entry i may go on: its counts are those of the entries read, no more candidates than those are noted, and the last score is not above the best.
-pub record Backs (q : List Place) (i : ℕ) (a : BackwardState) (counts : List ℕ) : Type 0 where
-  pub going : a .done ≡ false
+pub record Backs (m : ℕ) (q : List Place) (i : ℕ) (a : BackwardState) (counts : List ℕ) : Type 0 where
+  pub unstopped : Unstopped a
   pub few : a .noted + i ≤ length q
-  pub counted : (x : ℕ) → getD counts x 0 ≡ count x (drop i q)
+  pub counted : Counted m counts (drop i q)
   pub peak : lt (a .best) (a .last) ≡ false
 
 -- A scan goes from entry `to` and state a down to entry `from` and state b, or has stopped at b.
 pub record BackwardPart (S : Setup) (q : List Place) (from to : ℕ) (a b : BackwardState) (counts counts′ : List ℕ) (cs cs′ : List Candidate) : Type 0 where
   pub scanned : backwardFrom S q to (length q + 1 - to) (backwardOf a) counts cs
       ≡ cond (b .done) (record { best = b .best; found = b .found; counts = counts′; candidates = cs′ }) (backwardFrom S q from (length q + 1 - from) (backwardOf b) counts′ cs′)
-  pub next : b .done ≡ false → Backs q from b counts′
+  pub next : b .done ≡ false → Backs (kmers S) q from b counts′
+  pub stop : b .done ≡ true → Ended (kmers S) q b counts′
 
 -- The whole backward scan has ended at b.
 pub record ScansBackward (S : Setup) (q : List Place) (b : BackwardState) (counts : List ℕ) (cs : List Candidate) : Type 0 where
   pub scanned : backwardFrom S q (length q) 1 backwardStart (cleared S) [] ≡ record { best = b .best; found = b .found; counts = counts; candidates = cs }
+  pub ended : Ended (kmers S) q b counts
 
 -- Two slices hold n candidates or more, the first n places being entries of the window.
 pub record Holds (len n : ℕ) (places : List ℕ) (scores-length : ℕ) : Type 0 where

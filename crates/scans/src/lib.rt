@@ -3,16 +3,19 @@
 ghost use mathlib.Core.Path.{_≡_};
 ghost use mathlib.Core.Bool.{true, false, not, _&&_};
 ghost use mathlib.Core.List.{List, [], _∷_, _++_};
-ghost use Prim.Native.Nat.{_+_, _/_, _%_, _^_, _<_, _≤_};
-ghost use lib.ListN.{length, getD};
+ghost use Prim.Native.Nat.{ℕ, _+_, _-_, _/_, _%_, _^_, _<_, _≤_};
+ghost use lib.ListN.{length, getD, drop, replicate};
 ghost use lib.Dec.{eqb};
 ghost use lib.Ieee.{Float, lt};
 ghost use Rattle.floats.specs.Arithmetic.{_⊖_};
 ghost use Rattle.letters.specs.Entry.{decode};
 ghost use Rattle.scans.specs.Setup.{dropLimit, maxTest, setupOf};
+ghost use Rattle.scans.specs.Counts.{lower, Counted};
 ghost use Rattle.scans.specs.Scans.{maxSteps, ifBackward, forwardStart, forwardJudged, dustForward, candidate, backwardStart, isNoted, withBest, larger, tryFrom, dustBackward};
 ghost use Rattle.scans.specs.Window.{ringIndex, window, countedValue, Windowed, Roomy, CountsEntry, Extends, Tells};
-ghost use Rattle.scans.specs.Parts.{Seam, Straight, Ringed, Within, forwardOf, ForwardPart, Finds, backwardOf, candidates, AddsEntry, withBestAt, withLast, Notes, Backs, BackwardPart, ScansBackward, Holds};
+ghost use Rattle.scans.specs.Carry.{Carried, Touched, Walked, CarriesOn, carriedAhead, CarriesAhead, Answers};
+ghost use Rattle.scans.specs.Quick.{QuickGoes, QuickPart, ScansQuick};
+ghost use Rattle.scans.specs.Parts.{Seam, Straight, Queued, Ringed, Within, forwardOf, ForwardPart, Finds, backwardOf, candidates, AddsEntry, withBestAt, withLast, stoppedAt, Notes, Fresh, Backs, BackwardPart, ScansBackward, Holds};
 
 // How many places long a fall below the best may last before the backward scan stops; `Off` is the whole window.
 pub enum Xdrop {
@@ -177,6 +180,72 @@ fn seam(window: usize, head: usize, len: usize, start: usize) -> usize
     len
 }
 
+// Takes an entry out of the counts; a count of 0 stays.
+pub fn lower_entry(counts: &mut [u16], entry: u32)
+    requires { ⌜ entry / 2 < length (now counts) ⌝ }
+    ensures { λ _. ⌜ now (counts .exit) ≡ lower (now (counts .entry)) (decode entry) ⌝ }
+{
+    if entry & 1 != 0 {
+        return;
+    }
+    let kmer = (entry >> 1) as usize;
+    let c = counts[kmer];
+    if 0 < c {
+        counts[kmer] = c - 1;
+    }
+}
+
+// Takes entries `from` to `to - 1` out of the scan counts.
+fn uncount(ring: &[u32], head: usize, from: usize, to: usize, scan_counts: &mut [u16])
+    requires { ⌜ Queued (now ring) head to (length (now «scan_counts»)) ⌝ }
+    requires { ⌜ from ≤ to ⌝ }
+    ensures { λ _. ⌜ Walked (Counted (length (now («scan_counts» .entry)))) (now (ring .entry)) head from to (now («scan_counts» .entry)) (now («scan_counts» .exit)) ⌝ }
+{
+    let mut i = from;
+    while i < to {
+        let at = ring_index(ring.len(), head, i);
+        lower_entry(scan_counts, ring[at]);
+        i += 1;
+    }
+}
+
+// The counts of entries `from` to `to - 1` are set to 0, entry i standing at index head + i - turn.
+fn clear_part(
+    ring: &[u32],
+    head: usize,
+    turn: usize,
+    from: usize,
+    to: usize,
+    scan_counts: &mut [u16],
+)
+    requires { ⌜ Queued (now ring) head to (length (now «scan_counts»)) ⌝ }
+    requires { ⌜ Straight (length (now ring)) head from to turn ⌝ }
+    requires { ⌜ from ≤ to ⌝ }
+    ensures { λ _. ⌜ Walked Touched (now (ring .entry)) head from to (now («scan_counts» .entry)) (now («scan_counts» .exit)) ⌝ }
+{
+    let mut i = from;
+    while i < to {
+        let kmer = (ring[head + i - turn] >> 1) as usize;
+        scan_counts[kmer] = 0;
+        i += 1;
+    }
+}
+
+// Clears the scan counts, which only entries from `from` on have touched: each of theirs, or all where these are fewer.
+pub fn clear_from(ring: &[u32], head: usize, len: usize, from: usize, scan_counts: &mut [u16])
+    requires { ⌜ Queued (now ring) head len (length (now «scan_counts»)) ⌝ }
+    requires { ⌜ (from ≤ len) × Touched (now «scan_counts») (drop from (window (now ring) head len)) ⌝ }
+    ensures { λ _. ⌜ now («scan_counts» .exit) ≡ replicate (length (now («scan_counts» .entry))) 0 ⌝ }
+{
+    if (len - from) * 8 > scan_counts.len() {
+        buffers::clear(scan_counts);
+        return;
+    }
+    let mid = seam(ring.len(), head, len, from);
+    clear_part(ring, head, 0, from, mid, scan_counts);
+    clear_part(ring, head, ring.len(), mid, len, scan_counts);
+}
+
 // The sum of a forward scan, its best score, one past the index that had it (0: none), and whether the scan has stopped.
 struct ForwardState {
     s: f64,
@@ -253,7 +322,7 @@ fn forward_part(
     st
 }
 
-// The forward scan from entry `start` on: one past the index of its best score, 0 for none.
+// The forward scan from entry `start` on, from cleared counts.
 fn dust_forward(
     p: Params,
     ring: &[u32],
@@ -264,12 +333,11 @@ fn dust_forward(
     ln: &[f64],
     f: &[f64],
     scan_counts: &mut [u16],
-) -> usize
+) -> ForwardState
     requires { ⌜ Ringed (now ring) head len (length (now ln)) (length (now f)) (length (now «scan_counts»)) ⌝ }
-    requires { ⌜ (length (now «scan_counts») ≡ 4 ^ p .kmer) × (start ≤ len) ⌝ }
+    requires { ⌜ (now «scan_counts» ≡ replicate (4 ^ p .kmer) 0) × (start ≤ len) ⌝ }
     ensures { λ r. ⌜ Finds (dustForward (setupOf p (now (ln .entry)) (now (f .entry))) (window (now (ring .entry)) head len) start «max_back») r (now («scan_counts» .exit)) ⌝ }
 {
-    buffers::clear(scan_counts);
     let limit = max_back + 1e-6;
     let mid = seam(ring.len(), head, len, start);
     let older = forward_part(
@@ -287,9 +355,9 @@ fn dust_forward(
         scan_counts,
     );
     if older.done {
-        return older.found;
+        return older;
     }
-    let newer = forward_part(
+    forward_part(
         p,
         ring,
         head,
@@ -302,8 +370,73 @@ fn dust_forward(
         ln,
         f,
         scan_counts,
-    );
-    newer.found
+    )
+}
+
+// The sum and the best score of the last find's forward scan, carried on to the newest entry while `on`.
+pub struct Carry {
+    pub on: bool,
+    pub s: f64,
+    pub best: f64,
+}
+
+// One past the index found, 0 for none, and the scan that is carried on.
+pub struct Scanned {
+    pub found: usize,
+    pub carry: Carry,
+}
+
+impl Carry {
+    // One entry more, the l-th of the scan, which is counted.
+    pub fn next(
+        mut self,
+        p: Params,
+        l: usize,
+        entry: u32,
+        ln: &[f64],
+        f: &[f64],
+        scan_counts: &mut [u16],
+    ) -> Self
+        requires { ⌜ (entry / 2 < length (now «scan_counts»)) × (getD (now «scan_counts») (entry / 2) 0 < 65535) × (getD (now «scan_counts») (entry / 2) 0 + 1 < length (now ln)) × (l < length (now f)) ⌝ }
+        ensures { λ r. ⌜ CarriesOn (setupOf p (now (ln .entry)) (now (f .entry))) l (decode entry) self r (now («scan_counts» .entry)) (now («scan_counts» .exit)) ⌝ }
+    {
+        let v = count_entry(scan_counts, ln, entry);
+        self.s = self.s + (v - p.threshold);
+        let sl = self.s - f[l];
+        if sl >= self.best {
+            self.best = sl;
+        }
+        self
+    }
+
+    // The scan with the newest entry, its l-th, which is counted already; on if the entry is its best.
+    fn ahead(
+        self,
+        p: Params,
+        l: usize,
+        entry: u32,
+        ln: &[f64],
+        f: &[f64],
+        scan_counts: &[u16],
+    ) -> Self
+        requires { ⌜ (entry / 2 < length (now «scan_counts»)) × (getD (now «scan_counts») (entry / 2) 0 < length (now ln)) × (l < length (now f)) ⌝ }
+        ensures { λ r. ⌜ r ≡ carriedAhead (setupOf p (now (ln .entry)) (now (f .entry))) l (now («scan_counts» .entry)) (decode entry) self ⌝ }
+    {
+        let s = self.s + (window_value(scan_counts, ln, entry) - p.threshold);
+        let sl = s - f[l];
+        Self {
+            on: sl >= self.best,
+            s: s,
+            best: sl,
+        }
+    }
+
+    fn off(mut self) -> Self
+        ensures { λ r. ⌜ r .on ≡ false ⌝ }
+    {
+        self.on = false;
+        self
+    }
 }
 
 // The two sums of a backward scan, its last and its best score, one past the index that had the best (0: none),
@@ -315,7 +448,9 @@ struct BackwardState {
     best: f64,
     found: usize,
     noted: usize,
+    low: usize,
     done: bool,
+    tied: bool,
 }
 
 // A candidate after the first `noted`; answers how many there are then.
@@ -336,7 +471,7 @@ fn push_candidate(
 
 impl BackwardState {
     fn new() -> Self
-        ensures { λ r. ⌜ (backwardOf r ≡ backwardStart) × (r .noted ≡ 0) × (r .done ≡ false) ⌝ }
+        ensures { λ r. ⌜ Fresh r ⌝ }
     {
         Self {
             s: 0.0,
@@ -345,7 +480,9 @@ impl BackwardState {
             best: 0.0,
             found: 0,
             noted: 0,
+            low: 0,
             done: false,
+            tied: false,
         }
     }
 
@@ -426,10 +563,13 @@ impl BackwardState {
         false
     }
 
-    fn stopped(mut self) -> Self
-        ensures { λ r. ⌜ (backwardOf r ≡ backwardOf self) × (r .noted ≡ self .noted) × (r .done ≡ true) ⌝ }
+    // The scan stops at entry i, for a near tie or not.
+    fn stopped(mut self, i: usize, tied: bool) -> Self
+        ensures { λ r. ⌜ r ≡ stoppedAt self i tied ⌝ }
     {
+        self.low = i;
         self.done = true;
+        self.tied = tied;
         self
     }
 }
@@ -455,7 +595,7 @@ fn backward_part(
     requires { ⌜ Roomy p (length (now f)) (length (now «scan_counts»)) (length (now places)) (length (now scores)) ⌝ }
     requires { ⌜ Straight (length (now ring)) head from to turn ⌝ }
     requires { ⌜ (from ≤ to) × (to ≤ len) ⌝ }
-    requires { ⌜ Backs (window (now ring) head len) to state (now «scan_counts») ⌝ }
+    requires { ⌜ Backs (4 ^ p .kmer) (window (now ring) head len) to state (now «scan_counts») ⌝ }
     ensures { λ r. ⌜ BackwardPart (setupOf p (now (ln .entry)) (now (f .entry))) (window (now (ring .entry)) head len) from to state r (now («scan_counts» .entry)) (now («scan_counts» .exit)) (candidates (state .noted) (now (places .entry)) (now (scores .entry))) (candidates (r .noted) (now (places .exit)) (now (scores .exit))) ⌝ }
 {
     let mut st = state;
@@ -471,7 +611,7 @@ fn backward_part(
             scan_counts,
         );
         if st.sw - fl < 0.0 {
-            return st.stopped();
+            return st.stopped(i, false);
         }
         let sl = st.s - fl;
         if sl >= st.best {
@@ -480,14 +620,14 @@ fn backward_part(
         }
         st = st.note(sl, i, places, scores);
         if st.too_low(sl, p.limit) {
-            return st.stopped();
+            return st.stopped(i, false);
         }
         st = st.fallen(sl);
     }
     st
 }
 
-// The backward scan over the whole window, the ring's newer part first.
+// The backward scan over the whole window from cleared counts, the ring's newer part first.
 fn scan_backward(
     p: Params,
     ring: &[u32],
@@ -502,9 +642,9 @@ fn scan_backward(
 ) -> BackwardState
     requires { ⌜ Windowed p (now ring) head len (now «window_counts») (length (now ln)) ⌝ }
     requires { ⌜ Roomy p (length (now f)) (length (now «scan_counts»)) (length (now places)) (length (now scores)) ⌝ }
+    requires { ⌜ now «scan_counts» ≡ replicate (4 ^ p .kmer) 0 ⌝ }
     ensures { λ r. ⌜ ScansBackward (setupOf p (now (ln .entry)) (now (f .entry))) (window (now (ring .entry)) head len) r (now («scan_counts» .exit)) (candidates (r .noted) (now (places .exit)) (now (scores .exit))) ⌝ }
 {
-    buffers::clear(scan_counts);
     let mid = seam(ring.len(), head, len, 0);
     let newer = backward_part(
         p,
@@ -566,7 +706,21 @@ fn larger(a: usize, b: usize) -> usize
     a
 }
 
-// The candidates are tried, the last noted first; answers one past the place of the first whose forward scan is best at the newest entry, 0 for none.
+// No find, and no scan to carry on.
+fn nothing() -> Scanned
+    ensures { λ r. ⌜ (r .found ≡ 0) × (r .carry .on ≡ false) ⌝ }
+{
+    Scanned {
+        found: 0,
+        carry: Carry {
+            on: false,
+            s: 0.0,
+            best: 0.0,
+        },
+    }
+}
+
+// The candidates are tried from cleared counts, the last noted first, until the forward scan of one is best at the newest entry.
 fn try_candidates(
     p: Params,
     ring: &[u32],
@@ -578,11 +732,11 @@ fn try_candidates(
     places: &[u32],
     scores: &[f64],
     scan_counts: &mut [u16],
-) -> usize
+) -> Scanned
     requires { ⌜ Ringed (now ring) head len (length (now ln)) (length (now f)) (length (now «scan_counts»)) ⌝ }
-    requires { ⌜ length (now «scan_counts») ≡ 4 ^ p .kmer ⌝ }
+    requires { ⌜ now «scan_counts» ≡ replicate (4 ^ p .kmer) 0 ⌝ }
     requires { ⌜ Holds len noted (now places) (length (now scores)) ⌝ }
-    ensures { λ r. ⌜ Tells (tryFrom (setupOf p (now (ln .entry)) (now (f .entry))) (window (now (ring .entry)) head len) (candidates noted (now (places .entry)) (now (scores .entry))) noted 0 (now («scan_counts» .entry))) r (now («scan_counts» .exit)) ⌝ }
+    ensures { λ r. ⌜ ((before : List ℕ) → Answers (setupOf p (now (ln .entry)) (now (f .entry))) (window (now (ring .entry)) head len) (tryFrom (setupOf p (now (ln .entry)) (now (f .entry))) (window (now (ring .entry)) head len) (candidates noted (now (places .entry)) (now (scores .entry))) noted 0 before) r (now («scan_counts» .exit))) ⌝ }
 {
     let mut furthest = 0;
     let mut i = noted;
@@ -592,20 +746,28 @@ fn try_candidates(
         if place + 1 < furthest {
             continue;
         }
-        let found = dust_forward(p, ring, head, len, place, scores[i], ln, f, scan_counts);
-        if found == len {
-            return place + 1;
+        let st = dust_forward(p, ring, head, len, place, scores[i], ln, f, scan_counts);
+        if st.found == len {
+            return Scanned {
+                found: place + 1,
+                carry: Carry {
+                    on: true,
+                    s: st.s,
+                    best: st.best,
+                },
+            };
         }
+        clear_from(ring, head, len, place, scan_counts);
         if p.approx {
-            return 0;
+            return nothing();
         }
-        furthest = larger(furthest, found);
+        furthest = larger(furthest, st.found);
     }
-    0
+    nothing()
 }
 
-// One past the index in the window from which a forward scan ends best at the newest entry, and 0 where there is none.
-pub fn dust_backward(
+// The find by the candidates of the backward scan, from cleared counts.
+fn find_by_candidates(
     p: Params,
     ring: &[u32],
     head: usize,
@@ -616,11 +778,11 @@ pub fn dust_backward(
     scan_counts: &mut [u16],
     places: &mut [u32],
     scores: &mut [f64],
-) -> usize
+) -> Scanned
     requires { ⌜ Windowed p (now ring) head len (now «window_counts») (length (now ln)) ⌝ }
     requires { ⌜ Roomy p (length (now f)) (length (now «scan_counts»)) (length (now places)) (length (now scores)) ⌝ }
-    requires { ⌜ 0 < len ⌝ }
-    ensures { λ r. ⌜ Tells (dustBackward (setupOf p (now (ln .entry)) (now (f .entry))) (window (now (ring .entry)) head len)) r (now («scan_counts» .exit)) ⌝ }
+    requires { ⌜ (0 < len) × (now «scan_counts» ≡ replicate (4 ^ p .kmer) 0) ⌝ }
+    ensures { λ r. ⌜ Answers (setupOf p (now (ln .entry)) (now (f .entry))) (window (now (ring .entry)) head len) (dustBackward (setupOf p (now (ln .entry)) (now (f .entry))) (window (now (ring .entry)) head len)) r (now («scan_counts» .exit)) ⌝ }
 {
     let st = scan_backward(
         p,
@@ -634,9 +796,11 @@ pub fn dust_backward(
         places,
         scores,
     );
+    let low = st.low;
+    clear_from(ring, head, len, low, scan_counts);
     let found = st.found;
     if found == 0 {
-        return 0;
+        return nothing();
     }
     let noted = push_best(places, scores, st.noted, found, st.best);
     try_candidates(
@@ -650,5 +814,161 @@ pub fn dust_backward(
         places,
         scores,
         scan_counts,
+    )
+}
+
+// A quick scan goes on over entries `to - 1` down to `from`, entry i standing at index head + i - turn; a near tie stops it.
+fn quick_part(
+    p: Params,
+    ring: &[u32],
+    head: usize,
+    len: usize,
+    turn: usize,
+    from: usize,
+    to: usize,
+    state: BackwardState,
+    window_counts: &[u16],
+    ln: &[f64],
+    f: &[f64],
+    scan_counts: &mut [u16],
+) -> BackwardState
+    requires { ⌜ Windowed p (now ring) head len (now «window_counts») (length (now ln)) ⌝ }
+    requires { ⌜ Straight (length (now ring)) head from to turn ⌝ }
+    requires { ⌜ (from ≤ to) × (to ≤ len) × (p .window < length (now f)) ⌝ }
+    requires { ⌜ QuickGoes (4 ^ p .kmer) (window (now ring) head len) to state (now «scan_counts») ⌝ }
+    ensures { λ r. ⌜ QuickPart (setupOf p (now (ln .entry)) (now (f .entry))) (window (now (ring .entry)) head len) from to state r (now («scan_counts» .entry)) (now («scan_counts» .exit)) ⌝ }
+{
+    let mut st = state;
+    let mut i = to;
+    while from < i {
+        i -= 1;
+        let fl = f[len - i];
+        st = st.add_entry(p.threshold, window_counts, ln, ring[head + i - turn], scan_counts);
+        if st.sw - fl < 0.0 {
+            return st.stopped(i, false);
+        }
+        let sl = st.s - fl;
+        if sl >= st.best {
+            st = st.raised(sl, i);
+            continue;
+        }
+        if st.best - sl < 1e-9 {
+            return st.stopped(i, true);
+        }
+        if st.too_low(sl, p.limit) {
+            return st.stopped(i, false);
+        }
+        st = st.fallen(sl);
+    }
+    st
+}
+
+// The quick scan over the whole window from cleared counts, the ring's newer part first.
+fn scan_quickly(
+    p: Params,
+    ring: &[u32],
+    head: usize,
+    len: usize,
+    window_counts: &[u16],
+    ln: &[f64],
+    f: &[f64],
+    scan_counts: &mut [u16],
+) -> BackwardState
+    requires { ⌜ Windowed p (now ring) head len (now «window_counts») (length (now ln)) ⌝ }
+    requires { ⌜ (p .window < length (now f)) × (now «scan_counts» ≡ replicate (4 ^ p .kmer) 0) ⌝ }
+    ensures { λ r. ⌜ ScansQuick (setupOf p (now (ln .entry)) (now (f .entry))) (window (now (ring .entry)) head len) r (now («scan_counts» .exit)) ⌝ }
+{
+    let mid = seam(ring.len(), head, len, 0);
+    let newer = quick_part(p, ring, head, len, ring.len(), mid, len, BackwardState::new(), window_counts, ln, f, scan_counts);
+    if newer.done {
+        return newer;
+    }
+    quick_part(p, ring, head, len, 0, 0, mid, newer, window_counts, ln, f, scan_counts)
+}
+
+// After a quick scan: the carried scan with the newest entry, on where that tells a find.
+// It does if the quick scan met no near tie, its best place is `last`, where the carried scan started, and the newest entry is the best of that scan.
+fn carry_ahead(
+    p: Params,
+    carry: Carry,
+    last: usize,
+    st: BackwardState,
+    ring: &[u32],
+    head: usize,
+    len: usize,
+    ln: &[f64],
+    f: &[f64],
+    scan_counts: &mut [u16],
+) -> Carry
+    requires { ⌜ Ringed (now ring) head len (length (now ln)) (length (now f)) (length (now «scan_counts»)) ⌝ }
+    requires { ⌜ (0 < len) × (carry .on ≡ true) × (length (now «scan_counts») ≡ 4 ^ p .kmer) ⌝ }
+    requires { ⌜ ScansQuick (setupOf p (now ln) (now f)) (window (now ring) head len) st (now «scan_counts») ⌝ }
+    requires { ⌜ Carried (setupOf p (now ln) (now f)) (drop last (window (now ring) head (len - 1))) carry ⌝ }
+    ensures { λ r. ⌜ CarriesAhead (setupOf p (now (ln .entry)) (now (f .entry))) (window (now (ring .entry)) head len) st r (now («scan_counts» .exit)) ⌝ }
+{
+    let found = st.found;
+    if st.tied {
+        return carry.off();
+    }
+    if found == 0 {
+        return carry.off();
+    }
+    if found - 1 != last {
+        return carry.off();
+    }
+    if carry.best > st.best + 1e-6 {
+        return carry.off();
+    }
+    let low = st.low;
+    uncount(ring, head, low, last, scan_counts);
+    let at = ring_index(ring.len(), head, len - 1);
+    carry.ahead(p, len - last, ring[at], ln, f, scan_counts)
+}
+
+// One past the index in the window from which a forward scan ends best at the newest entry, 0 where there is none, from cleared counts.
+// A carried scan is that of entries `last` to the newest but one.
+pub fn dust_backward(
+    p: Params,
+    carry: Carry,
+    last: usize,
+    ring: &[u32],
+    head: usize,
+    len: usize,
+    window_counts: &[u16],
+    ln: &[f64],
+    f: &[f64],
+    scan_counts: &mut [u16],
+    places: &mut [u32],
+    scores: &mut [f64],
+) -> Scanned
+    requires { ⌜ Windowed p (now ring) head len (now «window_counts») (length (now ln)) ⌝ }
+    requires { ⌜ Roomy p (length (now f)) (length (now «scan_counts»)) (length (now places)) (length (now scores)) ⌝ }
+    requires { ⌜ (0 < len) × (now «scan_counts» ≡ replicate (4 ^ p .kmer) 0) ⌝ }
+    requires { ⌜ Carried (setupOf p (now ln) (now f)) (drop last (window (now ring) head (len - 1))) carry ⌝ }
+    ensures { λ r. ⌜ Answers (setupOf p (now (ln .entry)) (now (f .entry))) (window (now (ring .entry)) head len) (dustBackward (setupOf p (now (ln .entry)) (now (f .entry))) (window (now (ring .entry)) head len)) r (now («scan_counts» .exit)) ⌝ }
+{
+    if carry.on {
+        let st = scan_quickly(p, ring, head, len, window_counts, ln, f, scan_counts);
+        let ahead = carry_ahead(p, carry, last, st, ring, head, len, ln, f, scan_counts);
+        if ahead.on {
+            return Scanned {
+                found: st.found,
+                carry: ahead,
+            };
+        }
+        let low = st.low;
+        clear_from(ring, head, len, low, scan_counts);
+    }
+    find_by_candidates(
+        p,
+        ring,
+        head,
+        len,
+        window_counts,
+        ln,
+        f,
+        scan_counts,
+        places,
+        scores,
     )
 }

@@ -2,9 +2,13 @@ use mathlib.Core.Path.{sym, _∙_}
 use Prim.Native.Nat.{_-_}
 use native.Mathlib.Omega.{arith}
 use borrow.Author.Needs.{needs}
+use lib.ListN.{getD}
+use lib.Ieee.{nan}
 use Rattle.scans.specs.Setup.{setupOf}
 use Rattle.scans.specs.Window.{window}
-use Rattle.scans.proofs.BackwardScan.{Backing, backing-start, backing-end, add-ready, note-ready, backing-ended, backing-raised, backing-dropped, backing-fallen}
+use Rattle.scans.proofs.Windows.{long}
+use Rattle.scans.proofs.Reading.{Entered, add-ready, entered}
+use Rattle.scans.proofs.BackwardScan.{Backing, backing-start, backing-end, backing-read, note-ready, backing-ended, backing-raised, backing-dropped, backing-fallen}
 use Rattle.scans.proofs.backward_part.Statement.{statement}
 use Rattle.scans.proofs.backward_part.Tie as tie
 use Rattle.scans.proofs.backward_part.Reads as reads
@@ -29,6 +33,12 @@ start c = c .before .before .before .before .before .before .before .before
 abbrev looping : tie.After-add-entry Inv-loop μ-loop → tie.In-loop Inv-loop μ-loop
 looping k = k .before .before .before .before
 
+abbrev at-loop : tie.After-add-entry Inv-loop μ-loop → tie.At-loop Inv-loop μ-loop
+at-loop k = looping k .before
+
+abbrev begun : tie.After-add-entry Inv-loop μ-loop → tie.Start Inv-loop μ-loop
+begun k = start (at-loop k)
+
 abbrev added : tie.Else1 Inv-loop μ-loop → tie.After-add-entry Inv-loop μ-loop
 added c = c .before .before .before .before
 
@@ -41,7 +51,7 @@ below-best c = noted c .before .before .before
 loop-holds : tie.Need-loop-holds Inv-loop μ-loop
 loop-holds c =
     let q = c .before .before .before .before .before .before .before .pre .1 .1 .1 in
-    backing-start _ _ _ _ _ _ _ _ _ _ _ _ (q .0 .0) (q .1)
+    backing-start _ _ _ _ _ _ _ _ (q .0 .0) (q .1)
 
 sub-i : tie.Need-sub-i Inv-loop μ-loop
 sub-i c = omega (arith, c .loop-test .taken)
@@ -70,12 +80,22 @@ shared-slice-read-add-entry c =
     let a = d .before in
     start a .pre .1 .1 .0 .at (a .loop .i - 1) (omega (arith, d .loop-test .taken)) (omega (arith, d .loop-test .taken, a .loop .inv .to-in)) .0
 
+-- the entry that the scan has just read
+entry-read : (k : tie.After-add-entry Inv-loop μ-loop) → Entered
+    (setupOf (begun k .args .p) (begun k .args .ln .now) (begun k .args .f .now)) (window (begun k .args .ring .now) (begun k .args .head) (begun k .args .len)) (begun k .args .from) (begun k .args .to)
+    (at-loop k .loop .i) (at-loop k .loop .st) (k .add-entry .result) (getD (begun k .args .f .now) (begun k .args .len - (at-loop k .loop .i - 1)) nan) (at-loop k .loop .scan-counts)
+    (k .add-entry .last .1 .1 .1 .1 .1 .0)
+entry-read k =
+    let a = at-loop k in
+    let s = begun k .pre in
+    entered _ _ _ _ _ _ _ _ _ (backing-read _ _ _ _ _ _ _ _ _ _ _ _ _ (a .loop .inv)) (s .0) _ (s .1 .1 .0) (s .1 .1 .1 .0 .1) (looping k .loop-test .taken) (begun k .args .f .now) _ _ _ (k .add-entry .ensures)
+
 add-entry-requires : tie.Need-add-entry-requires Inv-loop μ-loop
 add-entry-requires c κs =
     let d = c .before .before .before in
     let a = d .before in
     let s = start a .pre in
-    add-ready _ _ _ _ _ _ _ _ _ _ _ _ _ _ _ _ _ (a .loop .inv) (s .0) (s .1 .0) _ (s .1 .1 .0) (s .1 .1 .1 .0 .1) (d .loop-test .taken)
+    add-ready _ _ _ _ (start a .args .ln .now) _ _ _ _ (backing-read _ _ _ _ _ _ _ _ _ _ _ _ _ (a .loop .inv)) (s .0) _ (s .1 .1 .0) (s .1 .1 .1 .0 .1) (d .loop-test .taken)
 
 stopped-requires : tie.Need-stopped-requires Inv-loop μ-loop
 stopped-requires c κs = search needs
@@ -92,11 +112,8 @@ same-length-3 c = search needs
 returns : tie.Need-returns Inv-loop μ-loop
 returns c =
     let k = c .before .before .before .before .before in
-    let d = looping k in
-    let a = d .before in
-    let s = start a .pre in
-    let e = c .stopped .ensures in
-    backing-ended _ _ _ _ _ _ _ _ _ _ _ _ _ _ _ _ _ (a .loop .inv) (s .0) (s .1 .0) _ (s .1 .1 .0) (s .1 .1 .1 .0 .1) (d .loop-test .taken) _ _ (k .add-entry .ensures) _ (e .0) (e .1) (e .2) (c .before .if1 .taken)
+    let a = at-loop k in
+    backing-ended _ _ _ _ _ _ _ _ _ _ _ _ _ (a .loop .inv) _ _ _ (entry-read k) _ (c .stopped .ensures) (c .before .if1 .taken)
 
 raised-requires : tie.Need-raised-requires Inv-loop μ-loop
 raised-requires c κs = let a = looping (added (c .before .before .before)) .before in let w = start a .pre .0 in omega (arith, a .loop .inv .to-in, start a .pre .1 .1 .1 .0 .1, w .len-in, w .small)
@@ -108,18 +125,17 @@ loop-again : tie.Need-loop-again Inv-loop μ-loop
 loop-again c =
     let o = c .before .before .before .before in
     let k = added o in
-    let d = looping k in
-    let a = d .before in
-    let s = start a .pre in
-    backing-raised _ _ _ _ _ _ _ _ _ _ _ _ _ _ _ _ _ (a .loop .inv) (s .0) (s .1 .0) _ (s .1 .1 .0) (s .1 .1 .1 .0 .1) (d .loop-test .taken) _ _ (k .add-entry .ensures) (o .if1 .left) (c .before .if2 .taken) _ (c .raised .ensures)
+    let a = at-loop k in
+    backing-raised _ _ _ _ _ _ _ _ _ _ _ _ _ (a .loop .inv) _ _ _ (entry-read k) (o .if1 .left) (c .before .if2 .taken) _ (c .raised .ensures)
 
 note-requires : tie.Need-note-requires Inv-loop μ-loop
 note-requires c κs =
     let k = added (c .before .before .before .before .before) in
-    let d = looping k in
-    let a = d .before in
+    let a = at-loop k in
     let s = start a .pre in
-    note-ready _ _ _ _ _ _ _ _ _ _ _ _ _ _ _ _ _ (a .loop .inv) (s .0) (s .1 .0) _ (s .1 .1 .0) (s .1 .1 .1 .0 .1) (d .loop-test .taken) _ _ (k .add-entry .ensures)
+    let w = s .0 in
+    let n = note-ready _ _ _ _ _ _ _ _ _ _ _ _ _ (a .loop .inv) _ _ _ (entry-read k) (start a .args .p .window) (omega (arith, long w, w .len-in)) (s .1 .0 .places-long) (s .1 .0 .scores-long) in
+    (n .0, n .1, omega (arith, a .loop .inv .to-in, s .1 .1 .1 .0 .1, w .len-in, w .small))
 
 too-low-requires : tie.Need-too-low-requires Inv-loop μ-loop
 too-low-requires c κs = search needs
@@ -149,12 +165,8 @@ returns-2 c =
     let b = below-best m in
     let o = b .before .before .before in
     let k = added o in
-    let d = looping k in
-    let a = d .before in
-    let s = start a .pre in
-    let e = c .stopped2 .ensures in
-    backing-dropped _ _ _ _ _ _ _ _ _ _ _ _ _ _ _ _ _ (a .loop .inv) (s .0) (s .1 .0) _ (s .1 .1 .0) (s .1 .1 .1 .0 .1) (d .loop-test .taken) _ _ (k .add-entry .ensures) (o .if1 .left) (b .if2 .left) (n .note .result) _ _ (n .note .ensures)
-    (sym (m .too-low .ensures) ∙ c .before .if3 .taken) _ (e .0) (e .1) (e .2)
+    let a = at-loop k in
+    backing-dropped _ _ _ _ _ _ _ _ _ _ _ _ _ (a .loop .inv) _ _ _ (entry-read k) (o .if1 .left) (b .if2 .left) (n .note .result) _ _ (n .note .ensures) (sym (m .too-low .ensures) ∙ c .before .if3 .taken) _ (c .stopped2 .ensures)
 
 fallen-requires : tie.Need-fallen-requires Inv-loop μ-loop
 fallen-requires c κs = search needs
@@ -169,11 +181,8 @@ loop-again-2 c =
     let b = below-best m in
     let o = b .before .before .before in
     let k = added o in
-    let d = looping k in
-    let a = d .before in
-    let s = start a .pre in
-    backing-fallen _ _ _ _ _ _ _ _ _ _ _ _ _ _ _ _ _ (a .loop .inv) (s .0) (s .1 .0) _ (s .1 .1 .0) (s .1 .1 .1 .0 .1) (d .loop-test .taken) _ _ (k .add-entry .ensures) (o .if1 .left) (b .if2 .left) (n .note .result) _ _ (n .note .ensures)
-    (sym (m .too-low .ensures) ∙ c .before .if3 .left) _ (c .fallen .ensures) (n .note .kept .1 .1 .1 .0) (n .note .kept .1 .1 .1 .1 .0)
+    let a = at-loop k in
+    backing-fallen _ _ _ _ _ _ _ _ _ _ _ _ _ (a .loop .inv) _ _ _ (entry-read k) (o .if1 .left) (b .if2 .left) (n .note .result) _ _ (n .note .ensures) (sym (m .too-low .ensures) ∙ c .before .if3 .left) _ (c .fallen .ensures) (n .note .kept .1 .1 .1 .0) (n .note .kept .1 .1 .1 .1 .0)
 
 same-length-7 : tie.Need-same-length-7 Inv-loop μ-loop
 same-length-7 c = c .before .loop .inv .same-counts
@@ -185,7 +194,7 @@ same-length-9 : tie.Need-same-length-9 Inv-loop μ-loop
 same-length-9 c = c .before .loop .inv .same-scores
 
 returns-3 : tie.Need-returns-3 Inv-loop μ-loop
-returns-3 c = backing-end _ _ _ _ _ _ _ _ _ _ _ _ _ _ _ _ _ (c .before .loop .inv) (c .loop-test .left)
+returns-3 c = backing-end _ _ _ _ _ _ _ _ _ _ _ _ _ (c .before .loop .inv) (c .loop-test .left)
 
 pub backward-part-spec : {M : Type 1} → statement M
 backward-part-spec =

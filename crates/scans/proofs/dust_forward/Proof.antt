@@ -9,22 +9,12 @@ use Rattle.scans.proofs.dust_forward.Statement.{statement}
 use Rattle.scans.proofs.dust_forward.Tie as tie
 use Rattle.scans.proofs.dust_forward.Reads as reads
 use Rattle.scans.proofs.dust_forward.Lts as lts
-use Rattle.buffers.proofs.clear.Reads as clear-reads
 use Rattle.scans.proofs.ForwardState.new.Reads as new-reads
 use Rattle.scans.proofs.forward_part.Reads as forward-part-reads
 use Rattle.scans.proofs.seam.Reads as seam-reads
 
 abbrev start : tie.After-seam → tie.Start
-start c = c .before .before .before .before .before .before .before .before .before
-
-abbrev counts : tie.After-seam → List ℕ
-counts c = c .before .before .before .clear .last .0
-
-cleared : (c : tie.After-seam) → counts c ≡ replicate (4 ^ start c .args .p .kmer) 0
-cleared c = c .before .before .before .clear .ensures ∙ ap (λ (n : ℕ). replicate n 0) (start c .pre .1 .0)
-
-clear-requires : tie.Need-clear-requires
-clear-requires c κs = search needs
+start c = c .before .before .before .before .before
 
 seam-requires : tie.Need-seam-requires
 seam-requires c κs = search needs
@@ -36,12 +26,11 @@ forward-part-requires : tie.Need-forward-part-requires
 forward-part-requires c κs =
     let s = c .before .before in
     let r = start s .pre .0 in
-    let t = s .seam .ensures in
-    let k = s .before .before .before in (
-      ringed-less _ _ (t .to) (k .clear .kept .0) r,
+    let t = s .seam .ensures in (
+      ringed-less _ _ (t .to) refl r,
       (
-        before-seam _ _ _ _ _ t (r .head-in),
-        ((omega arith, t .from, c .before .new .ensures .1), within-cleared _ (4 ^ start s .args .p .kmer) _ (cleared s)),
+        before-seam _ _ _ _ _ t (r .queued .head-in),
+        ((omega arith, t .from, c .before .new .ensures .1), within-cleared _ (4 ^ start s .args .p .kmer) _ (start s .pre .1 .0)),
       ),
     )
 
@@ -53,7 +42,7 @@ returns c =
     let m = c .before .before .before in
     let s = m .before .before .before in
     let r = start s .pre .0 in
-    forward-stopped _ _ _ _ _ _ _ _ (r .head-in) (r .len-in) (s .seam .ensures) _ _ refl _ _ _ _ (m .before .before .new .ensures .0) (cleared s) (m .forward-part .ensures) (c .if1 .taken)
+    forward-stopped _ _ _ _ _ _ _ _ (r .queued .head-in) (r .queued .len-in) (s .seam .ensures) _ _ refl _ _ _ _ (m .before .before .new .ensures .0) (start s .pre .1 .0) (m .forward-part .ensures) (c .if1 .taken)
 
 forward-part-requires-2 : tie.Need-forward-part-requires-2
 forward-part-requires-2 c κs =
@@ -62,8 +51,8 @@ forward-part-requires-2 c κs =
     let r = start s .pre .0 in
     let t = s .seam .ensures in
     let d = c .before .if1 .left in (
-      ringed-less _ _ (omega arith) (m .forward-part .kept .1 .1 .1 .1 .1 .1 .1 .1 .1 .1 .1 .0 ∙ s .before .before .before .clear .kept .0) r,
-      (past-seam _ _ _ _ _ t (r .head-in) (r .len-in), ((t .from, t .to, d), m .forward-part .ensures .few d)),
+      ringed-less _ _ (omega arith) (m .forward-part .kept .1 .1 .1 .1 .1 .1 .1 .1 .1 .1 .1 .0) r,
+      (past-seam _ _ _ _ _ t (r .queued .head-in) (r .queued .len-in), ((t .from, t .to, d), m .forward-part .ensures .few d)),
     )
 
 same-length-2 : tie.Need-same-length-2
@@ -76,13 +65,12 @@ returns-2 c =
     let m = d .before .before .before in
     let s = m .before .before .before in
     let r = start s .pre .0 in
-    forward-both _ _ _ _ _ _ _ _ (r .head-in) (r .len-in) (s .seam .ensures) _ _ refl _ _ _ _ (m .before .before .new .ensures .0) (cleared s) (m .forward-part .ensures) (d .if1 .left) _ _ (n .forward-part2 .ensures)
+    forward-both _ _ _ _ _ _ _ _ (r .queued .head-in) (r .queued .len-in) (s .seam .ensures) _ _ refl _ _ _ _ (m .before .before .new .ensures .0) (start s .pre .1 .0) (m .forward-part .ensures) (d .if1 .left) _ _ (n .forward-part2 .ensures)
 
 pub dust-forward-spec : {M : Type 1} → statement M
 dust-forward-spec =
     tie.close
     (tie.spec
-    clear-requires
     seam-requires
     new-requires
     forward-part-requires

@@ -26,13 +26,13 @@ loop-holds c =
     forwarding-start _ _ _ _ _ _ _ _ _ (q .0 .1) (q .0 .2) (q .1)
 
 add-count-entry : tie.Need-add-count-entry Inv-loop μ-loop
-add-count-entry c = let a = c .before .before in let r = start a .pre .0 in omega (arith, a .loop .inv .to-in, r .head-in, r .len-in, r .small)
+add-count-entry c = let a = c .before .before in let r = start a .pre .0 in omega (arith, a .loop .inv .to-in, r .queued .head-in, r .queued .len-in, r .queued .small)
 
 sub-count-entry : tie.Need-sub-count-entry Inv-loop μ-loop
 sub-count-entry c = let a = c .before .before in start a .pre .1 .0 .turned (a .loop .i) (a .loop .inv .from-in) (c .before .loop-test .taken)
 
 mul-count-entry : tie.Need-mul-count-entry Inv-loop μ-loop
-mul-count-entry c = let a = c .before .before in let r = start a .pre .0 in omega (arith, a .loop .inv .to-in, r .head-in, r .len-in, r .small)
+mul-count-entry c = let a = c .before .before in let r = start a .pre .0 in omega (arith, a .loop .inv .to-in, r .queued .head-in, r .queued .len-in, r .queued .small)
 
 shared-slice-read-count-entry : tie.Need-shared-slice-read-count-entry Inv-loop μ-loop
 shared-slice-read-count-entry c = let a = c .before .before .before in start a .pre .1 .0 .at (a .loop .i) (a .loop .inv .from-in) (c .before .before .loop-test .taken) .0

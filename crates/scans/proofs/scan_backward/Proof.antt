@@ -11,25 +11,15 @@ use Rattle.scans.proofs.scan_backward.Statement.{statement}
 use Rattle.scans.proofs.scan_backward.Tie as tie
 use Rattle.scans.proofs.scan_backward.Reads as reads
 use Rattle.scans.proofs.scan_backward.Lts as lts
-use Rattle.buffers.proofs.clear.Reads as clear-reads
 use Rattle.scans.proofs.BackwardState.new.Reads as new-reads
 use Rattle.scans.proofs.backward_part.Reads as backward-part-reads
 use Rattle.scans.proofs.seam.Reads as seam-reads
 
 abbrev start : tie.After-seam → tie.Start
-start c = c .before .before .before .before .before .before .before .before .before .before .before .before
-
-abbrev counts : tie.After-seam → List ℕ
-counts c = c .before .before .before .clear .last .0
-
-cleared : (c : tie.After-seam) → counts c ≡ replicate (4 ^ start c .args .p .kmer) 0
-cleared c = c .before .before .before .clear .ensures ∙ ap (λ (n : ℕ). replicate n 0) (start c .pre .1 .counts-is)
+start c = c .before .before .before .before .before .before .before .before
 
 abbrev created : tie.After-backward-part → tie.After-new
 created c = c .before .before .before .before
-
-clear-requires : tie.Need-clear-requires
-clear-requires c κs = search needs
 
 seam-requires : tie.Need-seam-requires
 seam-requires c κs = search needs
@@ -45,10 +35,10 @@ backward-part-requires c κs =
     let t = s .seam .ensures in (
       w,
       (
-        roomy-as _ _ _ (s .before .before .before .clear .kept .0) refl refl (start s .pre .1),
+        start s .pre .1 .0,
         (
           past-seam _ _ _ _ _ t (omega (arith, w .ring-is, w .head-in)) (omega (arith, w .ring-is, w .len-in)),
-          ((t .to, omega arith), backs-start _ _ (4 ^ start s .args .p .kmer) _ _ (long w) (n .new .ensures) (cleared s)),
+          ((t .to, omega arith), backs-start _ _ (4 ^ start s .args .p .kmer) _ _ (long w) (n .new .ensures) (start s .pre .1 .1)),
         ),
       ),
     )
@@ -68,7 +58,7 @@ returns c =
     let n = created b in
     let s = n .before in
     let w = start s .pre .0 in
-    scans-stopped _ _ _ _ _ (long w) _ _ _ _ (n .new .ensures) (cleared s) _ _ _ _ (b .backward-part .ensures) (c .if1 .taken)
+    scans-stopped _ _ _ _ _ (long w) _ _ _ _ (n .new .ensures) (start s .pre .1 .1) _ _ _ _ (b .backward-part .ensures) (c .if1 .taken)
 
 backward-part-requires-2 : tie.Need-backward-part-requires-2
 backward-part-requires-2 c κs =
@@ -78,13 +68,13 @@ backward-part-requires-2 c κs =
     let s = created b .before in
     let w = start s .pre .0 in
     let t = s .seam .ensures in
-    (w, (roomy-as _ _ _ (k .0 ∙ s .before .before .before .clear .kept .0) (k .1 .0) (k .1 .1 .0) (start s .pre .1), (before-seam _ _ _ _ _ t (omega (arith, w .ring-is, w .head-in)), ((omega arith, t .to), b .backward-part .ensures .next (d .if1 .left)))))
+    (w, (roomy-as _ _ _ (k .0) (k .1 .0) (k .1 .1 .0) (start s .pre .1 .0), (before-seam _ _ _ _ _ t (omega (arith, w .ring-is, w .head-in)), ((omega arith, t .to), b .backward-part .ensures .next (d .if1 .left)))))
 
 same-length-4 : tie.Need-same-length-4
 same-length-4 c =
     let e = c .before .before .before .before .before .before in
     let b = e .before .before .before .before .before .before .before .before .before .before .before in
-    e .backward-part2 .kept .1 .1 .1 .1 .1 .1 .1 .1 .1 .1 .1 .0 ∙ b .backward-part .kept .1 .1 .1 .1 .1 .1 .1 .1 .1 .1 .1 .0 ∙ created b .before .before .before .before .clear .kept .0
+    e .backward-part2 .kept .1 .1 .1 .1 .1 .1 .1 .1 .1 .1 .1 .0 ∙ b .backward-part .kept .1 .1 .1 .1 .1 .1 .1 .1 .1 .1 .1 .0
 
 same-length-5 : tie.Need-same-length-5
 same-length-5 c = search needs
@@ -100,13 +90,12 @@ returns-2 c =
     let n = created b in
     let s = n .before in
     let w = start s .pre .0 in
-    scans-both _ _ _ _ _ (long w) _ _ _ _ (n .new .ensures) (cleared s) _ _ _ _ (b .backward-part .ensures) (d .if1 .left) _ _ _ (e .backward-part2 .ensures)
+    scans-both _ _ _ _ _ (long w) _ _ _ _ (n .new .ensures) (start s .pre .1 .1) _ _ _ _ (b .backward-part .ensures) (d .if1 .left) _ _ _ (e .backward-part2 .ensures)
 
 pub scan-backward-spec : {M : Type 1} → statement M
 scan-backward-spec =
     tie.close
     (tie.spec
-    clear-requires
     seam-requires
     new-requires
     backward-part-requires

@@ -1,0 +1,55 @@
+use mathlib.Core.Bool.{true, false}
+use borrow.Author.Needs.{needs}
+use Rattle.scans.specs.Setup.{setupOf}
+use Rattle.scans.proofs.Values.{decode-below}
+use Rattle.scans.proofs.CarriedScan.{carries-on}
+use Rattle.scans.proofs.Carry.next.Statement.{statement}
+use Rattle.scans.proofs.Carry.next.Tie as tie
+use Rattle.scans.proofs.Carry.next.Reads as reads
+use Rattle.scans.proofs.Carry.next.Lts as lts
+use Rattle.scans.proofs.count_entry.Reads as count-entry-reads
+
+abbrev entry : tie.After-struct-known4 → tie.After-count-entry
+entry c = c .before .before .before .before .before .before .before
+
+abbrev start : tie.After-count-entry → tie.Start
+start c = c .before .before .before .before .before
+
+count-entry-requires : tie.Need-count-entry-requires
+count-entry-requires c κs = search needs
+
+mul-sl : tie.Need-mul-sl
+mul-sl c = search needs
+
+shared-slice-read-sl : tie.Need-shared-slice-read-sl
+shared-slice-read-sl c = search needs
+
+same-length : tie.Need-same-length
+same-length c = search needs
+
+returns : tie.Need-returns
+returns c =
+    let n = entry (c .before) in
+    let a = start n in
+    carries-on (setupOf (a .args .p) (a .args .ln .now) (a .args .f .now)) (a .args .l) _ (a .args .self) _ _ _ (n .count-entry .ensures) (decode-below _ (a .args .entry) (a .pre .0)) true (c .if1 .taken)
+
+same-length-2 : tie.Need-same-length-2
+same-length-2 c = search needs
+
+returns-2 : tie.Need-returns-2
+returns-2 c =
+    let n = entry (c .before) in
+    let a = start n in
+    carries-on (setupOf (a .args .p) (a .args .ln .now) (a .args .f .now)) (a .args .l) _ (a .args .self) _ _ _ (n .count-entry .ensures) (decode-below _ (a .args .entry) (a .pre .0)) false (c .if1 .left)
+
+pub next-spec : {M : Type 1} → statement M
+next-spec =
+    tie.close
+    (tie.spec
+    count-entry-requires
+    mul-sl
+    shared-slice-read-sl
+    same-length
+    returns
+    same-length-2
+    returns-2)
