@@ -8,7 +8,7 @@ use native.Mathlib.Omega.{arith}
 use native.Mathlib.Nat.{eq-or-lt-of-le}
 use native.Mathlib.Numerals.{add-one}
 use lib.ListN.{length, getD, set, take, drop, length-append, length-drop, length-take, length-set, List·getD-append}
-use lib.Seq.{ext-getD, getD-at, getD-take, getD-drop, getD-append-add, getD-set-same, getD-set-other}
+use lib.Seq.{ext-getD, getD-at, getD-take, getD-drop, getD-append-add, getD-set-same, getD-set-other, set-getD}
 use lib.Dec.{ltb}
 use borrow.Author.Tests.{ltb-true, ltb-false}
 use Rattle.letters.specs.Place.{Place, ambiguous}
@@ -126,3 +126,13 @@ pub window-at : (ring : List ℕ) (head len j i : ℕ) → head < length ring �
 window-at ring head len j i h l k at =
     let n : length (queue ring head len) ≡ len = queue-length ring head len h l in
     decoded-at (queue ring head len) j (omega arith) ∙ ap decode (queue-at ring head len j i h l k at)
+
+-- The newest entry of a window.
+pub window-newest : (ring : List ℕ) (head len : ℕ) → head < length ring → 0 < len → len ≤ length ring
+    → window ring head len ≡ window ring head (len - 1) ++ decode (getD ring (ringIndex (length ring) head (len - 1)) 0) ∷ []
+window-newest ring head len h some l =
+    let i : ℕ = ringIndex (length ring) head (len - 1) in
+    let n : len ≡ len - 1 + 1 = omega arith in
+    ap (λ (m : ℕ). window ring head m) n
+    ∙ ap (λ (z : List ℕ). window z head (len - 1 + 1)) (sym (set-getD ring i 0))
+    ∙ window-join ring head (len - 1) (getD ring i 0) h (omega arith)

@@ -1,8 +1,9 @@
 -- What a queue entry is worth by its bits and its count: the tests of the code against the definitions' values. Assumes nothing.
 use mathlib.Core.Path.{_≡_, refl, sym, ap, _∙_}
 use mathlib.Core.Bool.{Bool, true, false, cond}
-use mathlib.Core.List.{List}
-use Prim.Native.Nat.{ℕ, _+_, _-_, _/_, _%_, _<_}
+use mathlib.Core.List.{List, [], _∷_}
+use Prim.Native.Nat.{ℕ, suc, _+_, _-_, _/_, _%_, _<_}
+use native.Mathlib.Omega.{arith}
 use lib.ListN.{length, getD, set}
 use lib.Seq.{getD-set-same}
 use lib.Dec.{eqb}
@@ -10,8 +11,8 @@ use lib.Bits.{bitAnd, and-mask}
 use lib.Ieee.{Float, nan}
 use Rattle.floats.specs.Arithmetic.{_⊕_, _⊖_}
 use Rattle.floats.specs.Binary64.{zero64}
-use Rattle.letters.specs.Place.{Place, ambiguous, plain, BelowAt}
-use Rattle.letters.specs.Entry.{decode}
+use Rattle.letters.specs.Place.{Place, ambiguous, plain, BelowAt, Below}
+use Rattle.letters.specs.Entry.{decode, decoded}
 use Rattle.letters.proofs.Entries.{decode-plain, decode-ambiguous}
 use Rattle.scans.specs.declared.BackwardState.{BackwardState}
 use Rattle.scans.specs.Setup.{Setup}
@@ -36,6 +37,11 @@ decode-below m e h = go (eqb (e % 2) 0)
     go : (b : Bool) → BelowAt m (cond b (plain (e / 2)) ambiguous)
     go true = h
     go false = tt
+
+pub decoded-below : (m : ℕ) (es : List ℕ) → ((j : ℕ) → j < length es → getD es j 0 / 2 < m) → Below m (decoded es)
+unfolding decoded
+decoded-below m [] h = tt
+decoded-below m (e ∷ es) h = (decode-below m e (h 0 (omega arith)), decoded-below m es (λ j l. h (suc j) (omega arith)))
 
 -- Window counts that are the window's.
 pub window-value : (S : Setup) (counts : List ℕ) (q : List Place) (e : Place) → ((x : ℕ) → getD counts x 0 ≡ count x q) → countedValue (S .ln) counts e ≡ windowValue S q e

@@ -6,15 +6,15 @@ use native.Mathlib.Numerals.{add-one}
 use native.Mathlib.Omega.{arith}
 use lib.ListN.{length, getD, set, drop, replicate, length-set, drop-of-length-le}
 use lib.Seq.{drop-cons, set-getD}
-use Rattle.letters.specs.Place.{Place, ambiguous, plain}
+use Rattle.letters.specs.Place.{Place, ambiguous, plain, Below}
 use Rattle.letters.specs.Entry.{decode}
 use Rattle.scans.specs.declared.Params.{Params}
 use Rattle.scans.specs.Counts.{lower, Counted}
 use Rattle.scans.specs.Window.{At, queue, window, Windowed}
 use Rattle.scans.specs.Parts.{Queued}
 use Rattle.scans.specs.Carry.{Touched, Walked}
-use Rattle.scans.proofs.Ring.{queue-at, window-at, window-length}
-use Rattle.scans.proofs.Values.{decode-below}
+use Rattle.scans.proofs.Ring.{queue-length, queue-at, window-at, window-length}
+use Rattle.scans.proofs.Values.{decode-below, decoded-below}
 use Rattle.scans.proofs.Counting.{lower-counted}
 use Rattle.scans.proofs.Touched.{touched-clear, touched-none}
 
@@ -73,6 +73,9 @@ cleared-both ring head len from mid counts₀ counts₁ counts₂ h l m same t a
 -- A window has what a walk asks.
 pub windowed-queued : {p : Params} {ring : List ℕ} {head len n m : ℕ} {counts : List ℕ} → Windowed p ring head len counts n → m ≡ 4 ^ p .kmer → Queued ring head len m
 windowed-queued w e = record { head-in = omega (arith, w .ring-is, w .head-in); len-in = omega (arith, w .ring-is, w .len-in); small = omega (arith, w .ring-is, w .small); below = λ j h. rw e (w .below j h) }
+
+pub queued-below : {ring : List ℕ} {head len m : ℕ} → Queued ring head len m → Below m (window ring head len)
+queued-below {ring} {head} {len} {m} r = decoded-below m (queue ring head len) (λ j h. r .below j (omega (arith, queue-length ring head len (r .head-in) (r .len-in))))
 
 -- ---- A count falls.
 pub lower-none : (counts : List ℕ) (x : ℕ) → getD counts x 0 ≡ 0 → counts ≡ lower counts (plain x)

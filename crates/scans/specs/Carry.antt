@@ -69,3 +69,8 @@ pub record Walked (P : List ℕ → List Place → Type 0) (ring : List ℕ) (he
 pub record CarriesAhead (S : Setup) (q : List Place) (b : BackwardState) (r : Carry) (counts : List ℕ) : Type 0 where
   pub tells : r .on ≡ true → Answers S q (dustBackward S q) (record { found = b .found; carry = r }) counts
   pub touched : r .on ≡ false → Touched counts (drop (b .low) q)
+
+-- A find that is told is the definition's; where none is told, the counts are cleared.
+pub record FindsQuickly (S : Setup) (q : List Place) (r : Scanned) (counts : List ℕ) : Type 0 where
+  pub tells : (r .found ≡ 0 → ⊥) → Answers S q (dustBackward S q) r counts
+  pub clears : r .found ≡ 0 → counts ≡ cleared S

@@ -13,7 +13,7 @@ ghost use Rattle.scans.specs.Setup.{dropLimit, maxTest, setupOf};
 ghost use Rattle.scans.specs.Counts.{lower, Counted};
 ghost use Rattle.scans.specs.Scans.{maxSteps, ifBackward, forwardStart, forwardJudged, dustForward, candidate, backwardStart, isNoted, withBest, larger, tryFrom, dustBackward};
 ghost use Rattle.scans.specs.Window.{ringIndex, window, countedValue, Windowed, Roomy, CountsEntry, Extends, Tells};
-ghost use Rattle.scans.specs.Carry.{Carried, Touched, Walked, CarriesOn, carriedAhead, CarriesAhead, Answers};
+ghost use Rattle.scans.specs.Carry.{Carried, Touched, Walked, CarriesOn, carriedAhead, CarriesAhead, FindsQuickly, Answers};
 ghost use Rattle.scans.specs.Quick.{QuickGoes, QuickPart, ScansQuick};
 ghost use Rattle.scans.specs.Parts.{Seam, Straight, Queued, Ringed, Within, forwardOf, ForwardPart, Finds, backwardOf, candidates, AddsEntry, withBestAt, withLast, stoppedAt, Notes, Fresh, Backs, BackwardPart, ScansBackward, Holds};
 
@@ -925,6 +925,41 @@ fn carry_ahead(
     carry.ahead(p, len - last, ring[at], ln, f, scan_counts)
 }
 
+// The find that a carried scan tells without candidates, from cleared counts; nothing where it tells none, and the counts are cleared again.
+fn find_quickly(
+    p: Params,
+    carry: Carry,
+    last: usize,
+    ring: &[u32],
+    head: usize,
+    len: usize,
+    window_counts: &[u16],
+    ln: &[f64],
+    f: &[f64],
+    scan_counts: &mut [u16],
+) -> Scanned
+    requires { ⌜ Windowed p (now ring) head len (now «window_counts») (length (now ln)) ⌝ }
+    requires { ⌜ (0 < len) × (p .window < length (now f)) × (length (now «scan_counts») ≡ 4 ^ p .kmer) ⌝ }
+    requires { ⌜ now «scan_counts» ≡ replicate (4 ^ p .kmer) 0 ⌝ }
+    requires { ⌜ Carried (setupOf p (now ln) (now f)) (drop last (window (now ring) head (len - 1))) carry ⌝ }
+    ensures { λ r. ⌜ FindsQuickly (setupOf p (now (ln .entry)) (now (f .entry))) (window (now (ring .entry)) head len) r (now («scan_counts» .exit)) ⌝ }
+{
+    if !carry.on {
+        return nothing();
+    }
+    let st = scan_quickly(p, ring, head, len, window_counts, ln, f, scan_counts);
+    let ahead = carry_ahead(p, carry, last, st, ring, head, len, ln, f, scan_counts);
+    if ahead.on {
+        return Scanned {
+            found: st.found,
+            carry: ahead,
+        };
+    }
+    let low = st.low;
+    clear_from(ring, head, len, low, scan_counts);
+    nothing()
+}
+
 // One past the index in the window from which a forward scan ends best at the newest entry, 0 where there is none, from cleared counts.
 // A carried scan is that of entries `last` to the newest but one.
 pub fn dust_backward(
@@ -947,17 +982,9 @@ pub fn dust_backward(
     requires { ⌜ Carried (setupOf p (now ln) (now f)) (drop last (window (now ring) head (len - 1))) carry ⌝ }
     ensures { λ r. ⌜ Answers (setupOf p (now (ln .entry)) (now (f .entry))) (window (now (ring .entry)) head len) (dustBackward (setupOf p (now (ln .entry)) (now (f .entry))) (window (now (ring .entry)) head len)) r (now («scan_counts» .exit)) ⌝ }
 {
-    if carry.on {
-        let st = scan_quickly(p, ring, head, len, window_counts, ln, f, scan_counts);
-        let ahead = carry_ahead(p, carry, last, st, ring, head, len, ln, f, scan_counts);
-        if ahead.on {
-            return Scanned {
-                found: st.found,
-                carry: ahead,
-            };
-        }
-        let low = st.low;
-        clear_from(ring, head, len, low, scan_counts);
+    let quick = find_quickly(p, carry, last, ring, head, len, window_counts, ln, f, scan_counts);
+    if quick.found != 0 {
+        return quick;
     }
     find_by_candidates(
         p,

@@ -1,0 +1,135 @@
+-- The find that a quick scan and a carried scan tell together (`carries-ahead`), and where they tell none (`carries-off`). Assumes nothing.
+use mathlib.Core.Path.{_≡_, refl, sym, ap, _∙_, subst}
+use mathlib.Core.Bool.{Bool, true, false, not, true≢false}
+use mathlib.Core.List.{List, [], _∷_, _++_}
+use mathlib.Core.Logic.{_≢_}
+use Prim.Native.Nat.{ℕ, suc, _+_, _-_, _^_, _/_, _<_, _≤_}
+use native.Mathlib.Omega.{arith}
+use lib.ListN.{length, getD, drop, length-append, length-drop}
+use lib.Seq.{drop-drop}
+use lib.Dec.{T}
+use lib.Ieee.{Float, lt, le}
+use Rattle.floats.specs.Arithmetic.{_⊕_, _⊖_}
+use Rattle.floats.specs.Binary64.{slack}
+use Rattle.letters.specs.Place.{Place, Below}
+use Rattle.letters.specs.Entry.{decode}
+use Rattle.scans.specs.declared.Params.{Params}
+use Rattle.scans.specs.declared.BackwardState.{BackwardState}
+use Rattle.scans.specs.declared.Carry.{Carry}
+use Rattle.scans.specs.Setup.{Setup, fAt, kmers, setupOf}
+use Rattle.scans.specs.Counts.{Counted}
+use Rattle.scans.specs.Scans.{at, Forward, dustForward, dustBackward}
+use Rattle.scans.specs.Window.{ringIndex, At, queue, window, countedValue}
+use Rattle.scans.specs.Parts.{Ringed}
+use Rattle.scans.specs.Quick.{quickOf, ScansQuick}
+use Rattle.scans.specs.Carry.{Carried, Touched, Answers, Walked, carriedAhead, CarriesAhead}
+use Rattle.scans.proofs.Counting.{count-le}
+use Rattle.scans.proofs.Ring.{ring-index-at, queue-at, window-length, window-newest}
+use Rattle.scans.proofs.Touched.{counted-touched, touched-part}
+use Rattle.scans.proofs.Walk.{queued-below}
+use Rattle.scans.proofs.CarriedScan.{carried-forward, found-carried}
+use Rattle.scans.proofs.QuickFind.{quick-inside, quick-find}
+
+-- Nothing is told.
+pub carries-off : (S : Setup) (q : List Place) (b : BackwardState) (counts : List ℕ) (r : Carry) → ScansQuick S q b counts → r .on ≡ false → CarriesAhead S q b r counts
+carries-off S q b counts r k off =
+    record { tells = λ on. absurd (true≢false (sym on ∙ off)); touched = λ _. counted-touched (kmers S) counts (drop (b .low) q) (k .over .ended .counted) }
+
+-- The quick scan b met no near tie, and its best place is at index j, where the carried scan c began.
+-- `counts` are those of the places from j on, the newest of which is e.
+module _ (S : Setup) (q₀ : List Place) (e : Place) (below : Below (kmers S) (q₀ ++ e ∷ [])) (b : BackwardState) (counts₀ : List ℕ) (k : ScansQuick S (q₀ ++ e ∷ []) b counts₀) (clear : b .tied ≡ false)
+    (j : ℕ) (found : b .found ≡ suc j) (inside : j ≤ length q₀) (from : b .low ≤ j) (c : Carry) (on : c .on ≡ true) (carried : Carried S (drop j q₀) c) (low : lt (b .best ⊕ slack) (c .best) ≡ false)
+    (counts : List ℕ) (n : Counted (kmers S) counts (drop j (q₀ ++ e ∷ []))) (l : ℕ) (nth : l ≡ length (q₀ ++ e ∷ []) - j) where
+  abbrev q : List Place
+  q = q₀ ++ e ∷ []
+
+  abbrev s : Float
+  s = c .s ⊕ (countedValue (S .ln) counts e ⊖ S .threshold)
+
+  abbrev sl : Float
+  sl = s ⊖ fAt S l
+
+  abbrev o : Forward
+  o = record { sums = record { s = s; best = sl; found = length q }; counts = counts }
+
+  told : le (c .best) sl ≡ true → Answers S q (dustBackward S q) (record { found = b .found; carry = carriedAhead S l counts e c }) counts
+  told high =
+      let forward : dustForward S q j (b .best) ≡ o =
+      carried-forward S q₀ e j inside c on carried (b .best) (subst (λ (t : Bool). T (not t)) (sym low) tt) counts below n s sl refl (ap (λ (z : ℕ). s ⊖ fAt S z) nth) (subst T (sym high) tt) in
+      let some : 0 < length q = omega (arith, length-append q₀ (e ∷ [])) in
+      let same : dustBackward S q ≡ record { find = at j; counts = counts } = quick-find S q (quickOf b) (k .scanned) clear j o found forward refl in
+      let begun : Carried S (drop j q) (carriedAhead S l counts e c) =
+      found-carried S q j (b .best) some (ap (λ (z : Forward). z .sums .found) forward) (carriedAhead S l counts e c) (ap (λ (z : Forward). z .sums .s) (sym forward)) (ap (λ (z : Forward). z .sums .best) (sym forward)) in
+      rw same
+      (record {
+        settles = record { find-is = rw found; counts-are = refl };
+        begins = λ i z.
+            let p : j ≡ i = omega arith in
+            (high, subst (λ (x : ℕ). Carried S (drop x q) (carriedAhead S l counts e c)) p begun);
+        ends = λ z. absurd (let x : ⊥ = omega arith in x);
+      })
+
+  pub ahead-told : CarriesAhead S q b (carriedAhead S l counts e c) counts
+  ahead-told =
+      let part : drop j q ≡ drop (j - b .low) (drop (b .low) q) = sym (drop-drop (j - b .low) (b .low) q ∙ ap (λ (z : ℕ). drop z q) (let x : b .low + (j - b .low) ≡ j = omega arith in x)) in
+      record {
+        tells = told;
+        touched = λ _. touched-part counts (j - b .low) (drop (b .low) q) (subst (λ (z : List Place). Touched counts z) part (counted-touched (kmers S) counts (drop j q) n));
+      }
+
+-- The same of a window in a ring.
+module _ (p : Params) (ring : List ℕ) (head len : ℕ) (ln f : List Float) (counts₀ : List ℕ) (r : Ringed ring head len (length ln) (length f) (length counts₀)) (some : 0 < len) (long : length counts₀ ≡ 4 ^ p .kmer)
+    (b : BackwardState) (k : ScansQuick (setupOf p ln f) (window ring head len) b counts₀) (clear : b .tied ≡ false) (is-found : b .found ≡ 0 → ⊥) (last : ℕ) (at-last : b .found - 1 ≡ last) where
+  abbrev S : Setup
+  S = setupOf p ln f
+
+  size : length (window ring head len) ≡ len
+  size = window-length ring head len (r .queued .head-in) (r .queued .len-in)
+
+  found-last : b .found ≡ suc last
+  found-last = let d : b .found ≢ 0 = is-found in omega arith
+
+  pub last-in : last < len
+  last-in = omega (arith, found-last, size, quick-inside S (window ring head len) (quickOf b) (k .scanned) clear (omega (arith, size)))
+
+  pub low-in : b .low ≤ last
+  low-in = omega (arith, found-last, k .over .best-read (omega (arith, found-last)))
+
+  -- The newest entry stands at index i.
+  module _ (i : ℕ) (is : i ≡ ringIndex (length ring) head (len - 1)) where
+    abbrev newest : ℕ
+    newest = getD ring i 0
+
+    pub newest-at : At (length ring) head (len - 1) i
+    newest-at = subst (λ (z : ℕ). At (length ring) head (len - 1) z) (sym is) (ring-index-at (length ring) head (len - 1) (r .queued .head-in) (omega (arith, r .queued .len-in)))
+
+    pub newest-in : newest / 2 < length counts₀
+    newest-in =
+        let e : getD (queue ring head len) (len - 1) 0 ≡ newest = queue-at ring head len (len - 1) i (r .queued .head-in) (r .queued .len-in) (omega arith) newest-at in
+        subst (λ (z : ℕ). z / 2 < length counts₀) e (r .queued .below (len - 1) (omega arith))
+
+    joins : window ring head len ≡ window ring head (len - 1) ++ decode newest ∷ []
+    joins = window-newest ring head len (r .queued .head-in) some (r .queued .len-in) ∙ ap (λ (z : ℕ). window ring head (len - 1) ++ decode (getD ring z 0) ∷ []) (sym is)
+
+    -- Entries before `last` were taken out of the counts.
+    module _ (counts : List ℕ) (w : Walked (Counted (length counts₀)) ring head (b .low) last counts₀ counts) where
+      last-counted : Counted (4 ^ p .kmer) counts (drop last (window ring head len))
+      last-counted =
+          subst (λ (m : ℕ). Counted m counts (drop last (window ring head len))) long
+          (w .left len (omega (arith, last-in)) (r .queued .len-in) (subst (λ (m : ℕ). Counted m counts₀ (drop (b .low) (window ring head len))) (sym long) (k .over .ended .counted)))
+
+      pub count-in : (x : ℕ) → getD counts x 0 < length ln
+      count-in x =
+          omega (arith, last-counted .counted x, count-le x (drop last (window ring head len)), length-drop last (window ring head len), size, r .queued .len-in, r .ln-long)
+
+      pub carries-ahead : (c c′ : Carry) → c .on ≡ true → Carried S (drop last (window ring head (len - 1))) c → lt (b .best ⊕ slack) (c .best) ≡ false
+          → c′ ≡ carriedAhead S (len - last) counts (decode newest) c → CarriesAhead S (window ring head len) b c′ counts
+      carries-ahead c c′ on carried low told =
+          let q₀ : List Place = window ring head (len - 1) in
+          let e : Place = decode newest in
+          let l₀ : length q₀ ≡ len - 1 = window-length ring head (len - 1) (r .queued .head-in) (omega (arith, r .queued .len-in)) in
+          let below : Below (4 ^ p .kmer) (window ring head len) = subst (λ (m : ℕ). Below m (window ring head len)) long (queued-below (r .queued)) in
+          subst (λ (z : List Place). CarriesAhead S z b c′ counts) (sym joins)
+          (subst (λ (z : Carry). CarriesAhead S (q₀ ++ e ∷ []) b z counts) (sym told)
+          (ahead-told S q₀ e (subst (λ (z : List Place). Below (4 ^ p .kmer) z) joins below) b counts₀ (subst (λ (z : List Place). ScansQuick S z b counts₀) joins k) clear last found-last
+          (omega (arith, last-in)) low-in c on carried low counts (subst (λ (z : List Place). Counted (4 ^ p .kmer) counts (drop last z)) joins last-counted) (len - last) (omega (arith, ap length joins, size))))
