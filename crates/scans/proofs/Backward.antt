@@ -2,7 +2,7 @@
 use mathlib.Core.Path.{_≡_, ap, _∙_, subst}
 use mathlib.Core.List.{List, [], _∷_}
 use mathlib.Core.Logic.{_≢_}
-use Prim.Native.Nat.{ℕ, zero, suc, _<_, _≤_}
+use Prim.Native.Nat.{ℕ, zero, suc, _^_, _<_, _≤_}
 use native.Mathlib.Omega.{arith}
 use lib.ListN.{length, getD}
 use lib.Ieee.{Float}
@@ -13,17 +13,15 @@ use Rattle.scans.specs.declared.BackwardState.{BackwardState}
 use Rattle.scans.specs.declared.Scanned.{Scanned as Answer}
 use Rattle.scans.specs.Setup.{Setup}
 use Rattle.scans.specs.Scans.{none, Candidate, noCandidate, Backward, withBest, tryFrom, tried, dustBackward}
-use Rattle.scans.specs.Window.{Windowed, Roomy}
+use Rattle.scans.specs.Window.{Windowed}
 use Rattle.scans.specs.Parts.{Ringed, candidates, ScansBackward, Holds}
 use Rattle.scans.specs.Carry.{Answers}
 use Rattle.scans.proofs.Candidates.{AllBelow, Scanned, backward-scanned, candidates-fit}
 use Rattle.scans.proofs.Walk.{windowed-queued}
 use Rattle.scans.proofs.Slices.{candidates-length, candidates-at}
 
-pub ringed : {p : Params} {ring : List ℕ} {head len : ℕ} {window-counts : List ℕ} {n m k a b : ℕ} (k′ : ℕ) → k′ ≡ k → Windowed p ring head len window-counts n → Roomy p m k a b → Ringed ring head len n m k′
-ringed k′ e w r =
-    let l = w .ring-is in
-    record { queued = windowed-queued w (e ∙ r .counts-is); ln-long = omega (arith, w .ln-long); f-long = omega (arith, r .f-long) }
+pub ringed : {p : Params} {ring : List ℕ} {head len : ℕ} {window-counts : List ℕ} {n m k : ℕ} → k ≡ 4 ^ p .kmer → p .window < m → Windowed p ring head len window-counts n → Ringed ring head len n m k
+ringed e l w = record { queued = windowed-queued w e; ln-long = omega (arith, w .ring-is, w .ln-long); f-long = omega (arith, w .ring-is) }
 
 below-at : (n : ℕ) (cs : List Candidate) (j : ℕ) → AllBelow n cs → j < length cs → getD cs j noCandidate .place < n
 below-at n [] j h l = absurd (let b : ⊥ = omega arith in b)

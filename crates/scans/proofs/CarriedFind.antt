@@ -16,13 +16,14 @@ use Rattle.letters.specs.Entry.{decode}
 use Rattle.scans.specs.declared.Params.{Params}
 use Rattle.scans.specs.declared.BackwardState.{BackwardState}
 use Rattle.scans.specs.declared.Carry.{Carry}
+use Rattle.scans.specs.declared.Scanned.{Scanned}
 use Rattle.scans.specs.Setup.{Setup, fAt, kmers, setupOf}
-use Rattle.scans.specs.Counts.{Counted}
+use Rattle.scans.specs.Counts.{cleared, Counted}
 use Rattle.scans.specs.Scans.{at, Forward, dustForward, dustBackward}
 use Rattle.scans.specs.Window.{ringIndex, At, queue, window, countedValue}
 use Rattle.scans.specs.Parts.{Ringed}
 use Rattle.scans.specs.Quick.{quickOf, ScansQuick}
-use Rattle.scans.specs.Carry.{Carried, Touched, Answers, Walked, carriedAhead, CarriesAhead}
+use Rattle.scans.specs.Carry.{Carried, Touched, Answers, Walked, carriedAhead, CarriesAhead, FindsQuickly}
 use Rattle.scans.proofs.Counting.{count-le}
 use Rattle.scans.proofs.Ring.{ring-index-at, queue-at, window-length, window-newest}
 use Rattle.scans.proofs.Touched.{counted-touched, touched-part}
@@ -133,3 +134,10 @@ module _ (p : Params) (ring : List ℕ) (head len : ℕ) (ln f : List Float) (co
           (subst (λ (z : Carry). CarriesAhead S (q₀ ++ e ∷ []) b z counts) (sym told)
           (ahead-told S q₀ e (subst (λ (z : List Place). Below (4 ^ p .kmer) z) joins below) b counts₀ (subst (λ (z : List Place). ScansQuick S z b counts₀) joins k) clear last found-last
           (omega (arith, last-in)) low-in c on carried low counts (subst (λ (z : List Place). Counted (4 ^ p .kmer) counts (drop last z)) joins last-counted) (len - last) (omega (arith, ap length joins, size))))
+
+-- ---- The find, or cleared counts.
+pub quickly-found : (S : Setup) (q : List Place) (b : BackwardState) (r : Carry) (counts : List ℕ) → CarriesAhead S q b r counts → r .on ≡ true → FindsQuickly S q (record { found = b .found; carry = r }) counts
+quickly-found S q b r counts k on = record { tells = λ _. k .tells on; clears = λ z. absurd (true≢false (sym on ∙ k .tells on .ends z)) }
+
+pub quickly-none : (S : Setup) (q : List Place) (r : Scanned) (counts : List ℕ) → (r .found ≡ 0) × (r .carry .on ≡ false) → counts ≡ cleared S → FindsQuickly S q r counts
+quickly-none S q r counts z clear = record { tells = λ n. absurd (n (z .0)); clears = λ _. clear }

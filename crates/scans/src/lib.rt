@@ -939,24 +939,23 @@ fn find_quickly(
     scan_counts: &mut [u16],
 ) -> Scanned
     requires { ⌜ Windowed p (now ring) head len (now «window_counts») (length (now ln)) ⌝ }
-    requires { ⌜ (0 < len) × (p .window < length (now f)) × (length (now «scan_counts») ≡ 4 ^ p .kmer) ⌝ }
-    requires { ⌜ now «scan_counts» ≡ replicate (4 ^ p .kmer) 0 ⌝ }
+    requires { ⌜ (0 < len) × (p .window < length (now f)) × (now «scan_counts» ≡ replicate (4 ^ p .kmer) 0) ⌝ }
     requires { ⌜ Carried (setupOf p (now ln) (now f)) (drop last (window (now ring) head (len - 1))) carry ⌝ }
     ensures { λ r. ⌜ FindsQuickly (setupOf p (now (ln .entry)) (now (f .entry))) (window (now (ring .entry)) head len) r (now («scan_counts» .exit)) ⌝ }
 {
-    if !carry.on {
+    if carry.on {
+        let st = scan_quickly(p, ring, head, len, window_counts, ln, f, scan_counts);
+        let ahead = carry_ahead(p, carry, last, st, ring, head, len, ln, f, scan_counts);
+        if ahead.on {
+            return Scanned {
+                found: st.found,
+                carry: ahead,
+            };
+        }
+        let low = st.low;
+        clear_from(ring, head, len, low, scan_counts);
         return nothing();
     }
-    let st = scan_quickly(p, ring, head, len, window_counts, ln, f, scan_counts);
-    let ahead = carry_ahead(p, carry, last, st, ring, head, len, ln, f, scan_counts);
-    if ahead.on {
-        return Scanned {
-            found: st.found,
-            carry: ahead,
-        };
-    }
-    let low = st.low;
-    clear_from(ring, head, len, low, scan_counts);
     nothing()
 }
 

@@ -79,7 +79,7 @@ try-candidates-requires c κs =
     let s = start k .pre in
     let e = k .scan-backward .kept .1 .1 .1 .1 .1 .1 .1 in
     let f = n .push-best .kept in (
-      ringed _ (cleared-at d .clear-from .kept .1 .1 .1 .1 .0 ∙ e .0) (s .0) (s .1 .0),
+      ringed (cleared-at d .clear-from .kept .1 .1 .1 .1 .0 ∙ e .0 ∙ s .1 .0 .counts-is) (s .1 .0 .f-long) (s .0),
       (
         cleared (cleared-at d),
         all-held _ _ _ _ _ _ (k .scan-backward .ensures) _ (long (s .0)) (s .1 .1 .0) (d .if1 .left) _ _ _ (n .push-best .ensures)
