@@ -1,5 +1,5 @@
 -- The backward scan put together: nothing found, the best place with the candidates, and the candidates tried. Assumes nothing.
-use mathlib.Core.Path.{_≡_, ap, _∙_, subst}
+use mathlib.Core.Path.{_≡_, ap, subst}
 use mathlib.Core.List.{List, [], _∷_}
 use mathlib.Core.Logic.{_≢_}
 use Prim.Native.Nat.{ℕ, zero, suc, _^_, _<_, _≤_}

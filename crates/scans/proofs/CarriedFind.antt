@@ -23,7 +23,7 @@ use Rattle.scans.specs.Scans.{at, Forward, dustForward, dustBackward}
 use Rattle.scans.specs.Window.{ringIndex, At, queue, window, countedValue}
 use Rattle.scans.specs.Parts.{Ringed}
 use Rattle.scans.specs.Quick.{quickOf, ScansQuick}
-use Rattle.scans.specs.Carry.{Carried, Touched, Answers, Walked, carriedAhead, CarriesAhead, FindsQuickly}
+use Rattle.scans.specs.Carry.{noCarry, Carried, Touched, Answers, Walked, carriedAhead, CarriesAhead, FindsQuickly}
 use Rattle.scans.proofs.Counting.{count-le}
 use Rattle.scans.proofs.Ring.{ring-index-at, queue-at, window-length, window-newest}
 use Rattle.scans.proofs.Touched.{counted-touched, touched-part}
@@ -32,9 +32,9 @@ use Rattle.scans.proofs.CarriedScan.{carried-forward, found-carried}
 use Rattle.scans.proofs.QuickFind.{quick-inside, quick-find}
 
 -- Nothing is told.
-pub carries-off : (S : Setup) (q : List Place) (b : BackwardState) (counts : List ℕ) (r : Carry) → ScansQuick S q b counts → r .on ≡ false → CarriesAhead S q b r counts
+pub carries-off : (S : Setup) (q : List Place) (b : BackwardState) (counts : List ℕ) (r : Carry) → ScansQuick S q b counts → r ≡ noCarry → CarriesAhead S q b r counts
 carries-off S q b counts r k off =
-    record { tells = λ on. absurd (true≢false (sym on ∙ off)); touched = λ _. counted-touched (kmers S) counts (drop (b .low) q) (k .over .ended .counted) }
+    record { tells = λ on. absurd (true≢false (sym on ∙ ap (λ (z : Carry). z .on) off)); touched = λ _. counted-touched (kmers S) counts (drop (b .low) q) (k .over .ended .counted) }
 
 -- The quick scan b met no near tie, and its best place is at index j, where the carried scan c began.
 -- `counts` are those of the places from j on, the newest of which is e.

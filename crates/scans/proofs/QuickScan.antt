@@ -9,7 +9,7 @@ use lib.ListN.{length, getD, length-append}
 use lib.Seq.{getD-append-seam}
 use lib.Dec.{T, T-not, not-T, eqb, ltb, nltb→le}
 use borrow.Author.Tests.{le-ltb, eq-eqb, ne-eqb}
-use lib.Ieee.{Float, binary64, add, sub, neg, lt, le}
+use lib.Ieee.{Float, binary64, neg, lt, le}
 use lib.Ieee.Fits.{and-i, and-l, and-r}
 use Rattle.floats.specs.Arithmetic.{_⊕_, _⊖_}
 use Rattle.floats.specs.Binary64.{zero64, tiny, nearZero}
@@ -174,13 +174,6 @@ first-tried S q cs n j m counts e h =
     rw (e, z, y)
 
 module _ (S : Setup) (q : List Place) (r : Quick) (b : Backward) (g : Agrees r b) where
-  -- No best place: nothing is tried.
-  pub none-tried : r .found ≡ 0 → tried S q b ≡ record { find = none; counts = b .counts }
-  unfolding tried
-  none-tried e =
-      let z : b .found ≡ 0 = g .found-same ∙ e in
-      rw z
-
   -- The best place, at index j, is tried first.
   pub best-tried : (j : ℕ) → r .found ≡ suc j → dustForward S q j (r .best) .sums .found ≡ length q → tried S q b ≡ record { find = at j; counts = dustForward S q j (r .best) .counts }
   unfolding tried

@@ -11,7 +11,7 @@ use lib.ListN.{length, getD, set, take, drop, length-append, length-drop, length
 use lib.Seq.{ext-getD, getD-at, getD-take, getD-drop, getD-append-add, getD-set-same, getD-set-other, set-getD}
 use lib.Dec.{ltb}
 use borrow.Author.Tests.{ltb-true, ltb-false}
-use Rattle.letters.specs.Place.{Place, ambiguous}
+use Rattle.letters.specs.Place.{ambiguous}
 use Rattle.letters.specs.Entry.{decode, decoded}
 use Rattle.letters.proofs.Entries.{decoded-length, decoded-at}
 use Rattle.scans.specs.Window.{queue, ringIndex, At, window}

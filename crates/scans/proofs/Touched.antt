@@ -8,7 +8,7 @@ use mathlib.Core.List.{List, [], _∷_, _++_, append-nil}
 use lib.ListN.{length, getD, set, drop, replicate, length-replicate}
 use lib.Seq.{getD-set-other, ext-getD, append-snoc}
 use lib.Dec.{eqb}
-use lib.Ieee.{Float, binary64, add, sub, lt}
+use lib.Ieee.{Float, lt}
 use borrow.Author.Tests.{eqb-true, eqb-false}
 use Rattle.floats.specs.Arithmetic.{_⊕_, _⊖_}
 use Rattle.floats.specs.Binary64.{slack}

@@ -5,14 +5,14 @@ use mathlib.Core.List.{List}
 use Prim.Native.Nat.{ℕ, suc, _+_, _-_, _<_, _≤_}
 use native.Mathlib.Numerals.{add-one}
 use native.Mathlib.Omega.{arith}
-use lib.ListN.{length, getD, drop, replicate}
+use lib.ListN.{length, getD, drop}
 use lib.Dec.{eqb}
 use lib.Ieee.{Float, nan}
 use borrow.Author.Tests.{lt-ltb, le-ltb, eq-eqb, ne-eqb}
 use Rattle.letters.specs.Place.{Place}
 use Rattle.scans.specs.declared.ForwardState.{ForwardState}
 use Rattle.scans.specs.declared.Scanned.{Scanned}
-use Rattle.scans.specs.Setup.{Setup, kmers}
+use Rattle.scans.specs.Setup.{Setup}
 use Rattle.scans.specs.Counts.{cleared}
 use Rattle.scans.specs.Scans.{none, at, Outcome, ForwardSums, Candidate, candidate, noCandidate, larger, dustForward, tryFrom}
 use Rattle.scans.specs.Parts.{Finds, candidates}

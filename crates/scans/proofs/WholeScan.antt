@@ -7,7 +7,7 @@ use mathlib.Core.Bool.{Bool, true, false, cond, not}
 use mathlib.Core.List.{List, [], _∷_, _++_}
 use lib.ListN.{length}
 use lib.Dec.{T, T-not}
-use lib.Ieee.{Float, nan, inf, fin, binary64, add, sub, lt, le}
+use lib.Ieee.{Float, nan, inf, fin, lt, le}
 use Rattle.floats.specs.Arithmetic.{_⊕_, _⊖_}
 use Rattle.floats.proofs.Order.{le-trans, le-right, lt-le-trans, lt-past}
 use Rattle.letters.specs.Place.{Place}
@@ -111,11 +111,10 @@ module _ (S : Setup) where
       last [] f = sym (whole-step e [] l i a counts)
       last (x ∷ rest) f = absurd (let g = judged-found a (sum a counts e) (score a counts e l) i h in omega arith)
 
-  -- ---- Where the places stand matters to no sum, best score or count.
+  -- ---- Where the places stand matters to no sum and no best score.
   pub record Alike (x y : Forward) : Type 0 where
     pub s-same : x .sums .s ≡ y .sums .s
     pub best-same : x .sums .best ≡ y .sums .best
-    pub counts-same : x .counts ≡ y .counts
 
   pub judged-s : (a : ForwardSums) (s sl : Float) (i : ℕ) → forwardJudged a s sl i .s ≡ s
   judged-s a s sl i =
@@ -130,7 +129,7 @@ module _ (S : Setup) where
 
   pub index-free : (es : List Place) (l i k : ℕ) (a b : ForwardSums) (counts : List ℕ) → a .s ≡ b .s → a .best ≡ b .best → Alike (whole es l i a counts) (whole es l k b counts)
   unfolding forwardFrom
-  index-free [] l i k a b counts p q = record { s-same = p; best-same = q; counts-same = refl }
+  index-free [] l i k a b counts p q = record { s-same = p; best-same = q }
   index-free (e ∷ es) l i k a b counts p q =
       let ps : sum a counts e ≡ sum b counts e = ap (λ (z : Float). z ⊕ (value S counts e ⊖ S .threshold)) p in
       let pb : cond (le (a .best) (score a counts e l)) (score a counts e l) (a .best) ≡ cond (le (b .best) (score b counts e l)) (score b counts e l) (b .best) = rw (ps, q) in

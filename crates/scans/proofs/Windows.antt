@@ -1,16 +1,15 @@
 -- What a window in a ring gives a scan: its entries by their index, as places, and that their k-mers and counts lie in range. Assumes nothing.
-use mathlib.Core.Path.{_≡_, sym, ap, _∙_, subst}
+use mathlib.Core.Path.{_≡_, subst}
 use mathlib.Core.List.{List}
-use Prim.Native.Nat.{ℕ, _/_, _<_, _≤_}
+use Prim.Native.Nat.{ℕ, _/_, _<_}
 use native.Mathlib.Omega.{arith}
 use lib.ListN.{length, getD}
 use Rattle.letters.specs.Place.{Place, ambiguous}
 use Rattle.letters.specs.Entry.{decode}
 use Rattle.scans.specs.declared.Params.{Params}
-use Rattle.scans.specs.Counts.{count}
-use Rattle.scans.specs.Window.{At, queue, window, ringIndex, Windowed}
+use Rattle.scans.specs.Window.{At, queue, window, Windowed}
 use Rattle.scans.proofs.Counting.{count-le}
-use Rattle.scans.proofs.Ring.{ring-index-at, queue-at, window-at, window-length}
+use Rattle.scans.proofs.Ring.{queue-at, window-at, window-length}
 
 module _ {p : Params} {ring : List ℕ} {head len : ℕ} {counts : List ℕ} {n : ℕ} (w : Windowed p ring head len counts n) where
   abbrev q : List Place

@@ -1,11 +1,13 @@
--- The forward scan of the last find, carried on letter by letter, and the scan counts that a scan leaves.
+-- A fast form of the forward scan of the paper, 'Step and scans': the last find's, carried on letter by letter, equals the forward scan over its places that no limit stops.
+-- And the scan counts that a scan leaves.
 use mathlib.Core.Path.{_≡_}
 use mathlib.Core.Bool.{true, false, cond}
 use mathlib.Core.List.{List}
 use Prim.Native.Nat.{ℕ, suc, _≤_}
 use lib.ListN.{length, getD, drop}
-use lib.Ieee.{Float, binary64, add, sub, le, inf}
+use lib.Ieee.{Float, le, inf}
 use Rattle.floats.specs.Arithmetic.{_⊕_, _⊖_}
+use Rattle.floats.specs.Binary64.{zero64}
 use Rattle.letters.specs.Place.{Place}
 use Rattle.scans.specs.declared.Carry.{Carry}
 use Rattle.scans.specs.declared.Scanned.{Scanned}
@@ -18,6 +20,10 @@ use Rattle.scans.specs.Window.{window, countedValue, findOf}
 -- The forward scan over all of the places: nothing is above its limit, so it is never stopped.
 abbrev pub wholeForward : Setup → List Place → Forward
 wholeForward S es = forwardFrom S (inf false) es 1 0 forwardStart (cleared S)
+
+-- No scan is carried.
+abbrev pub noCarry : Carry
+noCarry = record { on = false; s = zero64; best = zero64 }
 
 -- While it is on, the carried sums are those of the forward scan over all of the places.
 pub record Carried (S : Setup) (es : List Place) (c : Carry) : Type 0 where

@@ -1,4 +1,4 @@
--- How often a k-mer stands among some places, and counts kept in a list, one for each k-mer.
+-- The paper, 'Records' and 'Step and scans': window counts and scan counts. How often a k-mer stands among some places, and counts kept in a list, one for each k-mer.
 use mathlib.Core.Path.{_≡_}
 use Prim.Native.Nat.{ℕ, _+_, _-_}
 use mathlib.Core.Bool.{cond}

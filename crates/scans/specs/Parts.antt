@@ -1,4 +1,4 @@
--- The scans over the straight parts of the ring: what their loops ask and answer, and the code's states as the definitions' records.
+-- The scans of the paper, 'Step and scans', over the straight parts of the ring, which one after the other equal the scan over the window: what their loops ask and answer, and the code's states as the definitions' records.
 use mathlib.Core.Path.{_≡_}
 use mathlib.Core.Bool.{Bool, true, false, cond}
 use mathlib.Core.List.{List, [], _∷_, _++_}

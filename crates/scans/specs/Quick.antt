@@ -1,10 +1,11 @@
--- The backward scan without candidates. It is given up at a near tie, a score less than 1e-9 below the best; where it meets none, the candidate to try first is the best place.
+-- A fast form of the backward scan of the paper, 'Step and scans', without candidates. A near tie, a score less than 1e-9 below the best, stops it.
+-- Where it meets none, its best score and best place equal that scan's, and the candidate to try first is the best place.
 use mathlib.Core.Path.{_≡_}
 use Prim.Native.Nat.{ℕ, zero, suc, _+_, _-_, _<_}
 use mathlib.Core.Bool.{Bool, true, false, cond, not, _&&_}
 use mathlib.Core.List.{List}
 use lib.ListN.{length, getD, drop}
-use lib.Ieee.{Float, binary64, add, sub, le, lt}
+use lib.Ieee.{Float, le, lt}
 use Rattle.floats.specs.Arithmetic.{_⊕_, _⊖_}
 use Rattle.floats.specs.Binary64.{zero64, tiny}
 use Rattle.letters.specs.Place.{Place, ambiguous}

@@ -1,4 +1,4 @@
--- The window in a ring of w numbers: `len` entries, the oldest at `head`; what the scans ask of it and how they answer.
+-- The paper, 'Records': the queue, a ring of w numbers with `len` entries, the oldest at `head`. The window in it, what the scans ask of it and how they answer.
 use mathlib.Core.Path.{_≡_}
 use Prim.Native.Nat.{ℕ, zero, suc, _+_, _-_, _/_, _^_, _<_, _≤_}
 use mathlib.Core.Bool.{Bool, cond}

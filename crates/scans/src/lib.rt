@@ -11,9 +11,9 @@ ghost use Rattle.floats.specs.Arithmetic.{_⊖_};
 ghost use Rattle.letters.specs.Entry.{decode};
 ghost use Rattle.scans.specs.Setup.{dropLimit, maxTest, setupOf};
 ghost use Rattle.scans.specs.Counts.{lower, Counted};
-ghost use Rattle.scans.specs.Scans.{maxSteps, ifBackward, forwardStart, forwardJudged, dustForward, candidate, backwardStart, isNoted, withBest, larger, tryFrom, dustBackward};
-ghost use Rattle.scans.specs.Window.{ringIndex, window, countedValue, Windowed, Roomy, CountsEntry, Extends, Tells};
-ghost use Rattle.scans.specs.Carry.{Carried, Touched, Walked, CarriesOn, carriedAhead, CarriesAhead, FindsQuickly, Answers};
+ghost use Rattle.scans.specs.Scans.{maxSteps, ifBackward, forwardStart, forwardJudged, dustForward, candidate, isNoted, withBest, larger, tryFrom, dustBackward};
+ghost use Rattle.scans.specs.Window.{ringIndex, window, countedValue, Windowed, Roomy, CountsEntry, Extends};
+ghost use Rattle.scans.specs.Carry.{noCarry, Carried, Touched, Walked, CarriesOn, carriedAhead, CarriesAhead, FindsQuickly, Answers};
 ghost use Rattle.scans.specs.Quick.{QuickGoes, QuickPart, ScansQuick};
 ghost use Rattle.scans.specs.Parts.{Seam, Straight, Queued, Ringed, Within, forwardOf, ForwardPart, Finds, backwardOf, candidates, AddsEntry, withBestAt, withLast, stoppedAt, Notes, Fresh, Backs, BackwardPart, ScansBackward, Holds};
 
@@ -387,6 +387,17 @@ pub struct Scanned {
 }
 
 impl Carry {
+    // No scan is carried.
+    pub fn none() -> Self
+        ensures { λ r. ⌜ r ≡ noCarry ⌝ }
+    {
+        Self {
+            on: false,
+            s: 0.0,
+            best: 0.0,
+        }
+    }
+
     // One entry more, the l-th of the scan, which is counted.
     pub fn next(
         mut self,
@@ -403,7 +414,7 @@ impl Carry {
         let v = count_entry(scan_counts, ln, entry);
         self.s = self.s + (v - p.threshold);
         let sl = self.s - f[l];
-        if sl >= self.best {
+        if self.best <= sl {
             self.best = sl;
         }
         self
@@ -429,13 +440,6 @@ impl Carry {
             s: s,
             best: sl,
         }
-    }
-
-    fn off(mut self) -> Self
-        ensures { λ r. ⌜ r .on ≡ false ⌝ }
-    {
-        self.on = false;
-        self
     }
 }
 
@@ -712,11 +716,7 @@ fn nothing() -> Scanned
 {
     Scanned {
         found: 0,
-        carry: Carry {
-            on: false,
-            s: 0.0,
-            best: 0.0,
-        },
+        carry: Carry::none(),
     }
 }
 
@@ -843,12 +843,18 @@ fn quick_part(
     while from < i {
         i -= 1;
         let fl = f[len - i];
-        st = st.add_entry(p.threshold, window_counts, ln, ring[head + i - turn], scan_counts);
+        st = st.add_entry(
+            p.threshold,
+            window_counts,
+            ln,
+            ring[head + i - turn],
+            scan_counts,
+        );
         if st.sw - fl < 0.0 {
             return st.stopped(i, false);
         }
         let sl = st.s - fl;
-        if sl >= st.best {
+        if st.best <= sl {
             st = st.raised(sl, i);
             continue;
         }
@@ -879,11 +885,37 @@ fn scan_quickly(
     ensures { λ r. ⌜ ScansQuick (setupOf p (now (ln .entry)) (now (f .entry))) (window (now (ring .entry)) head len) r (now («scan_counts» .exit)) ⌝ }
 {
     let mid = seam(ring.len(), head, len, 0);
-    let newer = quick_part(p, ring, head, len, ring.len(), mid, len, BackwardState::new(), window_counts, ln, f, scan_counts);
+    let newer = quick_part(
+        p,
+        ring,
+        head,
+        len,
+        ring.len(),
+        mid,
+        len,
+        BackwardState::new(),
+        window_counts,
+        ln,
+        f,
+        scan_counts,
+    );
     if newer.done {
         return newer;
     }
-    quick_part(p, ring, head, len, 0, 0, mid, newer, window_counts, ln, f, scan_counts)
+    quick_part(
+        p,
+        ring,
+        head,
+        len,
+        0,
+        0,
+        mid,
+        newer,
+        window_counts,
+        ln,
+        f,
+        scan_counts,
+    )
 }
 
 // After a quick scan: the carried scan with the newest entry, on where that tells a find.
@@ -908,16 +940,16 @@ fn carry_ahead(
 {
     let found = st.found;
     if st.tied {
-        return carry.off();
+        return Carry::none();
     }
     if found == 0 {
-        return carry.off();
+        return Carry::none();
     }
     if found - 1 != last {
-        return carry.off();
+        return Carry::none();
     }
     if carry.best > st.best + 1e-6 {
-        return carry.off();
+        return Carry::none();
     }
     let low = st.low;
     uncount(ring, head, low, last, scan_counts);
@@ -981,7 +1013,18 @@ pub fn dust_backward(
     requires { ⌜ Carried (setupOf p (now ln) (now f)) (drop last (window (now ring) head (len - 1))) carry ⌝ }
     ensures { λ r. ⌜ Answers (setupOf p (now (ln .entry)) (now (f .entry))) (window (now (ring .entry)) head len) (dustBackward (setupOf p (now (ln .entry)) (now (f .entry))) (window (now (ring .entry)) head len)) r (now («scan_counts» .exit)) ⌝ }
 {
-    let quick = find_quickly(p, carry, last, ring, head, len, window_counts, ln, f, scan_counts);
+    let quick = find_quickly(
+        p,
+        carry,
+        last,
+        ring,
+        head,
+        len,
+        window_counts,
+        ln,
+        f,
+        scan_counts,
+    );
     if quick.found != 0 {
         return quick;
     }

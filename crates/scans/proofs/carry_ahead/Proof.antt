@@ -1,9 +1,7 @@
-use mathlib.Core.Path.{_≡_, refl, ap, _∙_}
-use Prim.Native.Nat.{_-_, _/_, _<_, _≤_}
+use mathlib.Core.Path.{refl}
+use Prim.Native.Nat.{_-_, _<_, _≤_}
 use native.Mathlib.Omega.{arith}
-use lib.ListN.{length, getD}
-use Rattle.scans.specs.Carry.{CarriesAhead}
-use Rattle.scans.proofs.Ring.{ring-index-at}
+use lib.ListN.{length}
 use Rattle.scans.proofs.ForwardScan.{queued-less}
 use Rattle.scans.proofs.CarriedFind.{carries-off, last-in, low-in, newest-at, newest-in, count-in, carries-ahead}
 use borrow.Author.Needs.{needs}
@@ -12,7 +10,7 @@ use Rattle.scans.proofs.carry_ahead.Tie as tie
 use Rattle.scans.proofs.carry_ahead.Reads as reads
 use Rattle.scans.proofs.carry_ahead.Lts as lts
 use Rattle.scans.proofs.Carry.ahead.Reads as ahead-reads
-use Rattle.scans.proofs.Carry.off.Reads as off-reads
+use Rattle.scans.proofs.Carry.none.Reads as none-reads
 use Rattle.scans.proofs.ring_index.Reads as ring-index-reads
 use Rattle.scans.proofs.uncount.Reads as uncount-reads
 
@@ -53,32 +51,32 @@ newest c =
     let n = a .pre .1 .0 in
     newest-at (a .args .p) _ _ _ (a .args .ln .now) (a .args .f .now) _ (a .pre .0) (n .0) (n .2) _ (a .pre .1 .1 .0) (g .before .if1 .left) (g .if2 .left) _ (d .before .before .before .if3 .left) _ (c .ring-index .ensures) .0
 
-off-requires : tie.Need-off-requires
-off-requires c κs = search needs
+none-requires : tie.Need-none-requires
+none-requires c κs = search needs
 
 returns : tie.Need-returns
-returns c = carries-off _ _ _ _ _ (c .before .before .before .before .before .before .pre .1 .1 .0) (c .off .ensures)
+returns c = carries-off _ _ _ _ _ (c .before .before .before .before .before .before .pre .1 .1 .0) (c .none .ensures)
 
-off-requires-2 : tie.Need-off-requires-2
-off-requires-2 c κs = search needs
+none-requires-2 : tie.Need-none-requires-2
+none-requires-2 c κs = search needs
 
 returns-2 : tie.Need-returns-2
-returns-2 c = carries-off _ _ _ _ _ (start (c .before .before) .pre .1 .1 .0) (c .off2 .ensures)
+returns-2 c = carries-off _ _ _ _ _ (start (c .before .before) .pre .1 .1 .0) (c .none2 .ensures)
 
 sub-if3 : tie.Need-sub-if3
 sub-if3 c = search needs
 
-off-requires-3 : tie.Need-off-requires-3
-off-requires-3 c κs = search needs
+none-requires-3 : tie.Need-none-requires-3
+none-requires-3 c κs = search needs
 
 returns-3 : tie.Need-returns-3
-returns-3 c = carries-off _ _ _ _ _ (start (c .before .before .before) .pre .1 .1 .0) (c .off3 .ensures)
+returns-3 c = carries-off _ _ _ _ _ (start (c .before .before .before) .pre .1 .1 .0) (c .none3 .ensures)
 
-off-requires-4 : tie.Need-off-requires-4
-off-requires-4 c κs = search needs
+none-requires-4 : tie.Need-none-requires-4
+none-requires-4 c κs = search needs
 
 returns-4 : tie.Need-returns-4
-returns-4 c = carries-off _ _ _ _ _ (start (c .before .before .before .before .before .before) .pre .1 .1 .0) (c .off4 .ensures)
+returns-4 c = carries-off _ _ _ _ _ (start (c .before .before .before .before .before .before) .pre .1 .1 .0) (c .none4 .ensures)
 
 uncount-requires : tie.Need-uncount-requires
 uncount-requires c κs =
@@ -127,20 +125,20 @@ returns-5 c =
     let a = begun d in
     let n = a .pre .1 .0 in
     carries-ahead (a .args .p) _ _ _ (a .args .ln .now) (a .args .f .now) _ (a .pre .0) (n .0) (n .2) _ (a .pre .1 .1 .0) (g .before .if1 .left) (g .if2 .left) _ (d .before .before .before .if3 .left) _ (i .ring-index .ensures) _ (u .uncount .ensures)
-        (a .args .carry) _ (n .1) (a .pre .1 .1 .1) (d .if4 .left) (c .ahead .ensures)
+    (a .args .carry) _ (n .1) (a .pre .1 .1 .1) (d .if4 .left) (c .ahead .ensures)
 
 pub carry-ahead-spec : {M : Type 1} → statement M
 carry-ahead-spec =
     tie.close
     (tie.spec
-    off-requires
+    none-requires
     returns
-    off-requires-2
+    none-requires-2
     returns-2
     sub-if3
-    off-requires-3
+    none-requires-3
     returns-3
-    off-requires-4
+    none-requires-4
     returns-4
     uncount-requires
     sub-ring-index

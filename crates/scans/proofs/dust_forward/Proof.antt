@@ -1,9 +1,7 @@
-use mathlib.Core.Path.{_≡_, refl, ap, _∙_}
-use mathlib.Core.List.{List}
-use Prim.Native.Nat.{ℕ, _^_}
+use mathlib.Core.Path.{refl}
+use Prim.Native.Nat.{_^_}
 use native.Mathlib.Omega.{arith}
 use borrow.Author.Needs.{needs}
-use lib.ListN.{replicate}
 use Rattle.scans.proofs.ForwardScan.{ringed-less, within-cleared, before-seam, past-seam, forward-stopped, forward-both}
 use Rattle.scans.proofs.dust_forward.Statement.{statement}
 use Rattle.scans.proofs.dust_forward.Tie as tie

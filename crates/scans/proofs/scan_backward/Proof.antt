@@ -1,8 +1,6 @@
-use mathlib.Core.Path.{_≡_, refl, ap, _∙_}
-use mathlib.Core.List.{List}
-use Prim.Native.Nat.{ℕ, _^_}
+use mathlib.Core.Path.{_∙_}
+use Prim.Native.Nat.{_^_}
 use native.Mathlib.Omega.{arith}
-use lib.ListN.{replicate}
 use Rattle.scans.proofs.Windows.{long}
 use Rattle.scans.proofs.ForwardScan.{before-seam, past-seam}
 use Rattle.scans.proofs.BackwardScan.{roomy-as, backs-start, scans-stopped, scans-both}
