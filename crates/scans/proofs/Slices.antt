@@ -1,6 +1,5 @@
 -- The candidates that two slices hold: how many, which, and one more. Assumes nothing.
 use mathlib.Core.Path.{_≡_, refl, sym, ap, ap₂, _∙_}
-use mathlib.Core.Bool.{false}
 use mathlib.Core.List.{List, [], _∷_, _++_}
 use mathlib.Core.Logic.{_≢_, _⊎_, inl, inr}
 use Prim.Native.Nat.{ℕ, zero, suc, _+_, _-_, _<_, _≤_}
@@ -9,11 +8,9 @@ use native.Mathlib.Numerals.{add-one}
 use native.Mathlib.Omega.{arith}
 use lib.ListN.{length, getD, set, length-append, List·getD-append}
 use lib.Seq.{getD-at, getD-set-same, getD-set-other}
-use lib.Dec.{eqb}
 use lib.Ieee.{Float, nan}
-use borrow.Author.Tests.{lt-ltb, le-ltb, eq-eqb, ne-eqb}
-use Rattle.scans.specs.Scans.{Candidate, candidate, noCandidate, withBest}
-use Rattle.scans.specs.Parts.{candidates}
+use Rattle.scans.specs.Scans.{Candidate, candidate, noCandidate}
+use Rattle.scans.specs.Search.{candidates}
 
 pub candidates-length : (n : ℕ) (places : List ℕ) (scores : List Float) → length (candidates n places scores) ≡ n
 unfolding candidates
@@ -48,25 +45,3 @@ candidates-push n places scores p x h k =
     ap (λ (z : ℕ). candidates z (set places n p) (set scores n x)) (add-one n)
     ∙ ap₂ (λ (l : List Candidate) (c : Candidate). l ++ c ∷ []) (candidates-kept n n places scores p x (omega arith))
     (ap₂ candidate (getD-set-same places n p 0 h) (getD-set-same scores n x nan k))
-
--- ---- The best place, one past which is `found`, joins them or not.
-module _ (best : Float) (found n : ℕ) (places : List ℕ) (scores : List Float) where
-  abbrev held : List Candidate
-  held = candidates n places scores
-
-  last-place : 0 < n → getD held (length held - 1) noCandidate .place ≡ getD places (n - 1) 0
-  last-place h =
-      ap (λ (z : ℕ). getD held (z - 1) noCandidate .place) (candidates-length n places scores) ∙ ap (λ (c : Candidate). c .place) (candidates-at n places scores (n - 1) (omega arith))
-
-  pub best-first : n ≡ 0 → withBest best found held ≡ held ++ candidate (found - 1) best ∷ []
-  best-first z = rw (eq-eqb (length held) 0 (candidates-length n places scores ∙ z))
-
-  module _ (some : n ≡ 0 → ⊥) where
-    not-none : eqb (length held) 0 ≡ false
-    not-none = ne-eqb (length held) 0 (λ (z : length held ≡ 0). some (sym (candidates-length n places scores) ∙ z))
-
-    pub best-older : found ≤ getD places (n - 1) 0 → withBest best found held ≡ held ++ candidate (found - 1) best ∷ []
-    best-older h = rw (not-none, lt-ltb found (getD held (length held - 1) noCandidate .place + 1) (omega (arith, last-place (let d : n ≢ 0 = some in omega arith))))
-
-    pub best-newer : getD places (n - 1) 0 < found → withBest best found held ≡ held
-    best-newer h = rw (not-none, le-ltb found (getD held (length held - 1) noCandidate .place + 1) (omega (arith, last-place (let d : n ≢ 0 = some in omega arith))))
