@@ -21,6 +21,10 @@ use Rattle.scans.specs.Carry.{Answers}
 abbrev pub candidateOf : ForwardPosition → Candidate
 candidateOf c = candidate (c .pos) (c .«max_score»)
 
+-- What stands past the end of a slice.
+abbrev pub noPosition : ForwardPosition
+noPosition = record { pos = 0; «max_score» = nan }
+
 -- The first n candidates that two slices hold.
 unfoldable pub candidates : ℕ → List ℕ → List Float → List Candidate
 candidates zero places scores = []

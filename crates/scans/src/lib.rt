@@ -4,7 +4,7 @@ ghost use mathlib.Core.Path.{_≡_};
 ghost use mathlib.Core.Bool.{true, false, cond, not, _&&_, _||_};
 ghost use mathlib.Core.List.{List, [], _∷_, _++_};
 ghost use Prim.Native.Nat.{ℕ, _+_, _-_, _/_, _%_, _^_, _<_, _≤_};
-ghost use lib.ListN.{length, getD, drop, replicate};
+ghost use lib.ListN.{length, getD, set, drop, replicate};
 ghost use lib.Dec.{eqb, ltb};
 ghost use lib.Ieee.{Float, lt};
 ghost use Rattle.floats.specs.Arithmetic.{_⊖_};
@@ -16,7 +16,7 @@ ghost use Rattle.scans.specs.Window.{ringIndex, window, countedValue, Wi
 ghost use Rattle.scans.specs.Carry.{noCarry, Carried, Touched, Walked, CarriesOn, carriedAhead, CarriesAhead, FindsQuickly, Answers};
 ghost use Rattle.scans.specs.Quick.{QuickGoes, QuickPart, ScansQuick};
 ghost use Rattle.scans.specs.Parts.{Seam, Straight, Queued, Ringed, Within, forwardOf, ForwardPart, Finds, backwardOf, AddsEntry, withBestAt, withLast, pausedAt, stoppedAt, Fresh, Backs, BackwardPart};
-ghost use Rattle.scans.specs.Search.{candidateOf, candidates, FreshSearch, notingAt, goneOn, finishedOf, Searches, NextCandidate, ScansBackward, Holds, FreshTrial, NextTrial};
+ghost use Rattle.scans.specs.Search.{candidateOf, noPosition, candidates, FreshSearch, notingAt, goneOn, finishedOf, Searches, NextCandidate, ScansBackward, Holds, FreshTrial, NextTrial};
 
 // How many places long a fall below the best may last before the backward scan stops; `Off` is the whole window.
 pub enum Xdrop {
@@ -775,6 +775,20 @@ impl Search {
         let on = backward_on(p, ring, head, len, scan, window_counts, ln, f, scan_counts);
         self.gone_on(on)
     }
+}
+
+fn candidate_at(candidates: &[ForwardPosition], i: usize) -> ForwardPosition
+    requires { ⌜ i < length (now candidates) ⌝ }
+    ensures { λ r. ⌜ r ≡ getD (now (candidates .entry)) i noPosition ⌝ }
+{
+    candidates[i]
+}
+
+fn set_candidate(candidates: &mut [ForwardPosition], i: usize, c: ForwardPosition)
+    requires { ⌜ i < length (now candidates) ⌝ }
+    ensures { λ _. ⌜ now (candidates .exit) ≡ set (now (candidates .entry)) i c ⌝ }
+{
+    candidates[i] = c;
 }
 
 // A candidate at index i.
