@@ -1,4 +1,4 @@
--- The backward scan put together: what the slices hold can be tried, and its outcome is the definition's. Assumes nothing.
+-- The backward scan put together: what the slice holds can be tried, and its outcome is the definition's. Assumes nothing.
 use mathlib.Core.Path.{_≡_, sym, ap, ap₂, _∙_, subst}
 use mathlib.Core.Bool.{Bool, true, false, cond}
 use mathlib.Core.List.{List, [], _∷_}
@@ -6,25 +6,24 @@ use Prim.Native.Nat.{ℕ, zero, suc, _^_, _<_, _≤_}
 use native.Mathlib.Omega.{arith}
 use lib.ListN.{length, getD}
 use lib.Dec.{eqb}
-use lib.Ieee.{Float}
 use Rattle.letters.specs.Place.{Place}
 use Rattle.scans.specs.declared.Params.{Params}
+use Rattle.scans.specs.declared.ForwardPosition.{ForwardPosition}
 use Rattle.scans.specs.declared.Scanned.{Scanned as Answer}
 use Rattle.scans.specs.Setup.{Setup}
 use Rattle.scans.specs.Counts.{cleared}
 use Rattle.scans.specs.Scans.{none, Outcome, Candidate, noCandidate, backwardStart, Backward, backwardFrom, withBest, tryFrom, tried, dustBackward}
 use Rattle.scans.specs.Window.{Windowed, Roomy}
 use Rattle.scans.specs.Parts.{Ringed}
-use Rattle.scans.specs.Search.{candidates, toTry, ScansBackward, Holds}
+use Rattle.scans.specs.Search.{candidatesIn, toTry, ScansBackward, Holds}
 use Rattle.scans.specs.Carry.{Answers}
 use Rattle.scans.proofs.Candidates.{AllBelow}
 use Rattle.scans.proofs.Walk.{windowed-queued}
-use Rattle.scans.proofs.Slices.{candidates-length}
+use Rattle.scans.proofs.Slices.{candidates-length, candidates-at}
 use Rattle.scans.proofs.Searching.{to-try-fit}
 
-pub roomy-as : {p : Params} {f-length n-counts n-places n-scores : ℕ} (counts′ places′ scores′ : ℕ) → counts′ ≡ n-counts → places′ ≡ n-places → scores′ ≡ n-scores
-    → Roomy p f-length n-counts n-places n-scores → Roomy p f-length counts′ places′ scores′
-roomy-as counts′ places′ scores′ ec ep es r = record { f-long = r .f-long; counts-is = ec ∙ r .counts-is; places-long = omega (arith, r .places-long); scores-long = omega (arith, r .scores-long) }
+pub roomy-as : {p : Params} {f-length n-counts n : ℕ} (counts′ n′ : ℕ) → counts′ ≡ n-counts → n′ ≡ n → Roomy p f-length n-counts n → Roomy p f-length counts′ n′
+roomy-as counts′ n′ ec e r = record { f-long = r .f-long; counts-is = ec ∙ r .counts-is; candidates-long = omega (arith, r .candidates-long) }
 
 pub ringed : {p : Params} {ring : List ℕ} {head len : ℕ} {window-counts : List ℕ} {n m k : ℕ} → k ≡ 4 ^ p .kmer → p .window < m → Windowed p ring head len window-counts n → Ringed ring head len n m k
 ringed e l w = record { queued = windowed-queued w e; ln-long = omega (arith, w .ring-is, w .ln-long); f-long = omega (arith, w .ring-is) }
@@ -43,16 +42,16 @@ to-tried S q b r counts t = go (eqb (b .found) 0) (withBest (b .best) (b .found)
     go true cs a = a
     go false cs a = a
 
--- What the slices hold can be tried.
-pub all-held : (S : Setup) (q : List Place) (len n : ℕ) (counts places : List ℕ) (scores : List Float) → ScansBackward S q counts (candidates n places scores) → length q ≡ len → 0 < len → len ≤ length places → len ≤ length scores
-    → Holds len n places scores
-all-held S q len n counts places scores h l some lp ls =
-    let k = candidates-length n places scores in
-    let fit : (length (candidates n places scores) ≤ length q) × AllBelow (length q) (candidates n places scores) = rw (h .all) (to-try-fit S q (omega arith)) in
+-- What the slice holds can be tried.
+pub all-held : (S : Setup) (q : List Place) (len n : ℕ) (counts : List ℕ) (records : List ForwardPosition) → ScansBackward S q counts (candidatesIn n records) → length q ≡ len → 0 < len → len ≤ length records → Holds len n records
+all-held S q len n counts records h l some room =
+    let k = candidates-length n records in
+    let fit : (length (candidatesIn n records) ≤ length q) × AllBelow (length q) (candidatesIn n records) = rw (h .all) (to-try-fit S q (omega arith)) in
     record {
-      in-places = omega (arith, fit .0);
-      in-scores = omega (arith, fit .0);
-      inside = λ j m. omega (arith, below-at (length q) (candidates n places scores) j (fit .1) (omega arith));
+      room = omega (arith, fit .0);
+      inside = λ j m.
+          let e = ap (λ (c : Candidate). c .place) (candidates-at n records j m) in
+          omega (arith, e, below-at (length q) (candidatesIn n records) j (fit .1) (omega arith));
     }
 
 -- The outcome of all tries is the definition's, but for counts that a search without a find leaves.

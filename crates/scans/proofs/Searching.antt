@@ -5,22 +5,22 @@ use mathlib.Core.List.{List, [], _∷_, _++_}
 use mathlib.Core.Logic.{_≢_}
 use Prim.Native.Nat.{ℕ, zero, suc, _+_, _-_, _<_, _≤_}
 use native.Mathlib.Omega.{arith}
-use lib.ListN.{length, getD, replicate, length-append}
+use lib.ListN.{length, getD, set, length-append}
 use lib.Seq.{getD-at}
 use lib.Dec.{eqb, ltb}
-use lib.Ieee.{Float}
 use borrow.Author.Tests.{eqb-true, eqb-false, eq-eqb}
 use Rattle.letters.specs.Place.{Place}
+use Rattle.scans.specs.declared.ForwardPosition.{ForwardPosition}
 use Rattle.scans.specs.declared.BackwardState.{BackwardState}
 use Rattle.scans.specs.declared.Search.{Search}
 use Rattle.scans.specs.Setup.{Setup, kmers}
 use Rattle.scans.specs.Counts.{cleared}
 use Rattle.scans.specs.Scans.{Candidate, candidate, noCandidate, BackwardSums, backwardStart, Backward, backwardFrom, withBest}
 use Rattle.scans.specs.Parts.{backwardOf, Backs, withPeak, resumed, BackwardPart}
-use Rattle.scans.specs.Search.{candidateOf, candidates, FreshSearch, notingAt, restingAt, goneOn, finishedOf, toTry, withFresh, sought, Noted, Searches, turns, NextCandidate, ScansBackward}
+use Rattle.scans.specs.Search.{candidateOf, candidatesIn, FreshSearch, notingAt, restingAt, goneOn, finishedOf, toTry, withFresh, sought, Noted, Searches, turns, NextCandidate, ScansBackward}
 use Rattle.scans.proofs.Test.{by-test}
 use Rattle.scans.proofs.Candidates.{AllBelow, backward-scanned, candidates-fit}
-use Rattle.scans.proofs.Slices.{candidates-length}
+use Rattle.scans.proofs.Slices.{candidates-length, candidates-push}
 use Rattle.scans.proofs.BackwardScan.{neither, backs-start}
 
 no-entries : (l : List Candidate) → length l ≡ 0 → l ≡ []
@@ -170,7 +170,7 @@ module _ (S : Setup) (q : List Place) (a : Search) (counts : List ℕ) (c : Sear
               clear = λ f. absurd (true≢false (sym (c .on) ∙ f));
             }
 
--- ---- All the turns: what the slices hold are the candidates noted so far.
+-- ---- All the turns: what the slice holds are the candidates noted so far.
 -- All candidates to try are places of the window, and no more than it has.
 pub to-try-fit : (S : Setup) (q : List Place) → 0 < length q → (length (toTry (backwardFrom S q (length q) 1 backwardStart (cleared S) [])) ≤ length q) × AllBelow (length q) (toTry (backwardFrom S q (length q) 1 backwardStart (cleared S) []))
 to-try-fit S q some =
@@ -178,25 +178,23 @@ to-try-fit S q some =
     by-test (λ (l : List Candidate). (length l ≤ length q) × AllBelow (length q) l) (eqb (b .found) 0) [] (withBest (b .best) (b .found) (b .candidates))
     (λ _. (omega arith, tt)) (λ _. candidates-fit (length q) b (backward-scanned S q some))
 
-pub record Seeking (S : Setup) (q : List Place) (counts₀ places₀ : List ℕ) (scores₀ : List Float) (a : Search) (counts places : List ℕ) (scores : List Float) : Type 0 where
+pub record Seeking (S : Setup) (q : List Place) (counts₀ : List ℕ) (records₀ : List ForwardPosition) (a : Search) (counts : List ℕ) (records : List ForwardPosition) : Type 0 where
   pub same-counts : length counts ≡ length counts₀
-  pub same-places : length places ≡ length places₀
-  pub same-scores : length scores ≡ length scores₀
+  pub same-records : length records ≡ length records₀
   pub next : a .on ≡ true → Searches (kmers S) q a counts
   pub clear : a .on ≡ false → counts ≡ cleared S
-  pub noted : Noted a (candidates (a .noted) places scores)
-  pub rest : toTry (backwardFrom S q (length q) 1 backwardStart (cleared S) []) ≡ sought S q a counts (candidates (a .noted) places scores)
+  pub noted : Noted a (candidatesIn (a .noted) records)
+  pub rest : toTry (backwardFrom S q (length q) 1 backwardStart (cleared S) []) ≡ sought S q a counts (candidatesIn (a .noted) records)
 
-module _ (S : Setup) (q : List Place) (counts₀ places₀ : List ℕ) (scores₀ : List Float) where
-  pub seeking-start : (len : ℕ) → length q ≡ len → (a : Search) → FreshSearch len a → counts₀ ≡ cleared S → Seeking S q counts₀ places₀ scores₀ a counts₀ places₀ scores₀
-  unfolding candidates
+module _ (S : Setup) (q : List Place) (counts₀ : List ℕ) (records₀ : List ForwardPosition) where
+  pub seeking-start : (len : ℕ) → length q ≡ len → (a : Search) → FreshSearch len a → counts₀ ≡ cleared S → Seeking S q counts₀ records₀ a counts₀ records₀
+  unfolding candidatesIn
   seeking-start len l a f clear =
       let low : a .scan .low ≡ length q = f .scan .low-is ∙ sym l in
       let one : length q + 1 - length q ≡ 1 = omega arith in
       record {
         same-counts = refl;
-        same-places = refl;
-        same-scores = refl;
+        same-records = refl;
         next = λ _. record {
           on = f .on;
           scan = backs-start q len (kmers S) (a .scan) counts₀ l (f .scan) clear;
@@ -204,36 +202,35 @@ module _ (S : Setup) (q : List Place) (counts₀ places₀ : List ℕ) (scores�
           none = λ _. f .none-noted;
         };
         clear = λ e. absurd (true≢false (sym (f .on) ∙ e));
-        noted = record { many = candidates-length (a .noted) places₀ scores₀; last-is = λ s. absurd (let n : ⊥ = omega (arith, f .none-noted) in n) };
+        noted = record { many = candidates-length (a .noted) records₀; last-is = λ s. absurd (let n : ⊥ = omega (arith, f .none-noted) in n) };
         rest = rw (f .on, f .scan .going .0, low, one, f .scan .sums-are, clear, f .none-noted);
       }
 
-  module _ (a : Search) (counts places : List ℕ) (scores : List Float) (c : Seeking S q counts₀ places₀ scores₀ a counts places scores) where
-    pub seeking-end : a .on ≡ false → ScansBackward S q counts (candidates (a .noted) places scores)
+  module _ (a : Search) (counts : List ℕ) (records : List ForwardPosition) (c : Seeking S q counts₀ records₀ a counts records) where
+    pub seeking-end : a .on ≡ false → ScansBackward S q counts (candidatesIn (a .noted) records)
     seeking-end e = record { all = sym (c .rest ∙ rw e); clear = c .clear e }
 
     module _ (b : Search) (counts′ : List ℕ) (k : NextCandidate S q a b counts counts′) (same : length counts′ ≡ length counts) where
       abbrev cs : List Candidate
-      cs = candidates (a .noted) places scores
+      cs = candidatesIn (a .noted) records
 
-      turned : (places′ : List ℕ) (scores′ : List Float) → length places′ ≡ length places → length scores′ ≡ length scores → candidates (b .noted) places′ scores′ ≡ withFresh b cs
-          → Seeking S q counts₀ places₀ scores₀ b counts′ places′ scores′
-      turned places′ scores′ lp ls e =
+      turned : (records′ : List ForwardPosition) → length records′ ≡ length records → candidatesIn (b .noted) records′ ≡ withFresh b cs
+          → Seeking S q counts₀ records₀ b counts′ records′
+      turned records′ l e =
           record {
             same-counts = same ∙ c .same-counts;
-            same-places = lp ∙ c .same-places;
-            same-scores = ls ∙ c .same-scores;
+            same-records = l ∙ c .same-records;
             next = k .next;
             clear = k .clear;
             noted = subst (λ (l : List Candidate). Noted b l) (sym e) (k .noted cs (c .noted));
             rest = c .rest ∙ k .same cs (c .noted) ∙ ap (λ (l : List Candidate). sought S q b counts′ l) (sym e);
           }
 
-      pub seeking-kept : b .fresh ≡ false → Seeking S q counts₀ places₀ scores₀ b counts′ places scores
+      pub seeking-kept : b .fresh ≡ false → Seeking S q counts₀ records₀ b counts′ records
       seeking-kept f =
           let w : withFresh b cs ≡ cs = rw f in
           let n : b .noted ≡ a .noted = sym (k .noted cs (c .noted) .many) ∙ ap length w ∙ c .noted .many in
-          turned places scores refl refl (ap (λ (m : ℕ). candidates m places scores) n ∙ sym w)
+          turned records refl (ap (λ (m : ℕ). candidatesIn m records) n ∙ sym w)
 
       module _ (f : b .fresh ≡ true) where
         with-last : withFresh b cs ≡ cs ++ candidateOf (b .last) ∷ []
@@ -255,10 +252,10 @@ module _ (S : Setup) (q : List Place) (counts₀ places₀ : List ℕ) (scores�
                 let l : toTry (backwardFrom S q (length q) 1 backwardStart (cleared S) []) ≡ withFresh b cs = c .rest ∙ k .same cs (c .noted) ∙ rw e in
                 omega (arith, k .noted cs (c .noted) .many, ap length l, to-try-fit S q some .0)
 
-        pub seeking-put : (places′ : List ℕ) (scores′ : List Float) → length places′ ≡ length places → length scores′ ≡ length scores
-            → candidates (b .noted - 1 + 1) places′ scores′ ≡ candidates (b .noted - 1) places scores ++ candidateOf (b .last) ∷ [] → Seeking S q counts₀ places₀ scores₀ b counts′ places′ scores′
-        seeking-put places′ scores′ lp ls e =
+        pub seeking-put : (records′ : List ForwardPosition) → length records′ ≡ length records → b .noted - 1 < length records → records′ ≡ set records (b .noted - 1) (b .last) → Seeking S q counts₀ records₀ b counts′ records′
+        seeking-put records′ l r e =
             let m : b .noted - 1 ≡ a .noted = omega (arith, one-more) in
             let n : b .noted - 1 + 1 ≡ b .noted = omega (arith, one-more) in
-            turned places′ scores′ lp ls
-            (ap (λ (x : ℕ). candidates x places′ scores′) (sym n) ∙ e ∙ ap (λ (x : ℕ). candidates x places scores ++ candidateOf (b .last) ∷ []) m ∙ sym with-last)
+            turned records′ l
+            (ap₂ (λ (x : ℕ) (rs : List ForwardPosition). candidatesIn x rs) (sym n) e ∙ candidates-push (b .noted - 1) records (b .last) r
+            ∙ ap (λ (x : ℕ). candidatesIn x records ++ candidateOf (b .last) ∷ []) m ∙ sym with-last)

@@ -5,7 +5,7 @@ use mathlib.Core.List.{List, [], _∷_, _++_}
 use Prim.Native.Nat.{ℕ, zero, suc, _+_, _-_, _<_, _≤_}
 use lib.ListN.{length, getD}
 use lib.Dec.{eqb, ltb}
-use lib.Ieee.{Float, nan}
+use lib.Ieee.{nan}
 use Rattle.letters.specs.Place.{Place}
 use Rattle.scans.specs.declared.ForwardPosition.{ForwardPosition}
 use Rattle.scans.specs.declared.BackwardState.{BackwardState}
@@ -25,10 +25,10 @@ candidateOf c = candidate (c .pos) (c .«max_score»)
 abbrev pub noPosition : ForwardPosition
 noPosition = record { pos = 0; «max_score» = nan }
 
--- The first n candidates that two slices hold.
-unfoldable pub candidates : ℕ → List ℕ → List Float → List Candidate
-candidates zero places scores = []
-candidates (suc n) places scores = candidates n places scores ++ candidate (getD places n 0) (getD scores n nan) ∷ []
+-- The first n candidates that a slice holds.
+unfoldable pub candidatesIn : ℕ → List ForwardPosition → List Candidate
+candidatesIn zero records = []
+candidatesIn (suc n) records = candidatesIn n records ++ candidateOf (getD records n noPosition) ∷ []
 
 -- ---- The candidates are noted.
 -- A search that has noted nothing.
@@ -99,11 +99,10 @@ pub record ScansBackward (S : Setup) (q : List Place) (counts : List ℕ) (cs : 
   pub clear : counts ≡ cleared S
 
 -- ---- The candidates are tried.
--- Two slices hold n candidates or more, the first n being places of the window.
-pub record Holds (len n : ℕ) (places : List ℕ) (scores : List Float) : Type 0 where
-  pub in-places : n ≤ length places
-  pub in-scores : n ≤ length scores
-  pub inside : (j : ℕ) → j < n → getD (candidates n places scores) j noCandidate .place < len
+-- A slice holds n candidates or more, the first n being places of the window.
+pub record Holds (len n : ℕ) (records : List ForwardPosition) : Type 0 where
+  pub room : n ≤ length records
+  pub inside : (j : ℕ) → j < n → getD records j noPosition .pos < len
 
 pub record FreshTrial (n : ℕ) (a : Trial) : Type 0 where
   pub left-is : a .left ≡ n

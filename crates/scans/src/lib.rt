@@ -11,12 +11,12 @@ ghost use Rattle.floats.specs.Arithmetic.{_⊖_};
 ghost use Rattle.letters.specs.Entry.{decode};
 ghost use Rattle.scans.specs.Setup.{dropLimit, maxTest, setupOf};
 ghost use Rattle.scans.specs.Counts.{lower, Counted};
-ghost use Rattle.scans.specs.Scans.{maxSteps, ifBackward, forwardStart, forwardJudged, dustForward, noCandidate, isNoted, larger, tryFrom, dustBackward};
+ghost use Rattle.scans.specs.Scans.{maxSteps, ifBackward, forwardStart, forwardJudged, dustForward, isNoted, larger, tryFrom, dustBackward};
 ghost use Rattle.scans.specs.Window.{ringIndex, window, countedValue, Windowed, Roomy, CountsEntry, Extends};
 ghost use Rattle.scans.specs.Carry.{noCarry, Carried, Touched, Walked, CarriesOn, carriedAhead, CarriesAhead, FindsQuickly, Answers};
 ghost use Rattle.scans.specs.Quick.{QuickGoes, QuickPart, ScansQuick};
 ghost use Rattle.scans.specs.Parts.{Seam, Straight, Queued, Ringed, Within, forwardOf, ForwardPart, Finds, backwardOf, AddsEntry, withBestAt, withLast, pausedAt, stoppedAt, Fresh, Backs, BackwardPart};
-ghost use Rattle.scans.specs.Search.{candidateOf, noPosition, candidates, FreshSearch, notingAt, goneOn, finishedOf, Searches, NextCandidate, ScansBackward, Holds, FreshTrial, NextTrial};
+ghost use Rattle.scans.specs.Search.{noPosition, candidatesIn, FreshSearch, notingAt, goneOn, finishedOf, Searches, NextCandidate, ScansBackward, Holds, FreshTrial, NextTrial};
 
 // How many places long a fall below the best may last before the backward scan stops; `Off` is the whole window.
 pub enum Xdrop {
@@ -791,25 +791,6 @@ fn set_candidate(candidates: &mut [ForwardPosition], i: usize, c: ForwardPositio
     candidates[i] = c;
 }
 
-// A candidate at index i.
-fn put(places: &mut [u32], scores: &mut [f64], i: usize, c: ForwardPosition)
-    requires { ⌜ (i < length (now places)) × (i < length (now scores)) ⌝ }
-    ensures { λ _. ⌜ candidates (i + 1) (now (places .exit)) (now (scores .exit)) ≡ candidates i (now (places .entry)) (now (scores .entry)) ++ candidateOf c ∷ [] ⌝ }
-{
-    places[i] = c.pos;
-    scores[i] = c.max_score;
-}
-
-fn get(places: &[u32], scores: &[f64], i: usize) -> ForwardPosition
-    requires { ⌜ (i < length (now places)) × (i < length (now scores)) ⌝ }
-    ensures { λ r. ⌜ ((n : ℕ) → i < n → candidateOf r ≡ getD (candidates n (now (places .entry)) (now (scores .entry))) i noCandidate) ⌝ }
-{
-    ForwardPosition {
-        pos: places[i],
-        max_score: scores[i],
-    }
-}
-
 // The candidates to try, from cleared counts, and how many; the counts are cleared again.
 fn scan_backward(
     p: Params,
@@ -820,19 +801,18 @@ fn scan_backward(
     ln: &[f64],
     f: &[f64],
     scan_counts: &mut [u16],
-    places: &mut [u32],
-    scores: &mut [f64],
+    candidates: &mut [ForwardPosition],
 ) -> usize
     requires { ⌜ Windowed p (now ring) head len (now «window_counts») (length (now ln)) ⌝ }
-    requires { ⌜ Roomy p (length (now f)) (length (now «scan_counts»)) (length (now places)) (length (now scores)) ⌝ }
+    requires { ⌜ Roomy p (length (now f)) (length (now «scan_counts»)) (length (now candidates)) ⌝ }
     requires { ⌜ (0 < len) × (now «scan_counts» ≡ replicate (4 ^ p .kmer) 0) ⌝ }
-    ensures { λ r. ⌜ ScansBackward (setupOf p (now (ln .entry)) (now (f .entry))) (window (now (ring .entry)) head len) (now («scan_counts» .exit)) (candidates r (now (places .exit)) (now (scores .exit))) ⌝ }
+    ensures { λ r. ⌜ ScansBackward (setupOf p (now (ln .entry)) (now (f .entry))) (window (now (ring .entry)) head len) (now («scan_counts» .exit)) (candidatesIn r (now (candidates .exit))) ⌝ }
 {
     let mut seek = Search::new(len);
     while seek.on {
         seek = seek.next(p, ring, head, len, window_counts, ln, f, scan_counts);
         if seek.fresh {
-            put(places, scores, seek.noted - 1, seek.last);
+            set_candidate(candidates, seek.noted - 1, seek.last);
         }
     }
     seek.noted
@@ -938,18 +918,17 @@ fn try_candidates(
     noted: usize,
     ln: &[f64],
     f: &[f64],
-    places: &[u32],
-    scores: &[f64],
+    candidates: &[ForwardPosition],
     scan_counts: &mut [u16],
 ) -> Scanned
     requires { ⌜ Ringed (now ring) head len (length (now ln)) (length (now f)) (length (now «scan_counts»)) ⌝ }
     requires { ⌜ now «scan_counts» ≡ replicate (4 ^ p .kmer) 0 ⌝ }
-    requires { ⌜ Holds len noted (now places) (now scores) ⌝ }
-    ensures { λ r. ⌜ ((before : List ℕ) → Answers (setupOf p (now (ln .entry)) (now (f .entry))) (window (now (ring .entry)) head len) (tryFrom (setupOf p (now (ln .entry)) (now (f .entry))) (window (now (ring .entry)) head len) (candidates noted (now (places .entry)) (now (scores .entry))) noted 0 before) r (now («scan_counts» .exit))) ⌝ }
+    requires { ⌜ Holds len noted (now candidates) ⌝ }
+    ensures { λ r. ⌜ ((before : List ℕ) → Answers (setupOf p (now (ln .entry)) (now (f .entry))) (window (now (ring .entry)) head len) (tryFrom (setupOf p (now (ln .entry)) (now (f .entry))) (window (now (ring .entry)) head len) (candidatesIn noted (now (candidates .entry))) noted 0 before) r (now («scan_counts» .exit))) ⌝ }
 {
     let mut trial = Trial::new(noted);
     while 0 < trial.left {
-        let c = get(places, scores, trial.left - 1);
+        let c = candidate_at(candidates, trial.left - 1);
         trial = trial.next(p, ring, head, len, c, ln, f, scan_counts);
     }
     trial.scanned
@@ -1142,11 +1121,10 @@ pub fn dust_backward(
     ln: &[f64],
     f: &[f64],
     scan_counts: &mut [u16],
-    places: &mut [u32],
-    scores: &mut [f64],
+    candidates: &mut [ForwardPosition],
 ) -> Scanned
     requires { ⌜ Windowed p (now ring) head len (now «window_counts») (length (now ln)) ⌝ }
-    requires { ⌜ Roomy p (length (now f)) (length (now «scan_counts»)) (length (now places)) (length (now scores)) ⌝ }
+    requires { ⌜ Roomy p (length (now f)) (length (now «scan_counts»)) (length (now candidates)) ⌝ }
     requires { ⌜ (0 < len) × (now «scan_counts» ≡ replicate (4 ^ p .kmer) 0) ⌝ }
     requires { ⌜ Carried (setupOf p (now ln) (now f)) (drop last (window (now ring) head (len - 1))) carry ⌝ }
     ensures { λ r. ⌜ Answers (setupOf p (now (ln .entry)) (now (f .entry))) (window (now (ring .entry)) head len) (dustBackward (setupOf p (now (ln .entry)) (now (f .entry))) (window (now (ring .entry)) head len)) r (now («scan_counts» .exit)) ⌝ }
@@ -1175,19 +1153,7 @@ pub fn dust_backward(
         ln,
         f,
         scan_counts,
-        places,
-        scores,
+        candidates,
     );
-    try_candidates(
-        p,
-        ring,
-        head,
-        len,
-        noted,
-        ln,
-        f,
-        places,
-        scores,
-        scan_counts,
-    )
+    try_candidates(p, ring, head, len, noted, ln, f, candidates, scan_counts)
 }

@@ -1,29 +1,26 @@
-use mathlib.Core.Path.{_≡_, _∙_}
-use mathlib.Core.Bool.{false}
-use Prim.Native.Nat.{_≤_}
+use mathlib.Core.Path.{_∙_}
+use Prim.Native.Nat.{_-_, _<_}
 use native.Mathlib.Omega.{arith}
+use borrow.Author.Needs.{needs}
+use lib.ListN.{length}
 use Rattle.scans.specs.Setup.{setupOf}
 use Rattle.scans.specs.Window.{window}
 use Rattle.scans.specs.Search.{turns}
 use Rattle.scans.proofs.Windows.{long}
 use Rattle.scans.proofs.Searching.{Seeking, seeking-start, seeking-end, seeking-kept, fresh-some, fresh-room, seeking-put}
-use borrow.Author.Needs.{needs}
 use Rattle.scans.proofs.scan_backward.Statement.{statement}
-use Rattle.scans.proofs.scan_backward.Tie as tie
-use Rattle.scans.proofs.scan_backward.Reads as reads
-use Rattle.scans.proofs.scan_backward.Lts as lts
-use Rattle.scans.proofs.Search.new.Reads as new-reads
-use Rattle.scans.proofs.Search.next.Reads as next-reads
-use Rattle.scans.proofs.put.Reads as put-reads
+use Rattle.scans.proofs.scan_backward.Proof.Tie as tie
+mod Lts
+mod Tie
 
 abbrev Inv-loop : tie.InvT-loop
-Inv-loop p ring head len window-counts ln f scan-counts₀ places₀ scores₀ seek₀ scan-counts places scores seek = Seeking (setupOf p ln f) (window ring head len) scan-counts₀ places₀ scores₀ seek scan-counts places scores
+Inv-loop p ring head len window-counts ln f scan-counts₀ candidates₀ seek₀ scan-counts candidates seek = Seeking (setupOf p ln f) (window ring head len) scan-counts₀ candidates₀ seek scan-counts candidates
 
 abbrev μ-loop : tie.MeasureT-loop
-μ-loop p ring head len window-counts ln f scan-counts₀ places₀ scores₀ seek₀ scan-counts places scores seek = turns seek
+μ-loop p ring head len window-counts ln f scan-counts₀ candidates₀ seek₀ scan-counts candidates seek = turns seek
 
 abbrev start : tie.At-loop Inv-loop μ-loop → tie.Start Inv-loop μ-loop
-start c = c .before .before .before .before .before .before .before .before .before
+start c = c .before .before .before .before .before .before .before
 
 abbrev at-loop : tie.After-next Inv-loop μ-loop → tie.At-loop Inv-loop μ-loop
 at-loop c = c .before .before .before
@@ -31,17 +28,14 @@ at-loop c = c .before .before .before
 abbrev stepped : tie.Then1 Inv-loop μ-loop → tie.After-next Inv-loop μ-loop
 stepped c = c .before .before .before
 
-abbrev written : tie.After-put Inv-loop μ-loop → tie.Then1 Inv-loop μ-loop
-written c = c .before .before .before .before
-
-abbrev put-at : tie.After-slice-known6 Inv-loop μ-loop → tie.After-put Inv-loop μ-loop
-put-at c = c .before .before .before .before
+abbrev noted : tie.After-set-candidate Inv-loop μ-loop → tie.Then1 Inv-loop μ-loop
+noted c = c .before .before .before
 
 new-requires : tie.Need-new-requires Inv-loop μ-loop
 new-requires c κs = search needs
 
 loop-holds : tie.Need-loop-holds Inv-loop μ-loop
-loop-holds c = let s = c .before .before .before .before .before .before .before .before .pre in seeking-start _ _ _ _ _ _ (long (s .0)) _ (c .new .ensures) (s .1 .1 .1)
+loop-holds c = let s = c .before .before .before .before .before .before .pre in seeking-start _ _ _ _ _ (long (s .0)) _ (c .new .ensures) (s .1 .1 .1)
 
 next-requires : tie.Need-next-requires Inv-loop μ-loop
 next-requires c κs =
@@ -50,31 +44,34 @@ next-requires c κs =
     let s = start a .pre in
     (s .0, ((s .1 .0 .f-long, a .loop .inv .same-counts ∙ s .1 .0 .counts-is), a .loop .inv .next (d .loop-test .taken)))
 
-sub-put : tie.Need-sub-put Inv-loop μ-loop
-sub-put c =
-    let d = c .before .before .before in
+sub-set-candidate : tie.Need-sub-set-candidate Inv-loop μ-loop
+sub-set-candidate c =
+    let d = c .before .before in
     let n = stepped d in
-    fresh-some _ _ _ _ _ _ _ _ _ (at-loop n .loop .inv) _ _ (n .next .ensures) (n .next .kept .1 .1 .1 .1 .1 .1 .1 .1 .0) (d .if1 .taken)
+    fresh-some _ _ _ _ _ _ _ (at-loop n .loop .inv) _ _ (n .next .ensures) (n .next .kept .1 .1 .1 .1 .1 .1 .1 .1 .0) (d .if1 .taken)
 
-put-requires : tie.Need-put-requires Inv-loop μ-loop
-put-requires c κs =
-    let d = c .before .before .before in
+-- there is room for the candidate
+room : (d : tie.Then1 Inv-loop μ-loop) → stepped d .next .result .noted - 1 < length (at-loop (stepped d) .loop .candidates)
+room d =
     let n = stepped d in
     let a = at-loop n in
     let s = start a .pre in
-    let g = fresh-some _ _ _ _ _ _ _ _ _ (a .loop .inv) _ _ (n .next .ensures) (n .next .kept .1 .1 .1 .1 .1 .1 .1 .1 .0) (d .if1 .taken) in
-    let r = fresh-room _ _ _ _ _ _ _ _ _ (a .loop .inv) _ _ (n .next .ensures) (n .next .kept .1 .1 .1 .1 .1 .1 .1 .1 .0) (d .if1 .taken) (omega (arith, s .1 .1 .0, long (s .0))) in
-    (omega (arith, g, r, long (s .0), s .0 .len-in, s .1 .0 .places-long, a .loop .inv .same-places), omega (arith, g, r, long (s .0), s .0 .len-in, s .1 .0 .scores-long, a .loop .inv .same-scores))
+    let g = fresh-some _ _ _ _ _ _ _ (a .loop .inv) _ _ (n .next .ensures) (n .next .kept .1 .1 .1 .1 .1 .1 .1 .1 .0) (d .if1 .taken) in
+    let r = fresh-room _ _ _ _ _ _ _ (a .loop .inv) _ _ (n .next .ensures) (n .next .kept .1 .1 .1 .1 .1 .1 .1 .1 .0) (d .if1 .taken) (omega (arith, s .1 .1 .0, long (s .0))) in
+    omega (arith, g, r, long (s .0), s .0 .len-in, s .1 .0 .candidates-long, a .loop .inv .same-records)
+
+set-candidate-requires : tie.Need-set-candidate-requires Inv-loop μ-loop
+set-candidate-requires c κs = room (c .before .before)
 
 loop-less : tie.Need-loop-less Inv-loop μ-loop
-loop-less c = stepped (written (put-at c)) .next .ensures .less
+loop-less c = stepped (noted (c .before)) .next .ensures .less
 
 loop-again : tie.Need-loop-again Inv-loop μ-loop
 loop-again c =
-    let u = put-at c in
-    let d = written u in
+    let u = c .before in
+    let d = noted u in
     let n = stepped d in
-    seeking-put _ _ _ _ _ _ _ _ _ (at-loop n .loop .inv) _ _ (n .next .ensures) (n .next .kept .1 .1 .1 .1 .1 .1 .1 .1 .0) (d .if1 .taken) _ _ (u .put .kept .0) (u .put .kept .1 .0) (u .put .ensures)
+    seeking-put _ _ _ _ _ _ _ (at-loop n .loop .inv) _ _ (n .next .ensures) (n .next .kept .1 .1 .1 .1 .1 .1 .1 .1 .0) (d .if1 .taken) _ (u .set-candidate .kept .0) (room d) (u .set-candidate .ensures)
 
 loop-less-2 : tie.Need-loop-less-2 Inv-loop μ-loop
 loop-less-2 c = c .before .before .before .next .ensures .less
@@ -82,19 +79,16 @@ loop-less-2 c = c .before .before .before .next .ensures .less
 loop-again-2 : tie.Need-loop-again-2 Inv-loop μ-loop
 loop-again-2 c =
     let n = c .before .before .before in
-    seeking-kept _ _ _ _ _ _ _ _ _ (at-loop n .loop .inv) _ _ (n .next .ensures) (n .next .kept .1 .1 .1 .1 .1 .1 .1 .1 .0) (c .if1 .left)
+    seeking-kept _ _ _ _ _ _ _ (at-loop n .loop .inv) _ _ (n .next .ensures) (n .next .kept .1 .1 .1 .1 .1 .1 .1 .1 .0) (c .if1 .left)
 
 same-length : tie.Need-same-length Inv-loop μ-loop
 same-length c = c .before .loop .inv .same-counts
 
 same-length-2 : tie.Need-same-length-2 Inv-loop μ-loop
-same-length-2 c = c .before .loop .inv .same-places
-
-same-length-3 : tie.Need-same-length-3 Inv-loop μ-loop
-same-length-3 c = c .before .loop .inv .same-scores
+same-length-2 c = c .before .loop .inv .same-records
 
 returns : tie.Need-returns Inv-loop μ-loop
-returns c = seeking-end _ _ _ _ _ _ _ _ _ (c .before .loop .inv) (c .loop-test .left)
+returns c = seeking-end _ _ _ _ _ _ _ (c .before .loop .inv) (c .loop-test .left)
 
 pub scan-backward-spec : {M : Type 1} → statement M
 scan-backward-spec =
@@ -105,13 +99,12 @@ scan-backward-spec =
     new-requires
     loop-holds
     next-requires
-    sub-put
-    put-requires
+    sub-set-candidate
+    set-candidate-requires
     loop-less
     loop-again
     loop-less-2
     loop-again-2
     same-length
     same-length-2
-    same-length-3
     returns)

@@ -1,59 +1,59 @@
-use mathlib.Core.Path.{_≡_, refl, sym, ap, _∙_}
+use mathlib.Core.Path.{_≡_, sym, ap, _∙_}
 use mathlib.Core.List.{[]}
 use Prim.Native.Nat.{_-_, _<_}
 use native.Mathlib.Omega.{arith}
-use lib.ListN.{length, getD}
-use Rattle.scans.specs.Setup.{setupOf}
-use Rattle.scans.specs.Scans.{Candidate, noCandidate}
-use Rattle.scans.specs.Window.{window}
-use Rattle.scans.specs.Search.{candidateOf, candidates}
-use Rattle.scans.proofs.ForwardScan.{ringed-less}
-use Rattle.scans.proofs.Trying.{Trying, trying-start, trying-next}
 use borrow.Author.Needs.{needs}
+use lib.ListN.{length, getD}
+use Rattle.scans.specs.declared.ForwardPosition.{ForwardPosition}
+use Rattle.scans.specs.Setup.{setupOf}
+use Rattle.scans.specs.Scans.{noCandidate}
+use Rattle.scans.specs.Window.{window}
+use Rattle.scans.specs.Search.{candidateOf, candidatesIn}
+use Rattle.scans.proofs.ForwardScan.{ringed-less}
+use Rattle.scans.proofs.Slices.{candidates-at}
+use Rattle.scans.proofs.Trying.{Trying, trying-start, trying-next}
 use Rattle.scans.proofs.try_candidates.Statement.{statement}
-use Rattle.scans.proofs.try_candidates.Tie as tie
-use Rattle.scans.proofs.try_candidates.Reads as reads
-use Rattle.scans.proofs.try_candidates.Lts as lts
-use Rattle.scans.proofs.Trial.new.Reads as new-reads
-use Rattle.scans.proofs.Trial.next.Reads as next-reads
-use Rattle.scans.proofs.get.Reads as get-reads
+use Rattle.scans.proofs.try_candidates.Proof.Tie as tie
+mod Lts
+mod Tie
 
 abbrev Inv-loop : tie.InvT-loop
-Inv-loop p ring head len noted ln f places scores scan-counts₀ trial₀ scan-counts trial = Trying (setupOf p ln f) (window ring head len) (candidates noted places scores) noted (length scan-counts₀) trial scan-counts
+Inv-loop p ring head len noted ln f candidates scan-counts₀ trial₀ scan-counts trial = Trying (setupOf p ln f) (window ring head len) (candidatesIn noted candidates) noted (length scan-counts₀) trial scan-counts
 
 abbrev μ-loop : tie.MeasureT-loop
-μ-loop p ring head len noted ln f places scores scan-counts₀ trial₀ scan-counts trial = trial .left
+μ-loop p ring head len noted ln f candidates scan-counts₀ trial₀ scan-counts trial = trial .left
 
 abbrev start : tie.At-loop Inv-loop μ-loop → tie.Start Inv-loop μ-loop
-start c = c .before .before .before .before .before .before .before .before
+start c = c .before .before .before .before .before .before
 
 abbrev looping : tie.After-struct-known2 Inv-loop μ-loop → tie.At-loop Inv-loop μ-loop
 looping c = c .before .before .before
 
--- the candidate that was taken out
-here : (c : tie.After-get Inv-loop μ-loop) → candidateOf (c .get .result)
-    ≡ getD (candidates (start (looping (c .before)) .args .noted) (start (looping (c .before)) .args .places .now) (start (looping (c .before)) .args .scores .now)) (looping (c .before) .loop .trial .left - 1) noCandidate
-here c =
-    let a = looping (c .before) in
-    c .get .ensures (start a .args .noted) (omega (arith, c .before .before .if1 .taken, a .loop .inv .inside))
+-- the candidate is one of those noted
+among : (c : tie.After-struct-known2 Inv-loop μ-loop) → looping c .loop .trial .left - 1 < start (looping c) .args .noted
+among c = omega (arith, c .before .if1 .taken, looping c .loop .inv .inside)
 
-inside : (c : tie.After-get Inv-loop μ-loop) → c .get .result .pos < start (looping (c .before)) .args .len
+here : (c : tie.After-candidate-at Inv-loop μ-loop) → candidateOf (c .candidate-at .result)
+    ≡ getD (candidatesIn (start (looping (c .before)) .args .noted) (start (looping (c .before)) .args .candidates .now)) (looping (c .before) .loop .trial .left - 1) noCandidate
+here c = ap candidateOf (c .candidate-at .ensures) ∙ sym (candidates-at _ _ _ (among (c .before)))
+
+inside : (c : tie.After-candidate-at Inv-loop μ-loop) → c .candidate-at .result .pos < start (looping (c .before)) .args .len
 inside c =
     let a = looping (c .before) in
-    let e = ap (λ (z : Candidate). z .place) (here c) in
-    omega (arith, e, start a .pre .1 .1 .inside (a .loop .trial .left - 1) (omega (arith, c .before .before .if1 .taken, a .loop .inv .inside)))
+    let e = ap (λ (z : ForwardPosition). z .pos) (c .candidate-at .ensures) in
+    omega (arith, e, start a .pre .1 .1 .inside (a .loop .trial .left - 1) (among (c .before)))
 
 new-requires : tie.Need-new-requires Inv-loop μ-loop
 new-requires c κs = search needs
 
 loop-holds : tie.Need-loop-holds Inv-loop μ-loop
-loop-holds c = trying-start _ _ _ _ _ _ (c .new .ensures) (c .before .before .before .before .before .before .before .pre .1 .0)
+loop-holds c = trying-start _ _ _ _ _ _ (c .new .ensures) (c .before .before .before .before .before .pre .1 .0)
 
-sub-get : tie.Need-sub-get Inv-loop μ-loop
-sub-get c = omega (arith, c .before .if1 .taken)
+sub-candidate-at : tie.Need-sub-candidate-at Inv-loop μ-loop
+sub-candidate-at c = omega (arith, c .before .if1 .taken)
 
-get-requires : tie.Need-get-requires Inv-loop μ-loop
-get-requires c κs = let a = looping c in let h = start a .pre .1 .1 in (omega (arith, c .before .if1 .taken, a .loop .inv .inside, h .in-places), omega (arith, c .before .if1 .taken, a .loop .inv .inside, h .in-scores))
+candidate-at-requires : tie.Need-candidate-at-requires Inv-loop μ-loop
+candidate-at-requires c κs = omega (arith, among c, start (looping c) .pre .1 .1 .room)
 
 next-requires : tie.Need-next-requires Inv-loop μ-loop
 next-requires c κs =
@@ -87,8 +87,8 @@ try-candidates-spec =
     μ-loop
     new-requires
     loop-holds
-    sub-get
-    get-requires
+    sub-candidate-at
+    candidate-at-requires
     next-requires
     loop-less
     loop-again
