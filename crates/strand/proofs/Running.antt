@@ -28,8 +28,8 @@ use Rattle.strand.specs.declared.Reading.{Reading}
 use Rattle.strand.specs.declared.Look.{Look}
 use Rattle.strand.specs.declared.Look.the-variants.{Pass, Extension, Scan}
 use Rattle.strand.specs.Kept.{Kept, Sought, Passes, Clearing, extendedOf, answeredBy, Like}
-use Rattle.strand.specs.Held.{heldBy, Entered, lookBy, Looks, lastBy, Seeks, Found, Closing, Saving, Settled, unread, noInterval, readOn, Read, Skims, Stops, Ran}
-use Rattle.strand.specs.Running.{StartOk, Shaped, Before, Answer, Due}
+use Rattle.strand.specs.Held.{heldBy, Entered, lookBy, Looks, lastBy, Seeks, Found, Closing, Saving, Settled, unread, noInterval, readOn, Read, Skims, Stops, Lent, Ran}
+use Rattle.strand.specs.Running.{Lasting, StartOk, Shaped, Before, Answer, Due}
 use Rattle.strand.proofs.Shape.{ShapedAt, shaped-more, saved-room, begin-shaped, step-shaped}
 use Rattle.strand.proofs.Keeping.{kept-unread}
 use Rattle.strand.proofs.Like.{ended, like-refl, like-start, like-end, like-saved}
@@ -59,6 +59,21 @@ saving {k} {i} {o} {starts} {ends} n some small l in-starts in-ends h =
 -- ---- Cleared counts.
 pub cleared-is : {counts : List ℕ} {n m : ℕ} → n ≡ m → counts ≡ replicate n 0 → counts ≡ replicate m 0
 cleared-is e h = h ∙ ap (λ (n : ℕ). replicate n 0) e
+
+-- What the parts of the run ask of the slices that they are lent.
+pub lasting : {p : Params} {n n-ln n-f n-ring n-window-counts n-counts n-candidates n-starts n-ends n-counts′ n-starts′ n-ends′ : ℕ}
+    → Lent p n n-ln n-f n-ring n-window-counts n-counts n-candidates n-starts n-ends → n-counts′ ≡ n-counts → n-starts′ ≡ n-starts → n-ends′ ≡ n-ends
+    → Lasting p n n-f n-counts′ n-starts′ n-ends′
+lasting l c s e =
+    record {
+      kmer-some = l .kmer-some;
+      kmer-small = l .kmer-small;
+      letters-in = l .letters-in;
+      f-long = l .roomy .f-long;
+      counts-is = c ∙ l .roomy .counts-is;
+      starts-long = rw s (l .starts-long);
+      ends-long = rw e (l .ends-long);
+    }
 
 -- ---- No letter yet.
 begun-is : (S : Setup) (ring counts starts ends : List ℕ) → counts ≡ cleared S → heldBy (unread .window) noInterval ring counts (rows 0 starts ends) ≡ begin S
