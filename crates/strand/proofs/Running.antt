@@ -28,7 +28,7 @@ use Rattle.strand.specs.declared.Reading.{Reading}
 use Rattle.strand.specs.declared.Look.{Look}
 use Rattle.strand.specs.declared.Look.the-variants.{Pass, Extension, Scan}
 use Rattle.strand.specs.Kept.{Kept, Sought, Passes, Clearing, extendedOf, answeredBy, Like}
-use Rattle.strand.specs.Held.{heldBy, Entered, lookBy, Looks, lastBy, Seeks, Found, Closing, Saving, Settled, unread, noInterval, readOn, Read, Skims, Stops, Lent, Ran}
+use Rattle.strand.specs.Held.{heldBy, Entered, lookBy, Looks, lastBy, Seeks, Found, Closing, Saving, Settled, unread, noInterval, readOn, Skims, Stops, Lent, Ran}
 use Rattle.strand.specs.Running.{Lasting, StartOk, Shaped, Before, Answer, Due}
 use Rattle.strand.proofs.Shape.{ShapedAt, shaped-more, saved-room, begin-shaped, step-shaped}
 use Rattle.strand.proofs.Keeping.{kept-unread}

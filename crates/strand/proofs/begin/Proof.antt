@@ -1,6 +1,5 @@
 use mathlib.Core.Path.{_≡_}
 use borrow.Author.Needs.{needs}
-use Rattle.strand.specs.declared.Going.{Going}
 use Rattle.strand.specs.Running.{begun}
 use Rattle.strand.proofs.begin.Statement.{statement}
 use Rattle.strand.proofs.begin.Tie as tie
