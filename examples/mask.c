@@ -12,8 +12,9 @@
 
 enum { KMER = 7, WINDOW = 5000, KMERS = 1 << (2 * KMER) };
 
-static double ln[WINDOW + 1], f[WINDOW + 2], candidate_scores[WINDOW];
-static uint32_t queue[WINDOW], candidate_places[WINDOW];
+static double ln[WINDOW + 1], f[WINDOW + 2];
+static uint32_t queue[WINDOW];
+static struct longdust_forward_position candidates[WINDOW];
 static uint16_t window_counts[KMERS], scan_counts[KMERS];
 
 static void *room(size_t count, size_t size) {
@@ -58,8 +59,7 @@ int main(void) {
         3, 0, 0,
         ln, WINDOW + 1, f, WINDOW + 2, queue, WINDOW,
         window_counts, KMERS, scan_counts, KMERS,
-        candidate_places, WINDOW, candidate_scores, WINDOW,
-        codes, n, reverse_codes, n,
+        candidates, WINDOW, codes, n, reverse_codes, n,
         list[0], rows, list[1], rows, list[2], rows, list[3], rows, starts, rows, ends, rows,
         &in_range);
 

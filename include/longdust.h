@@ -27,7 +27,7 @@
  *   f                                 w + 2; entry L is what a random stretch of L places scores
  *   queue                             w
  *   window_counts, scan_counts        4^k each
- *   candidate_places, candidate_scores   w each
+ *   candidates                        w
  *   codes, reverse_codes              n each
  *   forward_starts, forward_ends      R each
  *   reverse_starts, reverse_ends      R each
@@ -63,6 +63,13 @@
 extern "C" {
 #endif
 
+/* A candidate of a backward scan, a place with its score: 16 bytes, the score at byte 8. The calls keep
+ * candidates in one work slice of such records, so that a host lends one buffer and not two. */
+struct longdust_forward_position {
+    uint32_t pos;
+    double max_score;
+};
+
 /* Masks with tables that the caller has filled, with any float bits; they are not changed. */
 int64_t longdust_process_tables(
     const uint8_t *sequence, size_t sequence_len,
@@ -74,8 +81,7 @@ int64_t longdust_process_tables(
     uint32_t *queue, size_t queue_len,
     uint16_t *window_counts, size_t window_counts_len,
     uint16_t *scan_counts, size_t scan_counts_len,
-    uint32_t *candidate_places, size_t candidate_places_len,
-    double *candidate_scores, size_t candidate_scores_len,
+    struct longdust_forward_position *candidates, size_t candidates_len,
     uint8_t *codes, size_t codes_len,
     uint8_t *reverse_codes, size_t reverse_codes_len,
     uint32_t *forward_starts, size_t forward_starts_len,
@@ -97,8 +103,7 @@ int64_t longdust_process(
     uint32_t *queue, size_t queue_len,
     uint16_t *window_counts, size_t window_counts_len,
     uint16_t *scan_counts, size_t scan_counts_len,
-    uint32_t *candidate_places, size_t candidate_places_len,
-    double *candidate_scores, size_t candidate_scores_len,
+    struct longdust_forward_position *candidates, size_t candidates_len,
     uint8_t *codes, size_t codes_len,
     uint8_t *reverse_codes, size_t reverse_codes_len,
     uint32_t *forward_starts, size_t forward_starts_len,

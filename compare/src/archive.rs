@@ -1,6 +1,6 @@
 //! The port as liblongdust_c.a exports it (include/longdust.h).
 
-use crate::port::{Buffers, Lent};
+use crate::port::{Buffers, Candidate, Lent};
 use crate::request::{Gc, Request, Tables};
 
 /// Both calls are declared with tables that may be written, so that one expression calls either; that
@@ -31,10 +31,8 @@ macro_rules! declare {
                 window_counts_len: usize,
                 scan_counts: *mut u16,
                 scan_counts_len: usize,
-                candidate_places: *mut u32,
-                candidate_places_len: usize,
-                candidate_scores: *mut f64,
-                candidate_scores_len: usize,
+                candidates: *mut Candidate,
+                candidates_len: usize,
                 codes: *mut u8,
                 codes_len: usize,
                 reverse_codes: *mut u8,
@@ -85,8 +83,7 @@ pub fn call(request: &Request, lent: &mut Buffers) -> (i64, u32) {
     let (queue, queue_len) = raw(&mut lent.queue);
     let (window_counts, window_counts_len) = raw(&mut lent.window_counts);
     let (scan_counts, scan_counts_len) = raw(&mut lent.scan_counts);
-    let (candidate_places, candidate_places_len) = raw(&mut lent.candidate_places);
-    let (candidate_scores, candidate_scores_len) = raw(&mut lent.candidate_scores);
+    let (candidates, candidates_len) = raw(&mut lent.candidates);
     let (codes, codes_len) = raw(&mut lent.codes);
     let (reverse_codes, reverse_codes_len) = raw(&mut lent.reverse_codes);
     let [forward_starts, forward_ends, reverse_starts, reverse_ends, starts, ends] = lent.lists.each_mut().map(raw);
@@ -116,10 +113,8 @@ pub fn call(request: &Request, lent: &mut Buffers) -> (i64, u32) {
             window_counts_len,
             scan_counts,
             scan_counts_len,
-            candidate_places,
-            candidate_places_len,
-            candidate_scores.cast(),
-            candidate_scores_len,
+            candidates,
+            candidates_len,
             codes,
             codes_len,
             reverse_codes,

@@ -1,7 +1,7 @@
 //! Seeded random numbers, sequences, and requests of every kind.
 
 use crate::original;
-use crate::request::{Gc, Request, Tables};
+use crate::request::{Gc, Request, Tables, SLICES};
 
 /// SplitMix64.
 pub struct Rng(u64);
@@ -249,7 +249,7 @@ pub fn spoil(rng: &mut Rng, request: &mut Request, number: u32) {
         8 => request.min_start_cnt = rng.below(2) as u16,
         9 => request.xdrop = Some(0),
         11 => {
-            let slice = rng.below(15);
+            let slice = rng.below(SLICES);
             let listed = request.listed()[slice];
             if listed > 0 {
                 request.sizes[slice] = Some(rng.pick(&[listed - 1, listed - 1, listed / 2, 0]));
@@ -265,7 +265,7 @@ pub fn request(seed: u64, number: u64) -> Request {
     let (k, w, n) = measures(rng);
     let mut request = accepted(rng, k, w, n);
     if rng.one_in(3) {
-        for slice in 0..15 {
+        for slice in 0..SLICES {
             if rng.one_in(2) {
                 request.sizes[slice] = Some(request.listed()[slice] + rng.below(4));
             }
@@ -281,7 +281,7 @@ pub fn request(seed: u64, number: u64) -> Request {
         }
     }
     if original::refusal_before_sizes(&request).is_some() {
-        request.sizes = [0; 15].map(|_| Some(rng.below(20)));
+        request.sizes = [0; SLICES].map(|_| Some(rng.below(20)));
     }
     request
 }

@@ -4,7 +4,7 @@
 //! formulas; `handed` takes both tables as arguments. build.rs makes them.
 
 use crate::port::Buffers;
-use crate::request::{Answer, Gc, Request, Tables};
+use crate::request::{Answer, Gc, Request, Tables, SLICES};
 
 /// Gives a variant its options, and the two tables it would make for a request, as float bits.
 macro_rules! variant {
@@ -63,7 +63,7 @@ pub fn floats(bits: &[u64]) -> Vec<f64> {
 ///
 /// Checks 1 to 9 are the original's `validate_inputs` in its order, with the same comparisons. The
 /// paper adds 10 and 11; the C interface adds a GC kind that is none of the three to 7.
-fn refusal(request: &Request, lengths: &[usize; 15]) -> Option<u32> {
+fn refusal(request: &Request, lengths: &[usize; SLICES]) -> Option<u32> {
     refusal_before_sizes(request).or_else(|| {
         let short = lengths.iter().zip(request.listed()).any(|(length, listed)| *length < listed);
         short.then_some(11)

@@ -1,7 +1,7 @@
 //! The port: buffers to lend it, the call, and what must be true of the buffers afterwards.
 
 use crate::original::{self, Reference};
-use crate::request::{Answer, Request, Tables, F, LN, NAMES};
+use crate::request::{Answer, Request, Tables, F, LN, NAMES, SLICES};
 
 /// Something that answers as the C interface does: a count or minus a refusal, and the flag.
 pub type Port = fn(&Request, &mut Buffers) -> (i64, u32);
@@ -44,6 +44,14 @@ impl<T: Copy + PartialEq> Slice for Lent<T> {
     }
 }
 
+/// A candidate as the C interface has it, its score as bits.
+#[derive(Clone, Copy, PartialEq)]
+#[repr(C)]
+pub struct Candidate {
+    pos: u32,
+    max_score: u64,
+}
+
 /// All lent slices; floats as their bits.
 pub struct Buffers {
     pub ln: Lent<u64>,
@@ -51,8 +59,7 @@ pub struct Buffers {
     pub queue: Lent<u32>,
     pub window_counts: Lent<u16>,
     pub scan_counts: Lent<u16>,
-    pub candidate_places: Lent<u32>,
-    pub candidate_scores: Lent<u64>,
+    pub candidates: Lent<Candidate>,
     pub codes: Lent<u8>,
     pub reverse_codes: Lent<u8>,
     /// Starts and ends of the forward, the reverse and the final list.
@@ -75,7 +82,7 @@ impl Buffers {
     /// As long as the request says, else as listed, and full of its garbage and tables.
     pub fn new(request: &Request) -> Buffers {
         let accepted = original::refusal_before_sizes(request).is_none();
-        let listed = if accepted { request.listed() } else { [UNCHECKED; 15] };
+        let listed = if accepted { request.listed() } else { [UNCHECKED; SLICES] };
         let length = |slice: usize| request.size_said(slice).unwrap_or(listed[slice]);
         let (ln, f) = match &request.tables {
             Tables::Own if accepted => original::unmodified::tables(request),
@@ -91,15 +98,14 @@ impl Buffers {
             queue: Lent::new(length(2), |i| any(2, i) as u32),
             window_counts: Lent::new(length(3), |i| any(3, i) as u16),
             scan_counts: Lent::new(length(4), |i| any(4, i) as u16),
-            candidate_places: Lent::new(length(5), |i| any(5, i) as u32),
-            candidate_scores: Lent::new(length(6), |i| any(6, i)),
-            codes: Lent::new(length(7), |i| any(7, i) as u8),
-            reverse_codes: Lent::new(length(8), |i| any(8, i) as u8),
-            lists: [9, 10, 11, 12, 13, 14].map(|slice| Lent::new(length(slice), |i| any(slice, i) as u32)),
+            candidates: Lent::new(length(5), |i| Candidate { pos: any(5, i) as u32, max_score: !any(5, i) }),
+            codes: Lent::new(length(6), |i| any(6, i) as u8),
+            reverse_codes: Lent::new(length(7), |i| any(7, i) as u8),
+            lists: [8, 9, 10, 11, 12, 13].map(|slice| Lent::new(length(slice), |i| any(slice, i) as u32)),
         }
     }
 
-    fn slices(&self) -> [&dyn Slice; 15] {
+    fn slices(&self) -> [&dyn Slice; SLICES] {
         let [a, b, c, d, e, g] = &self.lists;
         [
             &self.ln,
@@ -107,8 +113,7 @@ impl Buffers {
             &self.queue,
             &self.window_counts,
             &self.scan_counts,
-            &self.candidate_places,
-            &self.candidate_scores,
+            &self.candidates,
             &self.codes,
             &self.reverse_codes,
             a,
@@ -120,7 +125,7 @@ impl Buffers {
         ]
     }
 
-    pub fn lengths(&self) -> [usize; 15] {
+    pub fn lengths(&self) -> [usize; SLICES] {
         self.slices().map(|slice| slice.length())
     }
 
@@ -142,10 +147,10 @@ impl Buffers {
     /// The first place that should not have changed and did, or that should hold a formula and does not.
     fn damage(&self, request: &Request, reference: &Reference) -> Option<String> {
         let Answer::Accepted { intervals, .. } = &reference.answer else {
-            return self.changes(&[0; 15]);
+            return self.changes(&[0; SLICES]);
         };
         let mut free = request.listed();
-        free[13..].fill(intervals.len());
+        free[12..].fill(intervals.len());
         match &reference.filled {
             None => free[..2].fill(0),
             Some((ln, f)) => {
@@ -160,7 +165,7 @@ impl Buffers {
     }
 
     /// The first place that changed past the entries of each slice that are free.
-    fn changes(&self, free: &[usize; 15]) -> Option<String> {
+    fn changes(&self, free: &[usize; SLICES]) -> Option<String> {
         let change = |((slice, &from), name): ((&dyn Slice, &usize), &str)| {
             slice.change(from).map(|i| format!("{name} changed at {i}"))
         };

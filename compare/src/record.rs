@@ -6,10 +6,10 @@
 //!     k w min_start_cnt xdrop_set xdrop approx forward_only T gc_kind gc
 //!         whole numbers and two floats; gc_kind: 0 uniform, 1 fixed, 2 auto; gc is 0 unless fixed
 //!     short
-//!         0: every slice has the listed length; 1 to 15: the slice of this number in the order of the call
-//!         (ln, f, queue, window counts, scan counts, candidate places, candidate scores, codes, reverse codes,
+//!         0: every slice has the listed length; 1 to 14: the slice of this number in the order of the call
+//!         (ln, f, queue, window counts, scan counts, candidates, codes, reverse codes,
 //!         then starts and ends of the forward, the reverse and the final list) has one entry less;
-//!         16: every slice is empty
+//!         15: every slice is empty
 //!     tables
 //!         0: the filling call; 1: the call on lent tables, which follow: the number of runs of the ln table,
 //!         for each run how often its entry stands and the entry, a float; then the f table in the same way.
@@ -26,7 +26,7 @@
 use crate::generate::{self, Rng};
 use crate::original::{reference, unmodified};
 use crate::port::Buffers;
-use crate::request::{runs, Answer, Gc, Request, Tables};
+use crate::request::{runs, Answer, Gc, Request, Tables, SLICES};
 use std::fmt::Write;
 
 const RECORDS: usize = 280;
@@ -52,7 +52,7 @@ pub fn requests() -> Vec<Request> {
     for number in [1, 2, 3, 4, 5, 6, 7, 8, 9].repeat(3) {
         all.push(refused(rng, number));
     }
-    for slice in 0..15 {
+    for slice in 0..SLICES {
         let mut request = small(rng);
         request.sizes[slice] = Some(request.listed()[slice] - 1);
         all.push(request);
@@ -104,7 +104,7 @@ fn refused(rng: &mut Rng, number: u32) -> Request {
     loop {
         let mut request = small(rng);
         generate::spoil(rng, &mut request, number);
-        request.sizes = [Some(0); 15];
+        request.sizes = [Some(0); SLICES];
         if let Tables::Given { ln, f } = &mut request.tables {
             ln.clear();
             f.clear();
@@ -135,7 +135,7 @@ fn short(request: &Request) -> usize {
     match request.sizes.iter().position(Option::is_some) {
         None => 0,
         Some(slice) if request.sizes.iter().flatten().count() == 1 => slice + 1,
-        Some(_) => 16,
+        Some(_) => SLICES + 1,
     }
 }
 

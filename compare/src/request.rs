@@ -13,22 +13,24 @@
 //!
 //! Four more lines say what a host may vary without changing the answer, or get wrong:
 //!
-//!     size cands2|fwd2|rev2|final2 COUNT       the length of the second slice of a pair alone
+//!     size fwd2|rev2|final2 COUNT              the length of the second slice of a pair alone
 //!     gc kind N <hex>      a GC choice that is none of the three
 //!     yes N                the number that stands for a yes
 //!     garbage N            what the buffers hold before the call: 0 zeros, 1 ones, or a seed
 
 use std::fmt::{self, Display, Formatter, Write};
 
-/// The lent slices in the order of the call.
-pub const NAMES: [&str; 15] = [
-    "ln", "f", "queue", "wcounts", "scounts", "cands", "cands2", "code1", "code2", "fwd", "fwd2", "rev", "rev2",
-    "final", "final2",
+/// How many slices a call is lent.
+pub const SLICES: usize = 14;
+/// Their names, in the order of the call.
+pub const NAMES: [&str; SLICES] = [
+    "ln", "f", "queue", "wcounts", "scounts", "cands", "code1", "code2", "fwd", "fwd2", "rev", "rev2", "final",
+    "final2",
 ];
 pub const LN: usize = 0;
 pub const F: usize = 1;
 /// Places in NAMES of slices that are the second of a pair.
-const SECOND: [usize; 4] = [6, 10, 12, 14];
+const SECOND: [usize; 3] = [9, 11, 13];
 
 #[derive(Clone, Copy, Debug, PartialEq)]
 pub enum Gc {
@@ -60,7 +62,7 @@ pub struct Request {
     pub forward_only: bool,
     pub yes: u32,
     pub tables: Tables,
-    pub sizes: [Option<usize>; 15],
+    pub sizes: [Option<usize>; SLICES],
     pub garbage: u64,
     pub sequence: Vec<u8>,
     /// The letters stand for their number alone, and the buffers are empty.
@@ -80,7 +82,7 @@ impl Default for Request {
             forward_only: false,
             yes: 1,
             tables: Tables::Formula,
-            sizes: [None; 15],
+            sizes: [None; SLICES],
             garbage: 2,
             sequence: Vec::new(),
             is_virtual: false,
@@ -90,11 +92,11 @@ impl Default for Request {
 
 impl Request {
     /// How many entries of each slice the paper lists, for k up to 12.
-    pub fn listed(&self) -> [usize; 15] {
+    pub fn listed(&self) -> [usize; SLICES] {
         let (n, w) = (self.sequence.len(), self.window_size);
         let kmers = 1 << (2 * self.kmer);
         let rows = (n + 1) / (self.kmer + 1);
-        [w + 1, w + 2, w, kmers, kmers, w, w, n, n, rows, rows, rows, rows, rows, rows]
+        [w + 1, w + 2, w, kmers, kmers, w, n, n, rows, rows, rows, rows, rows, rows]
     }
 
     /// The length that a `size` line, or given words, set for a slice.
@@ -143,7 +145,7 @@ impl Request {
                 ["virtual_n", n] => {
                     // One letter past the limit is refused as any larger number is.
                     request.sequence = vec![0; number::<usize>(n)?.min(1 << 31)];
-                    request.sizes = [Some(0); 15];
+                    request.sizes = [Some(0); SLICES];
                     request.is_virtual = true;
                 }
                 ["seq", n] => {
@@ -312,7 +314,7 @@ mod tests {
         assert_eq!((request.kmer, request.window_size, request.min_start_cnt), (3, 12, 2));
         assert_eq!((request.xdrop, request.approx, request.forward_only), (None, true, true));
         assert_eq!((request.score_threshold, request.gc), (0.5, Gc::Fixed(0.25)));
-        let sizes = [0, 1, 9, 10, 11].map(|slice| request.size_said(slice));
+        let sizes = [0, 1, 8, 9, 10].map(|slice| request.size_said(slice));
         assert_eq!(sizes, [Some(13), Some(14), Some(9), Some(4), None]);
         assert_eq!(Request::parse(request.to_string().as_bytes()).unwrap(), request);
     }

@@ -2,7 +2,7 @@
 
 use crate::genomes;
 use crate::port::{difference, Port};
-use crate::request::{Answer, Gc, Request, Tables};
+use crate::request::{Answer, Gc, Request, Tables, SLICES};
 use std::sync::atomic::{AtomicUsize, Ordering};
 use std::sync::Mutex;
 use std::thread;
@@ -51,7 +51,7 @@ pub fn cases(port: Port) -> (u64, u64) {
     }
     // Zeroed memory that is only read takes no room.
     let many =
-        |n: usize| Request { sequence: vec![0; n], sizes: [Some(0); 15], is_virtual: true, ..Request::default() };
+        |n: usize| Request { sequence: vec![0; n], sizes: [Some(0); SLICES], is_virtual: true, ..Request::default() };
     let mut many_with_200 = many(1 << 31);
     many_with_200.sequence[1 << 30] = 200;
     let refused = [

@@ -1,2 +1,4 @@
 pub mod Run
 pub mod Printed
+pub mod MaskLettersKinds
+pub mod MaskLettersReads

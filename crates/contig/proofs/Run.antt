@@ -17,6 +17,7 @@ use Rattle.tables.specs.Density.{density}
 use Rattle.tables.specs.Tables.{lnTable, fTable}
 use Rattle.tables.proofs.Tables.{lnTable-length, fTable-length}
 use Rattle.longdust.specs.declared.LongdustOptions.{LongdustOptions}
+use Rattle.scans.specs.declared.ForwardPosition.{ForwardPosition}
 use Rattle.longdust.specs.declared.Lent.{Lent}
 use Rattle.longdust.specs.declared.Answer.{Answer}
 use Rattle.longdust.specs.Options.{defaults}
@@ -25,17 +26,16 @@ use Rattle.longdust.specs.Mask.{mask}
 use Rattle.longdust.specs.Call.{Buffers, buffers, lengths, lnRead, fRead, Filled, Answered}
 use Rattle.contig.specs.Run.{lent, refusalOf, maskOf, unless, Ran}
 
--- The buffers before the run.
-abbrev pub fresh : List ℕ → List ℕ → Buffers
-fresh starts ends =
+-- The buffers before the run, whatever the candidates are.
+abbrev pub fresh : List ForwardPosition → List ℕ → List ℕ → Buffers
+fresh candidates starts ends =
     buffers
     (replicate 5001 zero64)
     (replicate 5002 zero64)
     (replicate 5000 0)
     (replicate 16384 0)
     (replicate 16384 0)
-    (replicate 5000 0)
-    (replicate 5000 zero64)
+    candidates
     (replicate 32768 0)
     (replicate 32768 0)
     (replicate 4096 0)
@@ -45,11 +45,11 @@ fresh starts ends =
     starts
     ends
 
-module _ (starts ends : List ℕ) (ls : length starts ≡ 4096) (le : length ends ≡ 4096) where
-  fresh-lent : lengths (fresh starts ends) ≡ lent
-  fresh-lent = simp (length-replicate, ls, le)
+module _ (candidates : List ForwardPosition) (starts ends : List ℕ) (lc : length candidates ≡ 5000) (ls : length starts ≡ 4096) (le : length ends ≡ 4096) where
+  fresh-lent : lengths (fresh candidates starts ends) ≡ lent
+  fresh-lent = simp (length-replicate, lc, ls, le)
 
-  module _ (s : List ℕ) (b′ : Buffers) (a : Answer) (r : Answered Filled defaults s (fresh starts ends) b′ a) where
+  module _ (s : List ℕ) (b′ : Buffers) (a : Answer) (r : Answered Filled defaults s (fresh candidates starts ends) b′ a) where
     number-is : a .refusal ≡ refusalOf s
     unfolding refusalOf
     number-is = r .number ∙ ap (λ (l : Lent). refusal defaults s l) fresh-lent
@@ -82,6 +82,6 @@ module _ (starts ends : List ℕ) (ls : length starts ≡ 4096) (le : length end
     ran-defaults : Ran s starts ends (b′ .starts) (b′ .ends) (record { refusal = a .refusal; count = a .count })
     ran-defaults = record { number = number-is; list = list-is (refusalOf s) number-is; shape = shape-is (refusalOf s) number-is }
 
-  pub ran : {o : LongdustOptions} {s : List ℕ} {b′ : Buffers} {a : Answer} → o ≡ defaults → Answered Filled o s (fresh starts ends) b′ a
+  pub ran : {o : LongdustOptions} {s : List ℕ} {b′ : Buffers} {a : Answer} → o ≡ defaults → Answered Filled o s (fresh candidates starts ends) b′ a
       → Ran s starts ends (b′ .starts) (b′ .ends) (record { refusal = a .refusal; count = a .count })
-  ran {o} {s} {b′} {a} e r = ran-defaults s b′ a (subst (λ (o : LongdustOptions). Answered Filled o s (fresh starts ends) b′ a) e r)
+  ran {o} {s} {b′} {a} e r = ran-defaults s b′ a (subst (λ (o : LongdustOptions). Answered Filled o s (fresh candidates starts ends) b′ a) e r)

@@ -8,11 +8,19 @@ ghost use Rattle.report.specs.Written.{Written};
 ghost use Rattle.contig.specs.Run.{Ran};
 ghost use Rattle.contig.specs.Printed.{printed};
 use longdust::LongdustOptions;
+use scans::ForwardPosition;
 
 // What a run answers: the refusal number, 0 for an accepted contig, and the interval count.
 pub struct Outcome {
     pub refusal: u32,
     pub count: usize,
+}
+
+fn no_candidates() -> [ForwardPosition; 5000] {
+    [ForwardPosition {
+        pos: 0,
+        max_score: 0.0,
+    }; 5000]
 }
 
 // Masks the letters, in work buffers of its own that have exactly the paper's sizes.
@@ -25,8 +33,7 @@ pub fn mask_letters(letters: &[u8], starts: &mut [u32], ends: &mut [u32]) -> Out
     let mut queue = [0u32; 5000];
     let mut window_counts = [0u16; 16384];
     let mut scan_counts = [0u16; 16384];
-    let mut places = [0u32; 5000];
-    let mut scores = [0.0f64; 5000];
+    let mut candidates = no_candidates();
     let mut codes = [0u8; 32768];
     let mut reverse_codes = [0u8; 32768];
     let mut forward_starts = [0u32; 4096];
@@ -41,8 +48,7 @@ pub fn mask_letters(letters: &[u8], starts: &mut [u32], ends: &mut [u32]) -> Out
         &mut queue,
         &mut window_counts,
         &mut scan_counts,
-        &mut places,
-        &mut scores,
+        &mut candidates,
         &mut codes,
         &mut reverse_codes,
         &mut forward_starts,

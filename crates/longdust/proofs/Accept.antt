@@ -36,16 +36,15 @@ enough : (n k w : ℕ) (b : Lent) → tooShort n k w b ≡ false → Enough n k 
 unfolding tooShort
 enough n k w b e =
     let R = (n + 1) / (k + 1) in
-    let p15 = neither _ (ltb (b .ends) R) e in
-    let p14 = neither _ (ltb (b .starts) R) (p15 .0) in
-    let p13 = neither _ (ltb (b .«reverse_ends») R) (p14 .0) in
-    let p12 = neither _ (ltb (b .«reverse_starts») R) (p13 .0) in
-    let p11 = neither _ (ltb (b .«forward_ends») R) (p12 .0) in
-    let p10 = neither _ (ltb (b .«forward_starts») R) (p11 .0) in
-    let p9 = neither _ (ltb (b .«reverse_codes») n) (p10 .0) in
-    let p8 = neither _ (ltb (b .codes) n) (p9 .0) in
-    let p7 = neither _ (ltb (b .scores) w) (p8 .0) in
-    let p6 = neither _ (ltb (b .places) w) (p7 .0) in
+    let p14 = neither _ (ltb (b .ends) R) e in
+    let p13 = neither _ (ltb (b .starts) R) (p14 .0) in
+    let p12 = neither _ (ltb (b .«reverse_ends») R) (p13 .0) in
+    let p11 = neither _ (ltb (b .«reverse_starts») R) (p12 .0) in
+    let p10 = neither _ (ltb (b .«forward_ends») R) (p11 .0) in
+    let p9 = neither _ (ltb (b .«forward_starts») R) (p10 .0) in
+    let p8 = neither _ (ltb (b .«reverse_codes») n) (p9 .0) in
+    let p7 = neither _ (ltb (b .codes) n) (p8 .0) in
+    let p6 = neither _ (ltb (b .candidates) w) (p7 .0) in
     let p5 = neither _ (ltb (b .«scan_counts») (4 ^ k)) (p6 .0) in
     let p4 = neither _ (ltb (b .«window_counts») (4 ^ k)) (p5 .0) in
     let p3 = neither _ (ltb (b .queue) w) (p4 .0) in
@@ -56,16 +55,15 @@ enough n k w b e =
       queue = ltb-false (b .queue) w (p3 .1);
       window-counts = ltb-false (b .«window_counts») (4 ^ k) (p4 .1);
       scan-counts = ltb-false (b .«scan_counts») (4 ^ k) (p5 .1);
-      places = ltb-false (b .places) w (p6 .1);
-      scores = ltb-false (b .scores) w (p7 .1);
-      codes = ltb-false (b .codes) n (p8 .1);
-      reverse-codes = ltb-false (b .«reverse_codes») n (p9 .1);
-      forward-starts = ltb-false (b .«forward_starts») R (p10 .1);
-      forward-ends = ltb-false (b .«forward_ends») R (p11 .1);
-      reverse-starts = ltb-false (b .«reverse_starts») R (p12 .1);
-      reverse-ends = ltb-false (b .«reverse_ends») R (p13 .1);
-      starts = ltb-false (b .starts) R (p14 .1);
-      ends = ltb-false (b .ends) R (p15 .1);
+      candidates = ltb-false (b .candidates) w (p6 .1);
+      codes = ltb-false (b .codes) n (p7 .1);
+      reverse-codes = ltb-false (b .«reverse_codes») n (p8 .1);
+      forward-starts = ltb-false (b .«forward_starts») R (p9 .1);
+      forward-ends = ltb-false (b .«forward_ends») R (p10 .1);
+      reverse-starts = ltb-false (b .«reverse_starts») R (p11 .1);
+      reverse-ends = ltb-false (b .«reverse_ends») R (p12 .1);
+      starts = ltb-false (b .starts) R (p13 .1);
+      ends = ltb-false (b .ends) R (p14 .1);
     }
 
 pub admitted : (o : LongdustOptions) (s : List ℕ) (b : Lent) → refusal o s b ≡ 0 → Admitted o (length s) b

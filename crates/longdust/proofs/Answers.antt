@@ -74,8 +74,7 @@ module _ (o : LongdustOptions) (cs : List ℕ) (m : ℕ) (b : Buffers) (a : Admi
               queue = free .queue;
               window-counts = free .window-counts;
               scan-counts = free .scan-counts;
-              places = free .places;
-              scores = free .scores;
+              candidates = free .candidates;
               codes = record { long = refl; past = refl };
               reverse-codes = free-at n (length s) _ _ n-is (free .reverse-codes);
               forward-starts = free-at R (listSize o s) _ _ R-is (free .forward-starts);

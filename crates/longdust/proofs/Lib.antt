@@ -8,3 +8,11 @@ pub mod Answers
 pub mod Calls
 pub mod Theorems
 pub mod Examples
+pub mod FilledTablesProcessKinds
+pub mod FilledTablesProcessReads
+pub mod LentTablesProcessTablesKinds
+pub mod LentTablesProcessTablesReads
+pub mod RunBothStrandsKinds
+pub mod RunBothStrandsReads
+pub mod RunMaskEncodedKinds
+pub mod RunMaskEncodedReads

@@ -22,8 +22,7 @@ fronts w m n R b =
       queue = take w (b .queue);
       window-counts = take m (b .window-counts);
       scan-counts = take m (b .scan-counts);
-      places = take w (b .places);
-      scores = take w (b .scores);
+      candidates = take w (b .candidates);
       codes = b .codes;
       reverse-codes = take n (b .reverse-codes);
       forward-starts = take R (b .forward-starts);
@@ -43,8 +42,7 @@ back w m n R b y =
       queue = y .queue ++ drop w (b .queue);
       window-counts = y .window-counts ++ drop m (b .window-counts);
       scan-counts = y .scan-counts ++ drop m (b .scan-counts);
-      places = y .places ++ drop w (b .places);
-      scores = y .scores ++ drop w (b .scores);
+      candidates = y .candidates ++ drop w (b .candidates);
       codes = b .codes;
       reverse-codes = y .reverse-codes ++ drop n (b .reverse-codes);
       forward-starts = y .forward-starts ++ drop R (b .forward-starts);
@@ -60,8 +58,7 @@ pub record Returned (b y : Buffers) : Type 0 where
   pub queue : length (y .queue) ≡ length (b .queue)
   pub window-counts : length (y .window-counts) ≡ length (b .window-counts)
   pub scan-counts : length (y .scan-counts) ≡ length (b .scan-counts)
-  pub places : length (y .places) ≡ length (b .places)
-  pub scores : length (y .scores) ≡ length (b .scores)
+  pub candidates : length (y .candidates) ≡ length (b .candidates)
   pub reverse-codes : length (y .reverse-codes) ≡ length (b .reverse-codes)
   pub forward-starts : length (y .forward-starts) ≡ length (b .forward-starts)
   pub forward-ends : length (y .forward-ends) ≡ length (b .forward-ends)
@@ -80,7 +77,7 @@ module _ (o : LongdustOptions) (n m : ℕ) (b : Buffers) (a : Admitted o n (leng
   sizes : (p : Params) → p .kmer ≡ o .kmer → p .window ≡ o .«window_size» → (starts ends : List ℕ)
       → (n + 1) / (o .kmer + 1) ≤ length starts → (n + 1) / (o .kmer + 1) ≤ length ends
       → Lent p n (length (take (o .«window_size» + 1) (b .ln))) (length (take (o .«window_size» + 2) (b .f))) (length (take (o .«window_size») (b .queue))) (length (take m (b .window-counts)))
-      (length (take m (b .scan-counts))) (length (take (o .«window_size») (b .places))) (length (take (o .«window_size») (b .scores)))
+      (length (take m (b .scan-counts))) (length (take (o .«window_size») (b .candidates)))
       (length (take ((n + 1) / (o .kmer + 1)) starts)) (length (take ((n + 1) / (o .kmer + 1)) ends))
   sizes p k w starts ends fs fe =
       let c = a .bounds in
@@ -100,8 +97,7 @@ module _ (o : LongdustOptions) (n m : ℕ) (b : Buffers) (a : Admitted o n (leng
             record {
               f-long = omega (arith, length-take-le (o .«window_size» + 2) (b .f) (g .f));
               counts-is = length-take-le m (b .scan-counts) scans-fit ∙ e ∙ ap (λ (z : ℕ). 4 ^ z) (omega arith);
-              places-long = omega (arith, length-take-le (o .«window_size») (b .places) (g .places));
-              scores-long = omega (arith, length-take-le (o .«window_size») (b .scores) (g .scores));
+              candidates-long = omega (arith, length-take-le (o .«window_size») (b .candidates) (g .candidates));
             };
         starts-long = omega (arith, length-take-le R starts fs);
         ends-long = omega (arith, length-take-le R ends fe);
@@ -126,8 +122,7 @@ module _ (o : LongdustOptions) (n m : ℕ) (b : Buffers) (a : Admitted o n (leng
     pub queue : Free (o .«window_size») (b .queue) (b′ .queue)
     pub window-counts : Free (4 ^ (o .kmer)) (b .window-counts) (b′ .window-counts)
     pub scan-counts : Free (4 ^ (o .kmer)) (b .scan-counts) (b′ .scan-counts)
-    pub places : Free (o .«window_size») (b .places) (b′ .places)
-    pub scores : Free (o .«window_size») (b .scores) (b′ .scores)
+    pub candidates : Free (o .«window_size») (b .candidates) (b′ .candidates)
     pub reverse-codes : Free n (b .reverse-codes) (b′ .reverse-codes)
     pub forward-starts : Free ((n + 1) / (o .kmer + 1)) (b .forward-starts) (b′ .forward-starts)
     pub forward-ends : Free ((n + 1) / (o .kmer + 1)) (b .forward-ends) (b′ .forward-ends)
@@ -146,8 +141,7 @@ module _ (o : LongdustOptions) (n m : ℕ) (b : Buffers) (a : Admitted o n (leng
         queue = part-free w (b .queue) (y .queue) (g .queue) (t .queue);
         window-counts = free-at m (4 ^ (o .kmer)) _ _ e (part-free m (b .window-counts) (y .window-counts) windows-fit (t .window-counts));
         scan-counts = free-at m (4 ^ (o .kmer)) _ _ e (part-free m (b .scan-counts) (y .scan-counts) scans-fit (t .scan-counts));
-        places = part-free w (b .places) (y .places) (g .places) (t .places);
-        scores = part-free w (b .scores) (y .scores) (g .scores) (t .scores);
+        candidates = part-free w (b .candidates) (y .candidates) (g .candidates) (t .candidates);
         reverse-codes = part-free n (b .reverse-codes) (y .reverse-codes) (g .reverse-codes) (t .reverse-codes);
         forward-starts = part-free R (b .forward-starts) (y .forward-starts) (g .forward-starts) (t .forward-starts);
         forward-ends = part-free R (b .forward-ends) (y .forward-ends) (g .forward-ends) (t .forward-ends);

@@ -21,12 +21,11 @@ use Rattle.strand.specs.Step.{intervalsOf}
 use Rattle.strand.specs.Held.{Lent}
 use Rattle.strand.proofs.Theorems.{strand-room}
 use Rattle.longdust.specs.Mask.{maskOf}
-use Rattle.longdust.specs.Inner.{otherIntervals}
-use Rattle.longdust.proofs.Masks.{mask-room, mask-merged, others-shape}
+use Rattle.longdust.proofs.Masks.{mask-room, mask-merged, otherIntervals, others-shape}
 
-pub lent-as : {p : Params} {n ln f q w s pl sc st en n′ q′ w′ s′ pl′ sc′ : ℕ} → Lent p n ln f q w s pl sc st en
-    → n′ ≡ n → q′ ≡ q → w′ ≡ w → s′ ≡ s → pl′ ≡ pl → sc′ ≡ sc → Lent p n′ ln f q′ w′ s′ pl′ sc′ st en
-lent-as k en eq ew es ep ec = rw (en, eq, ew, es, ep, ec) k
+pub lent-as : {p : Params} {n ln f q w s c st en n′ q′ w′ s′ c′ : ℕ} → Lent p n ln f q w s c st en
+    → n′ ≡ n → q′ ≡ q → w′ ≡ w → s′ ≡ s → c′ ≡ c → Lent p n′ ln f q′ w′ s′ c′ st en
+lent-as k en eq ew es ec = rw (en, eq, ew, es, ec) k
 
 -- The reverse complement over a whole buffer.
 pub reversed-whole : (s d d′ : List ℕ) → d′ ≡ put (reverseComplement s) d → length d ≡ length s → d′ ≡ reverseComplement s

@@ -10,6 +10,7 @@ use Rattle.buffers.specs.Free.{Free}
 use Rattle.letters.specs.Code.{codes}
 use Rattle.intervals.specs.Interval.{Canonical, Covers}
 use Rattle.intervals.specs.Rows.{rows, Rows}
+use Rattle.scans.specs.declared.ForwardPosition.{ForwardPosition}
 use Rattle.strand.specs.Range.{inRange}
 use Rattle.tables.specs.Density.{density}
 use Rattle.tables.specs.Tables.{lnTable, fTable}
@@ -26,8 +27,7 @@ pub record Buffers : Type 0 where
   pub queue : List ℕ
   pub window-counts : List ℕ
   pub scan-counts : List ℕ
-  pub places : List ℕ
-  pub scores : List Float
+  pub candidates : List ForwardPosition
   pub codes : List ℕ
   pub reverse-codes : List ℕ
   pub forward-starts : List ℕ
@@ -37,16 +37,15 @@ pub record Buffers : Type 0 where
   pub starts : List ℕ
   pub ends : List ℕ
 
-abbrev pub buffers : List Float → List Float → List ℕ → List ℕ → List ℕ → List ℕ → List Float → List ℕ → List ℕ → List ℕ → List ℕ → List ℕ → List ℕ → List ℕ → List ℕ → Buffers
-buffers ln f queue window-counts scan-counts places scores cs rcs fs fe rs re starts ends =
+abbrev pub buffers : List Float → List Float → List ℕ → List ℕ → List ℕ → List ForwardPosition → List ℕ → List ℕ → List ℕ → List ℕ → List ℕ → List ℕ → List ℕ → List ℕ → Buffers
+buffers ln f queue window-counts scan-counts candidates cs rcs fs fe rs re starts ends =
     record {
       ln = ln;
       f = f;
       queue = queue;
       window-counts = window-counts;
       scan-counts = scan-counts;
-      places = places;
-      scores = scores;
+      candidates = candidates;
       codes = cs;
       reverse-codes = rcs;
       forward-starts = fs;
@@ -65,8 +64,7 @@ lengths b =
       queue = length (b .queue);
       «window_counts» = length (b .window-counts);
       «scan_counts» = length (b .scan-counts);
-      places = length (b .places);
-      scores = length (b .scores);
+      candidates = length (b .candidates);
       codes = length (b .codes);
       «reverse_codes» = length (b .reverse-codes);
       «forward_starts» = length (b .forward-starts);
@@ -100,8 +98,7 @@ pub record Masked (o : LongdustOptions) (s : List ℕ) (b b′ : Buffers) (count
   pub queue : Free (o .«window_size») (b .queue) (b′ .queue)
   pub window-counts : Free (4 ^ (o .kmer)) (b .window-counts) (b′ .window-counts)
   pub scan-counts : Free (4 ^ (o .kmer)) (b .scan-counts) (b′ .scan-counts)
-  pub places : Free (o .«window_size») (b .places) (b′ .places)
-  pub scores : Free (o .«window_size») (b .scores) (b′ .scores)
+  pub candidates : Free (o .«window_size») (b .candidates) (b′ .candidates)
   pub codes : Free (length s) (b .codes) (b′ .codes)
   pub reverse-codes : Free (length s) (b .reverse-codes) (b′ .reverse-codes)
   pub forward-starts : Free (listSize o s) (b .forward-starts) (b′ .forward-starts)

@@ -42,7 +42,7 @@ unfoldable pub tooShort : ℕ → ℕ → ℕ → Lent → Bool
 tooShort n k w b =
     let R : ℕ = (n + 1) / (k + 1) in
     ltb (b .ln) (w + 1) || ltb (b .f) (w + 2) || ltb (b .queue) w || ltb (b .«window_counts») (4 ^ k) || ltb (b .«scan_counts») (4 ^ k)
-    || ltb (b .places) w || ltb (b .scores) w || ltb (b .codes) n || ltb (b .«reverse_codes») n
+    || ltb (b .candidates) w || ltb (b .codes) n || ltb (b .«reverse_codes») n
     || ltb (b .«forward_starts») R || ltb (b .«forward_ends») R || ltb (b .«reverse_starts») R || ltb (b .«reverse_ends») R
     || ltb (b .starts) R || ltb (b .ends) R
 

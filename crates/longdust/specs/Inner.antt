@@ -1,14 +1,12 @@
 -- The terms of the inner functions' contracts: what the checks leave known of a request, and what the parts of a run answer.
 use mathlib.Core.Path.{_≡_}
-use mathlib.Core.Bool.{Bool, false, cond}
-use mathlib.Core.List.{List, []}
+use mathlib.Core.Bool.{false}
+use mathlib.Core.List.{List}
 use Prim.Native.Nat.{ℕ, _+_, _^_, _/_, _≤_}
 use lib.Ieee.{Float}
-use Rattle.letters.specs.Code.{codes, reverseComplement}
-use Rattle.intervals.specs.Interval.{Interval}
+use Rattle.letters.specs.Code.{codes}
 use Rattle.scans.specs.declared.Params.{Params}
-use Rattle.scans.specs.Setup.{Setup, setupOf}
-use Rattle.strand.specs.Step.{intervalsOf}
+use Rattle.scans.specs.Setup.{setupOf}
 use Rattle.strand.specs.Range as ranges
 use Rattle.strand.specs.Held.{Lent as StrandLent}
 use Rattle.longdust.specs.declared.LongdustOptions.{LongdustOptions}
@@ -33,8 +31,7 @@ pub record Enough (n k w : ℕ) (b : Lent) : Type 0 where
   pub queue : w ≤ b .queue
   pub window-counts : 4 ^ k ≤ b .«window_counts»
   pub scan-counts : 4 ^ k ≤ b .«scan_counts»
-  pub places : w ≤ b .places
-  pub scores : w ≤ b .scores
+  pub candidates : w ≤ b .candidates
   pub codes : n ≤ b .codes
   pub reverse-codes : n ≤ b .«reverse_codes»
   pub forward-starts : (n + 1) / (k + 1) ≤ b .«forward_starts»
@@ -56,14 +53,10 @@ pub record Prepared (o : LongdustOptions) (ln f : List Float) (p : Params) : Typ
   pub setup-is : setupOf p ln f ≡ setup o ln f
   pub floats : ranges.Accepted (setup o ln f)
 
--- The list of the other strand; in a forward-only run it is not scanned.
-abbrev pub otherIntervals : Setup → Bool → List ℕ → List Interval
-otherIntervals S forward-only s = cond forward-only [] (intervalsOf S (reverseComplement s))
-
 -- Both strands' buffers, at p's numbers and n letters.
 pub record Exact (p : Params) (n : ℕ) (b : Lent) : Type 0 where
-  pub forward : StrandLent p n (b .ln) (b .f) (b .queue) (b .«window_counts») (b .«scan_counts») (b .places) (b .scores) (b .«forward_starts») (b .«forward_ends»)
-  pub reverse : StrandLent p n (b .ln) (b .f) (b .queue) (b .«window_counts») (b .«scan_counts») (b .places) (b .scores) (b .«reverse_starts») (b .«reverse_ends»)
+  pub forward : StrandLent p n (b .ln) (b .f) (b .queue) (b .«window_counts») (b .«scan_counts») (b .candidates) (b .«forward_starts») (b .«forward_ends»)
+  pub reverse : StrandLent p n (b .ln) (b .f) (b .queue) (b .«window_counts») (b .«scan_counts») (b .candidates) (b .«reverse_starts») (b .«reverse_ends»)
   pub reverse-codes : b .«reverse_codes» ≡ n
   pub starts : (n + 1) / (p .kmer + 1) ≤ b .starts
   pub ends : (n + 1) / (p .kmer + 1) ≤ b .ends

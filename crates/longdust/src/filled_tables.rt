@@ -15,8 +15,7 @@ pub fn process(
     queue: &mut [u32],
     window_counts: &mut [u16],
     scan_counts: &mut [u16],
-    places: &mut [u32],
-    scores: &mut [f64],
+    candidates: &mut [scans::ForwardPosition],
     codes: &mut [u8],
     reverse_codes: &mut [u8],
     forward_starts: &mut [u32],
@@ -28,11 +27,11 @@ pub fn process(
 ) -> Answer
     ensures { λ r. ⌜ Answered Filled options (now (sequence .entry))
         (buffers (now (ln .entry)) (now (f .entry)) (now (queue .entry)) (now («window_counts» .entry)) (now («scan_counts» .entry))
-        (now (places .entry)) (now (scores .entry)) (now (codes .entry)) (now («reverse_codes» .entry))
+        (now (candidates .entry)) (now (codes .entry)) (now («reverse_codes» .entry))
         (now («forward_starts» .entry)) (now («forward_ends» .entry)) (now («reverse_starts» .entry)) (now («reverse_ends» .entry))
         (now (starts .entry)) (now (ends .entry)))
         (buffers (now (ln .exit)) (now (f .exit)) (now (queue .exit)) (now («window_counts» .exit)) (now («scan_counts» .exit))
-        (now (places .exit)) (now (scores .exit)) (now (codes .exit)) (now («reverse_codes» .exit))
+        (now (candidates .exit)) (now (codes .exit)) (now («reverse_codes» .exit))
         (now («forward_starts» .exit)) (now («forward_ends» .exit)) (now («reverse_starts» .exit)) (now («reverse_ends» .exit))
         (now (starts .exit)) (now (ends .exit))) r ⌝ }
 {
@@ -42,8 +41,7 @@ pub fn process(
         queue: queue.len(),
         window_counts: window_counts.len(),
         scan_counts: scan_counts.len(),
-        places: places.len(),
-        scores: scores.len(),
+        candidates: candidates.len(),
         codes: codes.len(),
         reverse_codes: reverse_codes.len(),
         forward_starts: forward_starts.len(),
@@ -73,8 +71,7 @@ pub fn process(
         queue,
         window_counts,
         scan_counts,
-        places,
-        scores,
+        candidates,
         reverse_codes,
         forward_starts,
         forward_ends,

@@ -3,13 +3,12 @@
 ghost use mathlib.Core.Path.{_≡_};
 ghost use Prim.Native.Nat.{_<_};
 ghost use lib.ListN.{length};
-ghost use Rattle.intervals.specs.Rows.{rows, Rows};
+ghost use Rattle.intervals.specs.Rows.{Rows};
 ghost use Rattle.scans.specs.Setup.{setupOf};
 ghost use Rattle.strand.specs.Range.{tableInRange, inRange};
-ghost use Rattle.strand.specs.Held.{Lent};
 ghost use Rattle.longdust.specs.Mask.{maskOf};
 ghost use Rattle.longdust.specs.Call.{buffers, lengths};
-ghost use Rattle.longdust.specs.Inner.{Bounds, Admitted, Prepared, otherIntervals, Exact, Ran};
+ghost use Rattle.longdust.specs.Inner.{Bounds, Admitted, Prepared, Exact, Ran};
 use crate::Answer;
 use crate::LongdustOptions;
 use scans::Params;
@@ -59,50 +58,8 @@ fn in_range(p: Params, ln: &[f64], f: &[f64]) -> bool
     (p.threshold <= 16.0) & (ln_ok & f_ok)
 }
 
-// The list of the other strand, empty in a forward-only run; answers how many intervals it has.
-fn reverse_strand(
-    p: Params,
-    forward_only: bool,
-    encoded: &[u8],
-    ln: &[f64],
-    f: &[f64],
-    queue: &mut [u32],
-    window_counts: &mut [u16],
-    scan_counts: &mut [u16],
-    places: &mut [u32],
-    scores: &mut [f64],
-    reverse_codes: &mut [u8],
-    reverse_starts: &mut [u32],
-    reverse_ends: &mut [u32],
-) -> usize
-    requires { ⌜ Lent p (length (now encoded)) (length (now ln)) (length (now f)) (length (now queue))
-        (length (now «window_counts»)) (length (now «scan_counts»)) (length (now places)) (length (now scores))
-        (length (now «reverse_starts»)) (length (now «reverse_ends»)) ⌝ }
-    requires { ⌜ length (now «reverse_codes») ≡ length (now encoded) ⌝ }
-    ensures { λ r. ⌜ rows r (now («reverse_starts» .exit)) (now («reverse_ends» .exit))
-        ≡ otherIntervals (setupOf p (now (ln .entry)) (now (f .entry))) «forward_only» (now (encoded .entry)) ⌝ }
-{
-    if forward_only {
-        return 0;
-    }
-    letters::reverse_complement_encoded_sequence(encoded, reverse_codes);
-    strand::inner_process(
-        p,
-        reverse_codes,
-        ln,
-        f,
-        queue,
-        window_counts,
-        scan_counts,
-        places,
-        scores,
-        reverse_starts,
-        reverse_ends,
-    )
-}
-
 // Both strands on buffers of exactly the listed sizes; answers how many intervals the mask has.
-fn both_strands(
+pub fn both_strands(
     p: Params,
     forward_only: bool,
     encoded: &[u8],
@@ -111,8 +68,7 @@ fn both_strands(
     queue: &mut [u32],
     window_counts: &mut [u16],
     scan_counts: &mut [u16],
-    places: &mut [u32],
-    scores: &mut [f64],
+    candidates: &mut [scans::ForwardPosition],
     reverse_codes: &mut [u8],
     forward_starts: &mut [u32],
     forward_ends: &mut [u32],
@@ -123,7 +79,7 @@ fn both_strands(
 ) -> usize
     requires { ⌜ Exact p (length (now encoded)) (lengths
         (buffers (now ln) (now f) (now queue) (now «window_counts») (now «scan_counts»)
-        (now places) (now scores) (now encoded) (now «reverse_codes»)
+        (now candidates) (now encoded) (now «reverse_codes»)
         (now «forward_starts») (now «forward_ends») (now «reverse_starts») (now «reverse_ends»)
         (now starts) (now ends))) ⌝ }
     ensures { λ r. ⌜ Rows (maskOf (setupOf p (now (ln .entry)) (now (f .entry))) «forward_only» (now (encoded .entry)))
@@ -138,23 +94,33 @@ fn both_strands(
         queue,
         window_counts,
         scan_counts,
-        places,
-        scores,
+        candidates,
         forward_starts,
         forward_ends,
     );
-    let reverse_count = reverse_strand(
+    if forward_only {
+        return intervals::merge_intervals(
+            forward_starts,
+            forward_ends,
+            forward_count,
+            reverse_starts,
+            reverse_ends,
+            0,
+            n,
+            starts,
+            ends,
+        );
+    }
+    letters::reverse_complement_encoded_sequence(encoded, reverse_codes);
+    let reverse_count = strand::inner_process(
         p,
-        forward_only,
-        encoded,
+        reverse_codes,
         ln,
         f,
         queue,
         window_counts,
         scan_counts,
-        places,
-        scores,
-        reverse_codes,
+        candidates,
         reverse_starts,
         reverse_ends,
     );
@@ -180,8 +146,7 @@ pub fn mask_encoded(
     queue: &mut [u32],
     window_counts: &mut [u16],
     scan_counts: &mut [u16],
-    places: &mut [u32],
-    scores: &mut [f64],
+    candidates: &mut [scans::ForwardPosition],
     reverse_codes: &mut [u8],
     forward_starts: &mut [u32],
     forward_ends: &mut [u32],
@@ -192,16 +157,16 @@ pub fn mask_encoded(
 ) -> Answer
     requires { ⌜ Admitted options (length (now encoded)) (lengths
         (buffers (now ln) (now f) (now queue) (now «window_counts») (now «scan_counts»)
-        (now places) (now scores) (now encoded) (now «reverse_codes»)
+        (now candidates) (now encoded) (now «reverse_codes»)
         (now «forward_starts») (now «forward_ends») (now «reverse_starts») (now «reverse_ends»)
         (now starts) (now ends))) ⌝ }
     ensures { λ r. ⌜ Ran options (now (encoded .entry))
         (buffers (now (ln .entry)) (now (f .entry)) (now (queue .entry)) (now («window_counts» .entry)) (now («scan_counts» .entry))
-        (now (places .entry)) (now (scores .entry)) (now (encoded .entry)) (now («reverse_codes» .entry))
+        (now (candidates .entry)) (now (encoded .entry)) (now («reverse_codes» .entry))
         (now («forward_starts» .entry)) (now («forward_ends» .entry)) (now («reverse_starts» .entry)) (now («reverse_ends» .entry))
         (now (starts .entry)) (now (ends .entry)))
         (buffers (now (ln .exit)) (now (f .exit)) (now (queue .exit)) (now («window_counts» .exit)) (now («scan_counts» .exit))
-        (now (places .exit)) (now (scores .exit)) (now (encoded .exit)) (now («reverse_codes» .exit))
+        (now (candidates .exit)) (now (encoded .exit)) (now («reverse_codes» .exit))
         (now («forward_starts» .exit)) (now («forward_ends» .exit)) (now («reverse_starts» .exit)) (now («reverse_ends» .exit))
         (now (starts .exit)) (now (ends .exit))) r ⌝ }
 {
@@ -223,8 +188,7 @@ pub fn mask_encoded(
         &mut queue[..w],
         &mut window_counts[..kmers],
         &mut scan_counts[..kmers],
-        &mut places[..w],
-        &mut scores[..w],
+        &mut candidates[..w],
         &mut reverse_codes[..n],
         &mut forward_starts[..rows],
         &mut forward_ends[..rows],

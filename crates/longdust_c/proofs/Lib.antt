@@ -1,2 +1,6 @@
 pub mod Numbers
 pub mod Answers
+pub mod LongdustProcessTablesKinds
+pub mod LongdustProcessTablesReads
+pub mod LongdustProcessKinds
+pub mod LongdustProcessReads

@@ -4,7 +4,6 @@ ghost use mathlib.Core.Path.{_≡_};
 ghost use Prim.Native.Nat.{_<_};
 ghost use Rattle.longdust.specs.Call.{buffers, Kept, Filled};
 ghost use Rattle.longdust_c.specs.Exported.{gcOf, xdropOf, optionsOf, countOr, flag, Exported};
-use longdust::Answer;
 use longdust::LongdustOptions;
 use scans::Xdrop;
 use tables::GcOption;
@@ -97,8 +96,7 @@ pub extern "C" fn longdust_process_tables(
     queue: &mut [u32],
     window_counts: &mut [u16],
     scan_counts: &mut [u16],
-    candidate_places: &mut [u32],
-    candidate_scores: &mut [f64],
+    candidates: &mut [scans::ForwardPosition],
     codes: &mut [u8],
     reverse_codes: &mut [u8],
     forward_starts: &mut [u32],
@@ -110,8 +108,8 @@ pub extern "C" fn longdust_process_tables(
     in_range: &mut u32,
 ) -> i64
     ensures { λ r. ⌜ Exported Kept (optionsOf kmer «window_size» «score_threshold» «gc_kind» «gc_value» «xdrop_set» «xdrop_length» «min_start_cnt» approx «forward_only») (now (sequence .entry))
-        (buffers (now (ln .entry)) (now (f .entry)) (now (queue .entry)) (now («window_counts» .entry)) (now («scan_counts» .entry)) (now («candidate_places» .entry)) (now («candidate_scores» .entry)) (now (codes .entry)) (now («reverse_codes» .entry)) (now («forward_starts» .entry)) (now («forward_ends» .entry)) (now («reverse_starts» .entry)) (now («reverse_ends» .entry)) (now (starts .entry)) (now (ends .entry)))
-        (buffers (now (ln .exit)) (now (f .exit)) (now (queue .exit)) (now («window_counts» .exit)) (now («scan_counts» .exit)) (now («candidate_places» .exit)) (now («candidate_scores» .exit)) (now (codes .exit)) (now («reverse_codes» .exit)) (now («forward_starts» .exit)) (now («forward_ends» .exit)) (now («reverse_starts» .exit)) (now («reverse_ends» .exit)) (now (starts .exit)) (now (ends .exit)))
+        (buffers (now (ln .entry)) (now (f .entry)) (now (queue .entry)) (now («window_counts» .entry)) (now («scan_counts» .entry)) (now (candidates .entry)) (now (codes .entry)) (now («reverse_codes» .entry)) (now («forward_starts» .entry)) (now («forward_ends» .entry)) (now («reverse_starts» .entry)) (now («reverse_ends» .entry)) (now (starts .entry)) (now (ends .entry)))
+        (buffers (now (ln .exit)) (now (f .exit)) (now (queue .exit)) (now («window_counts» .exit)) (now («scan_counts» .exit)) (now (candidates .exit)) (now (codes .exit)) (now («reverse_codes» .exit)) (now («forward_starts» .exit)) (now («forward_ends» .exit)) (now («reverse_starts» .exit)) (now («reverse_ends» .exit)) (now (starts .exit)) (now (ends .exit)))
         r (now («in_range» .exit)) ⌝ }
 {
     let options = options_of(
@@ -134,8 +132,7 @@ pub extern "C" fn longdust_process_tables(
         queue,
         window_counts,
         scan_counts,
-        candidate_places,
-        candidate_scores,
+        candidates,
         codes,
         reverse_codes,
         forward_starts,
@@ -168,8 +165,7 @@ pub extern "C" fn longdust_process(
     queue: &mut [u32],
     window_counts: &mut [u16],
     scan_counts: &mut [u16],
-    candidate_places: &mut [u32],
-    candidate_scores: &mut [f64],
+    candidates: &mut [scans::ForwardPosition],
     codes: &mut [u8],
     reverse_codes: &mut [u8],
     forward_starts: &mut [u32],
@@ -181,8 +177,8 @@ pub extern "C" fn longdust_process(
     in_range: &mut u32,
 ) -> i64
     ensures { λ r. ⌜ Exported Filled (optionsOf kmer «window_size» «score_threshold» «gc_kind» «gc_value» «xdrop_set» «xdrop_length» «min_start_cnt» approx «forward_only») (now (sequence .entry))
-        (buffers (now (ln .entry)) (now (f .entry)) (now (queue .entry)) (now («window_counts» .entry)) (now («scan_counts» .entry)) (now («candidate_places» .entry)) (now («candidate_scores» .entry)) (now (codes .entry)) (now («reverse_codes» .entry)) (now («forward_starts» .entry)) (now («forward_ends» .entry)) (now («reverse_starts» .entry)) (now («reverse_ends» .entry)) (now (starts .entry)) (now (ends .entry)))
-        (buffers (now (ln .exit)) (now (f .exit)) (now (queue .exit)) (now («window_counts» .exit)) (now («scan_counts» .exit)) (now («candidate_places» .exit)) (now («candidate_scores» .exit)) (now (codes .exit)) (now («reverse_codes» .exit)) (now («forward_starts» .exit)) (now («forward_ends» .exit)) (now («reverse_starts» .exit)) (now («reverse_ends» .exit)) (now (starts .exit)) (now (ends .exit)))
+        (buffers (now (ln .entry)) (now (f .entry)) (now (queue .entry)) (now («window_counts» .entry)) (now («scan_counts» .entry)) (now (candidates .entry)) (now (codes .entry)) (now («reverse_codes» .entry)) (now («forward_starts» .entry)) (now («forward_ends» .entry)) (now («reverse_starts» .entry)) (now («reverse_ends» .entry)) (now (starts .entry)) (now (ends .entry)))
+        (buffers (now (ln .exit)) (now (f .exit)) (now (queue .exit)) (now («window_counts» .exit)) (now («scan_counts» .exit)) (now (candidates .exit)) (now (codes .exit)) (now («reverse_codes» .exit)) (now («forward_starts» .exit)) (now («forward_ends» .exit)) (now («reverse_starts» .exit)) (now («reverse_ends» .exit)) (now (starts .exit)) (now (ends .exit)))
         r (now («in_range» .exit)) ⌝ }
 {
     let options = options_of(
@@ -205,8 +201,7 @@ pub extern "C" fn longdust_process(
         queue,
         window_counts,
         scan_counts,
-        candidate_places,
-        candidate_scores,
+        candidates,
         codes,
         reverse_codes,
         forward_starts,

@@ -3,6 +3,7 @@
 ghost use Prim.Native.Nat.{_≤_};
 use longdust::Answer;
 use longdust::LongdustOptions;
+use scans::ForwardPosition;
 
 fn least(a: usize, b: usize) -> usize
     ensures { λ r. ⌜ (r ≤ a) × (r ≤ b) ⌝ }
@@ -15,7 +16,7 @@ fn least(a: usize, b: usize) -> usize
 fn entries(number: u64, short: u64, listed: usize, room: usize) -> usize
     ensures { λ r. ⌜ r ≤ room ⌝ }
 {
-    if short == 16 {
+    if short == 15 {
         return 0;
     }
     if short == number {
@@ -26,8 +27,15 @@ fn entries(number: u64, short: u64, listed: usize, room: usize) -> usize
     least(listed, room)
 }
 
+fn some_candidates() -> [ForwardPosition; 64] {
+    [ForwardPosition {
+        pos: 0xdead_beef,
+        max_score: 1e300,
+    }; 64]
+}
+
 // The call on lent tables or the filling call.
-fn call(
+pub fn call(
     lent: bool,
     sequence: &[u8],
     options: LongdustOptions,
@@ -36,8 +44,7 @@ fn call(
     queue: &mut [u32],
     window_counts: &mut [u16],
     scan_counts: &mut [u16],
-    places: &mut [u32],
-    scores: &mut [f64],
+    candidates: &mut [ForwardPosition],
     codes: &mut [u8],
     reverse_codes: &mut [u8],
     forward_starts: &mut [u32],
@@ -56,8 +63,7 @@ fn call(
             queue,
             window_counts,
             scan_counts,
-            places,
-            scores,
+            candidates,
             codes,
             reverse_codes,
             forward_starts,
@@ -76,8 +82,7 @@ fn call(
         queue,
         window_counts,
         scan_counts,
-        places,
-        scores,
+        candidates,
         codes,
         reverse_codes,
         forward_starts,
@@ -111,21 +116,19 @@ pub fn answer(
     let queue_size = entries(3, short, w, 64);
     let window_counts_size = entries(4, short, kmers, 4096);
     let scan_counts_size = entries(5, short, kmers, 4096);
-    let places_size = entries(6, short, w, 64);
-    let scores_size = entries(7, short, w, 64);
-    let codes_size = entries(8, short, n, 200);
-    let reverse_codes_size = entries(9, short, n, 200);
-    let forward_starts_size = entries(10, short, rows, 100);
-    let forward_ends_size = entries(11, short, rows, 100);
-    let reverse_starts_size = entries(12, short, rows, 100);
-    let reverse_ends_size = entries(13, short, rows, 100);
-    let starts_size = entries(14, short, rows, starts.len());
-    let ends_size = entries(15, short, rows, ends.len());
+    let candidates_size = entries(6, short, w, 64);
+    let codes_size = entries(7, short, n, 200);
+    let reverse_codes_size = entries(8, short, n, 200);
+    let forward_starts_size = entries(9, short, rows, 100);
+    let forward_ends_size = entries(10, short, rows, 100);
+    let reverse_starts_size = entries(11, short, rows, 100);
+    let reverse_ends_size = entries(12, short, rows, 100);
+    let starts_size = entries(13, short, rows, starts.len());
+    let ends_size = entries(14, short, rows, ends.len());
     let mut queue = [0xdead_beefu32; 64];
     let mut window_counts = [0xbeefu16; 4096];
     let mut scan_counts = [0xbeefu16; 4096];
-    let mut places = [0xdead_beefu32; 64];
-    let mut scores = [1e300f64; 64];
+    let mut candidates = some_candidates();
     let mut codes = [0xeeu8; 200];
     let mut reverse_codes = [0xeeu8; 200];
     let mut forward_starts = [0xdead_beefu32; 100];
@@ -141,8 +144,7 @@ pub fn answer(
         &mut queue[..queue_size],
         &mut window_counts[..window_counts_size],
         &mut scan_counts[..scan_counts_size],
-        &mut places[..places_size],
-        &mut scores[..scores_size],
+        &mut candidates[..candidates_size],
         &mut codes[..codes_size],
         &mut reverse_codes[..reverse_codes_size],
         &mut forward_starts[..forward_starts_size],

@@ -1,24 +1,29 @@
--- The backward scan put together: nothing found, the best place with the candidates, and the candidates tried. Assumes nothing.
-use mathlib.Core.Path.{_≡_, ap, subst}
+-- The backward scan put together: what the slice holds can be tried, and its outcome is the definition's. Assumes nothing.
+use mathlib.Core.Path.{_≡_, sym, ap, ap₂, _∙_, subst}
+use mathlib.Core.Bool.{Bool, true, false, cond}
 use mathlib.Core.List.{List, [], _∷_}
-use mathlib.Core.Logic.{_≢_}
 use Prim.Native.Nat.{ℕ, zero, suc, _^_, _<_, _≤_}
 use native.Mathlib.Omega.{arith}
 use lib.ListN.{length, getD}
-use lib.Ieee.{Float}
-use borrow.Author.Tests.{eq-eqb, ne-eqb}
+use lib.Dec.{eqb}
 use Rattle.letters.specs.Place.{Place}
 use Rattle.scans.specs.declared.Params.{Params}
-use Rattle.scans.specs.declared.BackwardState.{BackwardState}
+use Rattle.scans.specs.declared.ForwardPosition.{ForwardPosition}
 use Rattle.scans.specs.declared.Scanned.{Scanned as Answer}
 use Rattle.scans.specs.Setup.{Setup}
-use Rattle.scans.specs.Scans.{none, Candidate, noCandidate, Backward, withBest, tryFrom, tried, dustBackward}
-use Rattle.scans.specs.Window.{Windowed}
-use Rattle.scans.specs.Parts.{Ringed, candidates, ScansBackward, Holds}
+use Rattle.scans.specs.Counts.{cleared}
+use Rattle.scans.specs.Scans.{none, Outcome, Candidate, noCandidate, backwardStart, Backward, backwardFrom, withBest, tryFrom, tried, dustBackward}
+use Rattle.scans.specs.Window.{Windowed, Roomy}
+use Rattle.scans.specs.Parts.{Ringed}
+use Rattle.scans.specs.Search.{candidatesIn, toTry, ScansBackward, Holds}
 use Rattle.scans.specs.Carry.{Answers}
-use Rattle.scans.proofs.Candidates.{AllBelow, Scanned, backward-scanned, candidates-fit}
+use Rattle.scans.proofs.Candidates.{AllBelow}
 use Rattle.scans.proofs.Walk.{windowed-queued}
 use Rattle.scans.proofs.Slices.{candidates-length, candidates-at}
+use Rattle.scans.proofs.Searching.{to-try-fit}
+
+pub roomy-as : {p : Params} {f-length n-counts n : ℕ} (counts′ n′ : ℕ) → counts′ ≡ n-counts → n′ ≡ n → Roomy p f-length n-counts n → Roomy p f-length counts′ n′
+roomy-as counts′ n′ ec e r = record { f-long = r .f-long; counts-is = ec ∙ r .counts-is; candidates-long = omega (arith, r .candidates-long) }
 
 pub ringed : {p : Params} {ring : List ℕ} {head len : ℕ} {window-counts : List ℕ} {n m k : ℕ} → k ≡ 4 ^ p .kmer → p .window < m → Windowed p ring head len window-counts n → Ringed ring head len n m k
 ringed e l w = record { queued = windowed-queued w e; ln-long = omega (arith, w .ring-is, w .ln-long); f-long = omega (arith, w .ring-is) }
@@ -28,37 +33,31 @@ below-at n [] j h l = absurd (let b : ⊥ = omega arith in b)
 below-at n (c ∷ cs) zero h l = h .0
 below-at n (c ∷ cs) (suc j) h l = below-at n cs j (h .1) (omega arith)
 
-module _ (S : Setup) (q : List Place) (b : BackwardState) (counts places : List ℕ) (scores : List Float) (h : ScansBackward S q b counts (candidates (b .noted) places scores)) where
-  pub no-best : b .found ≡ 0 → dustBackward S q .find ≡ none
-  unfolding dustBackward tried
-  no-best z = rw (h .scanned, eq-eqb (b .found) 0 z)
+to-tried : (S : Setup) (q : List Place) (b : Backward) (r : Answer) (counts : List ℕ) → Answers S q (tryFrom S q (toTry b) (length (toTry b)) 0 (b .counts)) r counts → Answers S q (tried S q b) r counts
+unfolding tried tryFrom
+to-tried S q b r counts t = go (eqb (b .found) 0) (withBest (b .best) (b .found) (b .candidates)) t
+  where
+    go : (e : Bool) (cs : List Candidate) → Answers S q (tryFrom S q (cond e [] cs) (length (cond e [] cs)) 0 (b .counts)) r counts
+        → Answers S q (cond e (record { find = none; counts = b .counts }) (tryFrom S q cs (length cs) 0 (b .counts))) r counts
+    go true cs a = a
+    go false cs a = a
 
-  module _ (len : ℕ) (l : length q ≡ len) (some : 0 < len) (is-found : b .found ≡ 0 → ⊥) where
-    scanned : Scanned len (record { best = b .best; found = b .found; counts = counts; candidates = candidates (b .noted) places scores })
-    scanned = subst (λ (n : ℕ). Scanned n (record { best = b .best; found = b .found; counts = counts; candidates = candidates (b .noted) places scores })) l
-        (subst (λ (z : Backward). Scanned (length q) z) (h .scanned) (backward-scanned S q (omega arith)))
+-- What the slice holds can be tried.
+pub all-held : (S : Setup) (q : List Place) (len n : ℕ) (counts : List ℕ) (records : List ForwardPosition) → ScansBackward S q counts (candidatesIn n records) → length q ≡ len → 0 < len → len ≤ length records → Holds len n records
+all-held S q len n counts records h l some room =
+    let k = candidates-length n records in
+    let fit : (length (candidatesIn n records) ≤ length q) × AllBelow (length q) (candidatesIn n records) = rw (h .all) (to-try-fit S q (omega arith)) in
+    record {
+      room = omega (arith, fit .0);
+      inside = λ j m.
+          let e = ap (λ (c : Candidate). c .place) (candidates-at n records j m) in
+          omega (arith, e, below-at (length q) (candidatesIn n records) j (fit .1) (omega arith));
+    }
 
-    -- There is room for the best place.
-    pub best-room : (b .noted < len) × (0 < b .found) × (b .found ≤ len)
-    best-room = let d : b .found ≢ 0 = is-found in (omega (arith, scanned .few, candidates-length (b .noted) places scores), omega arith, scanned .found-in)
-
-    module _ (n : ℕ) (places′ : List ℕ) (scores′ : List Float) (w : candidates n places′ scores′ ≡ withBest (b .best) (b .found) (candidates (b .noted) places scores)) where
-      fit : (length (candidates n places′ scores′) ≤ len) × AllBelow len (candidates n places′ scores′)
-      fit = rw w (candidates-fit len (record { best = b .best; found = b .found; counts = counts; candidates = candidates (b .noted) places scores }) scanned)
-
-      pub all-held : len ≤ length places′ → len ≤ length scores′ → Holds len n places′ (length scores′)
-      all-held lp ls =
-          let k = candidates-length n places′ scores′ in
-          record {
-            in-places = omega (arith, fit .0);
-            in-scores = omega (arith, fit .0);
-            inside = λ j m.
-                let e : getD (candidates n places′ scores′) j noCandidate .place ≡ getD places′ j 0 = ap (λ (c : Candidate). c .place) (candidates-at n places′ scores′ j m) in
-                omega (arith, below-at len (candidates n places′ scores′) j (fit .1) (omega arith));
-          }
-
-      pub answers-tried : (r : Answer) (counts′ : List ℕ) → ((before : List ℕ) → Answers S q (tryFrom S q (candidates n places′ scores′) n 0 before) r counts′) → Answers S q (dustBackward S q) r counts′
-      unfolding dustBackward tried
-      answers-tried r counts′ t =
-          let k : length (candidates n places′ scores′) ≡ n = candidates-length n places′ scores′ in
-          rw (h .scanned, ne-eqb (b .found) 0 is-found, ← w, k) (t counts)
+-- The outcome of all tries is the definition's, but for counts that a search without a find leaves.
+pub answers-tried : (S : Setup) (q : List Place) (n : ℕ) (counts₁ : List ℕ) (cs : List Candidate) → ScansBackward S q counts₁ cs → length cs ≡ n → (r : Answer) (counts : List ℕ)
+    → ((before : List ℕ) → Answers S q (tryFrom S q cs n 0 before) r counts) → Answers S q (dustBackward S q) r counts
+unfolding dustBackward
+answers-tried S q n counts₁ cs h l r counts t =
+    let b : Backward = backwardFrom S q (length q) 1 backwardStart (cleared S) [] in
+    to-tried S q b r counts (subst (λ (o : Outcome). Answers S q o r counts) (ap₂ (λ (x : List Candidate) (m : ℕ). tryFrom S q x m 0 (b .counts)) (h .all) (sym l ∙ ap length (h .all))) (t (b .counts)))

@@ -2,26 +2,25 @@
 use mathlib.Core.Path.{_≡_, refl, sym, ap, ap₂, _∙_, subst}
 use mathlib.Core.Bool.{Bool, true, false, cond, not, _&&_, _||_, true≢false}
 use mathlib.Core.List.{List, [], _∷_, _++_}
-use Prim.Native.Nat.{ℕ, suc, _+_, _-_, _^_, _<_, _≤_}
+use Prim.Native.Nat.{ℕ, suc, _+_, _-_, _<_, _≤_}
 use native.Mathlib.Omega.{arith}
 use lib.ListN.{length, getD, drop, replicate}
 use lib.Seq.{drop-length}
-use lib.Dec.{T, eqb}
+use lib.Dec.{T, eqb, ltb}
 use lib.Ieee.{Float, neg, lt, le, eq, ofBits, ofFields}
 use Rattle.floats.specs.Arithmetic.{_⊕_, _⊖_}
 use Rattle.floats.specs.Binary64.{zero64}
 use Rattle.letters.specs.Place.{Place, ambiguous}
-use Rattle.scans.specs.declared.Params.{Params}
 use Rattle.scans.specs.declared.BackwardState.{BackwardState}
-use Rattle.scans.specs.Setup.{Setup, fAt, kmers, setupOf}
-use Rattle.scans.specs.Counts.{raise, cleared, Counted}
+use Rattle.scans.specs.Setup.{Setup, fAt, kmers}
+use Rattle.scans.specs.Counts.{raise, Counted}
 use Rattle.scans.specs.Scans.{value, secondValue, Candidate, candidate, BackwardSums, backwardStart, isNoted, noted, isDropped, backwardJudged, Backward, backwardFrom}
-use Rattle.scans.specs.Window.{Roomy}
-use Rattle.scans.specs.Parts.{backwardOf, candidates, withSums, withBestAt, withLast, withNoted, stoppedAt, Notes, Fresh, Ended, Backs, BackwardPart, ScansBackward}
+use Rattle.scans.specs.Parts.{Seam, Straight, backwardOf, withBestAt, withLast, pausedAt, Fresh, Ended, Backs, BackwardPart}
 use Rattle.scans.proofs.Counting.{cleared-counted}
 use Rattle.floats.proofs.Order.{lt-self, le-lt-trans}
 use Rattle.scans.proofs.Reading.{Read, Entered}
-use Rattle.scans.proofs.Windows.{long}
+use Rattle.scans.proofs.ForwardScan.{before-seam, past-seam}
+use borrow.Author.Tests.{ltb-true, ltb-false}
 
 -- ---- The tests in the code's order.
 pub and-nothing : (b c : Bool) → b && (c && false) ≡ false
@@ -37,6 +36,18 @@ no-fall best sl last p h = go (lt sl last) refl
     go true e = absurd (subst T p (le-lt-trans best sl last (subst T (sym h) tt) (subst T (sym e) tt)))
     go false e = refl
 
+pub first-true : (b c : Bool) → b && c ≡ true → b ≡ true
+first-true true c e = refl
+first-true false c e = e
+
+pub last-true : (b c : Bool) → b && c ≡ true → c ≡ true
+last-true true c e = e
+last-true false c e = absurd (true≢false (sym e))
+
+pub neither : (b c : Bool) → b || c ≡ false → (b ≡ false) × (c ≡ false)
+neither true c e = absurd (true≢false e)
+neither false c e = (refl, e)
+
 -- A score below the best is not above it.
 not-above : (best sl : Float) → le best sl ≡ false → lt best sl ≡ false
 unfolding le
@@ -45,14 +56,6 @@ not-above best sl h = go (lt best sl) (eq best sl) h
     go : (b c : Bool) → b || c ≡ false → b ≡ false
     go true c e = e
     go false c e = refl
-
--- ---- A candidate is noted, or not.
-module _ (sl : Float) (i : ℕ) (a : BackwardState) (cs : List Candidate) where
-  pub note-one : (n : ℕ) (cs′ : List Candidate) → isNoted (backwardOf a) sl ≡ true → n ≡ a .noted + 1 → cs′ ≡ cs ++ candidate (i + 1) (a .best) ∷ [] → Notes sl i a (withNoted a n) cs cs′
-  note-one n cs′ t e p = record { state-is = refl; at-most = omega arith; candidates-are = p ∙ rw t }
-
-  pub note-none : isNoted (backwardOf a) sl ≡ false → Notes sl i a a cs cs
-  note-none t = record { state-is = refl; at-most = omega arith; candidates-are = rw t }
 
 -- ---- The definition, one entry on: i entries are left, e is the next, v and vw are its values.
 module _ (S : Setup) (q : List Place) (i l : ℕ) (a : BackwardSums) (counts : List ℕ) (cs : List Candidate) (e : Place) (v vw : Float)
@@ -90,70 +93,95 @@ module _ (S : Setup) (q : List Place) (i l : ℕ) (a : BackwardSums) (counts : L
         turn ∙ rw (on, h, z)
 
     module _ (h : le (a .best) sl ≡ false) where
-      pub turn-dropped : not (eqb (a .found) 0) && lt (S .drop-limit) (a .best ⊖ sl) ≡ true → backwardFrom S q i l a counts cs ≡ answer a (noted a sl (i - 1) cs)
-      turn-dropped d = turn ∙ rw (on, h, d)
+      pub turn-below : backwardFrom S q i l a counts cs
+          ≡ cond (not (eqb (a .found) 0) && lt (S .drop-limit) (a .best ⊖ sl)) (answer a (noted a sl (i - 1) cs))
+          (backwardFrom S q (i - 1) (l + 1) (record { s = s; sw = sw; last = sl; best = a .best; found = a .found }) (raise counts e) (noted a sl (i - 1) cs))
+      turn-below = turn ∙ rw (on, h)
 
-      pub turn-fallen : not (eqb (a .found) 0) && lt (S .drop-limit) (a .best ⊖ sl) ≡ false
-          → backwardFrom S q i l a counts cs ≡ backwardFrom S q (i - 1) (l + 1) (record { s = s; sw = sw; last = sl; best = a .best; found = a .found }) (raise counts e) (noted a sl (i - 1) cs)
-      turn-fallen d = turn ∙ rw (on, h, d)
-
--- ---- The code's loop over entries `to - 1` down to `from`: what is left of the scan is the whole scan.
-pub record Backing (S : Setup) (q : List Place) (from to : ℕ) (a : BackwardState) (counts₀ places₀ : List ℕ) (scores₀ : List Float) (i : ℕ) (b : BackwardState) (counts places : List ℕ) (scores : List Float) : Type 0 where
+-- ---- The code's loop down to entry `from`: what is left of the scan is the whole scan, whatever is noted.
+pub record Backing (S : Setup) (q : List Place) (from : ℕ) (a : BackwardState) (counts₀ : List ℕ) (i : ℕ) (b : BackwardState) (counts : List ℕ) : Type 0 where
   pub from-in : from ≤ i
-  pub to-in : i ≤ to
+  pub to-in : i ≤ a .low
   pub same-counts : length counts ≡ length counts₀
-  pub same-places : length places ≡ length places₀
-  pub same-scores : length scores ≡ length scores₀
-  pub here : Backs (kmers S) q i b counts
-  pub rest : backwardFrom S q to (length q + 1 - to) (backwardOf a) counts₀ (candidates (a .noted) places₀ scores₀) ≡ backwardFrom S q i (length q + 1 - i) (backwardOf b) counts (candidates (b .noted) places scores)
+  pub counted : Counted (kmers S) counts (drop i q)
+  pub found-in : b .found ≤ length q
+  pub found-kept : b .found ≡ 0 → a .found ≡ 0
+  pub level : lt (b .best) (b .last) ≡ false
+  pub from-zero : b .found ≡ 0 → b .best ≡ zero64
+  pub rest : (cs : List Candidate) → backwardFrom S q (a .low) (length q + 1 - a .low) (backwardOf a) counts₀ cs ≡ backwardFrom S q i (length q + 1 - i) (backwardOf b) counts cs
 
-module _ (S : Setup) (q : List Place) (from to : ℕ) (a : BackwardState) (counts₀ places₀ : List ℕ) (scores₀ : List Float) where
-  pub backing-start : from ≤ to → Backs (kmers S) q to a counts₀ → Backing S q from to a counts₀ places₀ scores₀ to a counts₀ places₀ scores₀
-  backing-start l h = record { from-in = l; to-in = omega arith; same-counts = refl; same-places = refl; same-scores = refl; here = h; rest = refl }
+module _ (S : Setup) (q : List Place) (from : ℕ) (a : BackwardState) (counts₀ : List ℕ) (some : from < a .low) (in-window : a .low ≤ length q) where
+  pub backing-start : Backs (kmers S) q a counts₀ → Backing S q from a counts₀ (a .low) a counts₀
+  backing-start h =
+      record {
+        from-in = omega arith;
+        to-in = omega arith;
+        same-counts = refl;
+        counted = h .ended .counted;
+        found-in = h .found-in;
+        found-kept = λ e. e;
+        level = h .level;
+        from-zero = h .from-zero;
+        rest = λ cs. refl;
+      }
 
-  module _ (i : ℕ) (b : BackwardState) (counts places : List ℕ) (scores : List Float) (c : Backing S q from to a counts₀ places₀ scores₀ i b counts places scores) where
-    pub backing-end : i ≤ from → BackwardPart S q from to a b counts₀ counts (candidates (a .noted) places₀ scores₀) (candidates (b .noted) places scores)
-    backing-end h =
+  module _ (i : ℕ) (b : BackwardState) (counts : List ℕ) (c : Backing S q from a counts₀ i b counts) where
+    pub backing-end : i ≤ from → (b′ : BackwardState) → b′ ≡ pausedAt b from false false → BackwardPart S q a b′ counts₀ counts
+    backing-end h b′ z =
         let e : i ≡ from = omega (arith, c .from-in) in
-        record {
-          scanned = c .rest ∙ ap (λ (j : ℕ). backwardFrom S q j (length q + 1 - j) (backwardOf b) counts (candidates (b .noted) places scores)) e ∙ rw (c .here .unstopped .1);
-          next = λ _. subst (λ (j : ℕ). Backs (kmers S) q j b counts) e (c .here);
-          stop = λ d. absurd (true≢false (sym d ∙ c .here .unstopped .1));
-        }
+        rw z
+        (record {
+          scanned = λ cs. c .rest cs ∙ ap (λ (j : ℕ). backwardFrom S q j (length q + 1 - j) (backwardOf b) counts cs) e;
+          less = some;
+          here = record {
+            ended = record { low-in = omega arith; counted = subst (λ (j : ℕ). Counted (kmers S) counts (drop j q)) e (c .counted) };
+            found-in = c .found-in;
+            level = c .level;
+            from-zero = c .from-zero;
+          };
+          kept = c .found-kept;
+          peaked = λ t _. absurd (true≢false (sym t));
+        })
 
-    pub backing-read : Read q from to (kmers S) i counts
-    backing-read = record { from-in = c .from-in; to-in = c .to-in; counted = c .here .counted }
+    pub backing-read : Read q from (a .low) (kmers S) i counts
+    backing-read = record { from-in = c .from-in; to-in = c .to-in; counted = c .counted }
 
-    module _ (b₁ : BackwardState) (fl : Float) (counts′ : List ℕ) (r : Entered S q from to i b b₁ fl counts counts′) where
+    module _ (b₁ : BackwardState) (fl : Float) (counts′ : List ℕ) (r : Entered S q from (a .low) i b b₁ fl counts counts′) where
       abbrev score′ : Float
       score′ = b .s ⊕ (r .v ⊖ S .threshold) ⊖ fAt S (length q + 1 - i)
 
       abbrev score : Float
       score = b₁ .s ⊖ fl
 
-      abbrev cs : List Candidate
-      cs = candidates (b .noted) places scores
-
       counts-long : length counts′ ≡ length counts₀
-      counts-long = r .read .counted .long ∙ sym (c .here .counted .long) ∙ c .same-counts
+      counts-long = r .read .counted .long ∙ sym (c .counted .long) ∙ c .same-counts
 
-      -- There is room for a candidate.
-      pub note-ready : (w : ℕ) → length q ≤ w → w ≤ length places₀ → w ≤ length scores₀ → (b₁ .noted < length places) × (b₁ .noted < length scores)
-      note-ready w l lp ls =
-          let n : b₁ .noted ≡ b .noted = ap (λ (z : BackwardState). z .noted) (r .sums-are) in
-          (omega (arith, c .here .few, c .same-places, r .more), omega (arith, c .here .few, c .same-scores, r .more))
+      one-on : i - 1 < a .low
+      one-on = omega (arith, c .to-in, r .more)
 
-      ended : (b′ b₂ : BackwardState) → b′ ≡ stoppedAt b₂ (i - 1) false → Ended (kmers S) q b′ counts′
-      ended b′ b₂ z = rw z (record { low-in = omega (arith, r .inside); counted = r .read .counted })
+      resting : (b₂ b′ : BackwardState) (peak done : Bool) → b′ ≡ pausedAt b₂ (i - 1) peak done → b₂ .found ≡ b .found → b₂ .best ≡ b .best → lt (b₂ .best) (b₂ .last) ≡ false → Backs (kmers S) q b′ counts′
+      resting b₂ b′ peak done z f g l =
+          rw z
+          (record {
+            ended = record { low-in = omega (arith, r .inside); counted = r .read .counted };
+            found-in = omega (arith, c .found-in);
+            level = l;
+            from-zero = λ e. g ∙ c .from-zero (sym f ∙ e);
+          })
 
-      pub backing-ended : (b′ : BackwardState) → b′ ≡ stoppedAt b₁ (i - 1) false → lt (b₁ .sw ⊖ fl) zero64 ≡ true
-          → BackwardPart S q from to a b′ counts₀ counts′ (candidates (a .noted) places₀ scores₀) (candidates (b′ .noted) places scores)
+      found-is : b₁ .found ≡ b .found
+      found-is = ap (λ (y : BackwardState). y .found) (r .sums-are)
+
+      pub backing-ended : (b′ : BackwardState) → b′ ≡ pausedAt b₁ (i - 1) false true → lt (b₁ .sw ⊖ fl) zero64 ≡ true → BackwardPart S q a b′ counts₀ counts′
       backing-ended b′ z h =
           record {
-            scanned = c .rest ∙ turn-ended S q i (length q + 1 - i) (backwardOf b) counts cs (r .e) (r .v) (r .vw) (omega (arith, r .more)) (r .place-is) (r .value-is) (r .second-is) (rw (r .second-score-is) at h)
+            scanned = λ cs. c .rest cs
+                ∙ turn-ended S q i (length q + 1 - i) (backwardOf b) counts cs (r .e) (r .v) (r .vw) (omega (arith, r .more)) (r .place-is) (r .value-is) (r .second-is) (rw (r .second-score-is) at h)
                 ∙ rw (z, r .sums-are, r .counts-are);
-            next = λ g. absurd (true≢false (sym (ap (λ (y : BackwardState). y .done) z) ∙ g));
-            stop = λ _. ended b′ b₁ z;
+            less = rw z one-on;
+            here = resting b₁ b′ false true z (rw (r .sums-are)) (rw (r .sums-are)) (rw (r .sums-are) (c .level));
+            kept = λ e. c .found-kept (sym found-is ∙ ap (λ (y : BackwardState). y .found) (sym z) ∙ e);
+            peaked = λ t _. absurd (true≢false (sym t ∙ ap (λ (y : BackwardState). y .peak) z));
           }
 
       module _ (on : lt (b₁ .sw ⊖ fl) zero64 ≡ false) where
@@ -170,118 +198,122 @@ module _ (S : Setup) (q : List Place) (from to : ℕ) (a : BackwardState) (count
             let l : length q + 1 - i + 1 ≡ length q + 1 - (i - 1) = omega (arith, r .inside, r .more) in
             rw (l, ex, ec, r .counts-are)
 
-        pub backing-raised : le (b₁ .best) score ≡ true → (b₂ : BackwardState) → b₂ ≡ withBestAt b₁ score (i - 1) → Backing S q from to a counts₀ places₀ scores₀ (i - 1) b₂ counts′ places scores
+        pub backing-raised : le (b₁ .best) score ≡ true → (b₂ : BackwardState) → b₂ ≡ withBestAt b₁ score (i - 1) → Backing S q from a counts₀ (i - 1) b₂ counts′
         backing-raised h b₂ z =
-            let n : b₂ .noted ≡ b .noted = ap (λ (y : BackwardState). y .noted) z ∙ ap (λ (y : BackwardState). y .noted) (r .sums-are) in
+            let f : b₂ .found ≡ i - 1 + 1 = ap (λ (y : BackwardState). y .found) z in
             record {
               from-in = r .read .from-in;
               to-in = r .read .to-in;
               same-counts = counts-long;
-              same-places = c .same-places;
-              same-scores = c .same-scores;
-              here = record {
-                unstopped = rw (z, r .sums-are) (c .here .unstopped);
-                few = omega (arith, c .here .few);
-                counted = r .read .counted;
-                peak = rw z (lt-self score);
-              };
-              rest = c .rest ∙ turn-raised S q i (length q + 1 - i) (backwardOf b) counts cs (r .e) (r .v) (r .vw) (omega (arith, r .more)) (r .place-is) (r .value-is) (r .second-is) on′ (c .here .peak) (compared true h)
-                  ∙ on-with _ (backwardOf b₂) _ (candidates (b₂ .noted) places scores) (rw (z, r .score-is, r .sums-are)) (ap (λ (y : ℕ). candidates y places scores) (sym n));
+              counted = r .read .counted;
+              found-in = omega (arith, r .inside, r .more);
+              found-kept = λ e. absurd (let n : ⊥ = omega arith in n);
+              level = rw z (lt-self score);
+              from-zero = λ e. absurd (let n : ⊥ = omega arith in n);
+              rest = λ cs. c .rest cs
+                  ∙ turn-raised S q i (length q + 1 - i) (backwardOf b) counts cs (r .e) (r .v) (r .vw) (omega (arith, r .more)) (r .place-is) (r .value-is) (r .second-is) on′ (c .level) (compared true h)
+                  ∙ on-with _ (backwardOf b₂) cs cs (rw (z, r .score-is, r .sums-are)) refl;
             }
 
-        module _ (h : le (b₁ .best) score ≡ false) (b₂ : BackwardState) (places′ : List ℕ) (scores′ : List Float) (n : Notes score (i - 1) b₁ b₂ (candidates (b₁ .noted) places scores) (candidates (b₂ .noted) places′ scores′)) where
-          noted-are : candidates (b₂ .noted) places′ scores′ ≡ noted (backwardOf b) score′ (i - 1) cs
-          noted-are = n .candidates-are ∙ rw (r .score-is, r .sums-are)
+        module _ (h : le (b₁ .best) score ≡ false) (peak low : Bool) (p : peak ≡ isNoted (backwardOf b₁) score) (d : low ≡ (not (eqb (b₁ .found) 0) && lt (S .drop-limit) (b₁ .best ⊖ score)))
+            (b₂ : BackwardState) (z : b₂ ≡ withLast b₁ score) where
+          is-noted : isNoted (backwardOf b) score′ ≡ peak
+          is-noted = sym (p ∙ rw (r .score-is, r .sums-are))
 
-          kept : b₂ ≡ withNoted (withSums b (b₁ .s) (b₁ .sw)) (b₂ .noted)
-          kept = n .state-is ∙ rw (r .sums-are)
+          limited : not (eqb (b .found) 0) && lt (S .drop-limit) (b .best ⊖ score′) ≡ low
+          limited = sym (d ∙ rw (r .score-is, r .sums-are))
 
-          limited : (t : Bool) → not (eqb (b₂ .found) 0) && lt (S .drop-limit) (b₂ .best ⊖ score) ≡ t
-              → not (eqb (b .found) 0) && lt (S .drop-limit) (b .best ⊖ score′) ≡ t
-          limited t d = ap₂ (λ (z : BackwardState) (x : Float). not (eqb (z .found) 0) && lt (S .drop-limit) (z .best ⊖ x)) (sym kept) (sym (r .score-is)) ∙ d
+          below : (cs : List Candidate) → backwardFrom S q i (length q + 1 - i) (backwardOf b) counts cs
+              ≡ cond low (record { best = b .best; found = b .found; counts = counts′; candidates = cond peak (cs ++ candidate (i - 1 + 1) (b .best) ∷ []) cs })
+              (backwardFrom S q (i - 1) (length q + 1 - (i - 1)) (backwardOf b₂) counts′ (cond peak (cs ++ candidate (i - 1 + 1) (b .best) ∷ []) cs))
+          below cs =
+              let l : length q + 1 - i + 1 ≡ length q + 1 - (i - 1) = omega (arith, r .inside, r .more) in
+              let sums : backwardOf b₂ ≡ record { s = b .s ⊕ (r .v ⊖ S .threshold); sw = b .sw ⊕ (r .vw ⊖ S .threshold); last = score′; best = b .best; found = b .found } = rw (z, r .score-is, r .sums-are) in
+              turn-below S q i (length q + 1 - i) (backwardOf b) counts cs (r .e) (r .v) (r .vw) (omega (arith, r .more)) (r .place-is) (r .value-is) (r .second-is) on′ (compared false h)
+              ∙ rw (limited, is-noted, l, sums, r .counts-are)
 
-          pub backing-dropped : not (eqb (b₂ .found) 0) && lt (S .drop-limit) (b₂ .best ⊖ score) ≡ true → (b′ : BackwardState) → b′ ≡ stoppedAt b₂ (i - 1) false
-              → BackwardPart S q from to a b′ counts₀ counts′ (candidates (a .noted) places₀ scores₀) (candidates (b′ .noted) places′ scores′)
-          backing-dropped d b′ z =
-              record {
-                scanned = c .rest ∙ turn-dropped S q i (length q + 1 - i) (backwardOf b) counts cs (r .e) (r .v) (r .vw) (omega (arith, r .more)) (r .place-is) (r .value-is) (r .second-is) on′ (compared false h) (limited true d)
-                    ∙ rw (z, noted-are, kept, r .counts-are);
-                next = λ g. absurd (true≢false (sym (ap (λ (y : BackwardState). y .done) z) ∙ g));
-                stop = λ _. ended b′ b₂ z;
-              }
+          found-same : b₂ .found ≡ b .found
+          found-same = rw (z, r .sums-are)
 
-          pub backing-fallen : not (eqb (b₂ .found) 0) && lt (S .drop-limit) (b₂ .best ⊖ score) ≡ false → (b₃ : BackwardState) → b₃ ≡ withLast b₂ score → length places′ ≡ length places → length scores′ ≡ length scores
-              → Backing S q from to a counts₀ places₀ scores₀ (i - 1) b₃ counts′ places′ scores′
-          backing-fallen d b₃ z lp ls =
-              let m : b₃ .noted ≡ b₂ .noted = ap (λ (y : BackwardState). y .noted) z in
-              let o : b₁ .noted ≡ b .noted = ap (λ (y : BackwardState). y .noted) (r .sums-are) in
+          best-same : b₂ .best ≡ b .best
+          best-same = rw (z, r .sums-are)
+
+          level-on : lt (b₂ .best) (b₂ .last) ≡ false
+          level-on = rw z (not-above (b₁ .best) score h)
+
+          -- A peak above 0 has a best place.
+          some-found : peak ≡ true → b .found ≡ 0 → ⊥
+          some-found t e =
+              let above : lt zero64 (b .last) ≡ true = first-true (lt zero64 (b .last)) _ (last-true (lt score′ (b .last)) _ (is-noted ∙ t)) in
+              true≢false (sym above ∙ ap (λ (x : Float). lt x (b .last)) (sym (c .from-zero e)) ∙ c .level)
+
+          pub backing-paused : (b′ : BackwardState) → b′ ≡ pausedAt b₂ (i - 1) peak low → BackwardPart S q a b′ counts₀ counts′
+          backing-paused b′ y =
+              rw y
+              (record {
+                scanned = λ cs. c .rest cs ∙ below cs ∙ rw (found-same, best-same);
+                less = one-on;
+                here = resting b₂ (pausedAt b₂ (i - 1) peak low) peak low refl found-same best-same level-on;
+                kept = λ e. c .found-kept (sym found-same ∙ e);
+                peaked = λ t e. some-found t (sym found-same ∙ e);
+              })
+
+          pub backing-fallen : peak || low ≡ false → Backing S q from a counts₀ (i - 1) b₂ counts′
+          backing-fallen t =
+              let np : peak ≡ false = neither peak low t .0 in
+              let nl : low ≡ false = neither peak low t .1 in
               record {
                 from-in = r .read .from-in;
                 to-in = r .read .to-in;
                 same-counts = counts-long;
-                same-places = lp ∙ c .same-places;
-                same-scores = ls ∙ c .same-scores;
-                here = record {
-                  unstopped = rw (z, kept) (c .here .unstopped);
-                  few = omega (arith, c .here .few, n .at-most, r .more);
-                  counted = r .read .counted;
-                  peak = rw (z, n .state-is) (not-above (b₁ .best) score h);
-                };
-                rest = c .rest ∙ turn-fallen S q i (length q + 1 - i) (backwardOf b) counts cs (r .e) (r .v) (r .vw) (omega (arith, r .more)) (r .place-is) (r .value-is) (r .second-is) on′ (compared false h) (limited false d)
-                    ∙ on-with _ (backwardOf b₃) _ (candidates (b₃ .noted) places′ scores′) (rw (z, kept, r .score-is, r .sums-are)) (sym (ap (λ (y : ℕ). candidates y places′ scores′) m ∙ noted-are));
+                counted = r .read .counted;
+                found-in = omega (arith, c .found-in, found-same);
+                found-kept = λ e. c .found-kept (sym found-same ∙ e);
+                level = level-on;
+                from-zero = λ e. best-same ∙ c .from-zero (sym found-same ∙ e);
+                rest = λ cs. c .rest cs ∙ below cs ∙ rw (nl, np);
               }
 
--- ---- Both straight parts: the whole scan.
-pub roomy-as : {p : Params} {f-length n-counts n-places n-scores : ℕ} (counts′ places′ scores′ : ℕ) → counts′ ≡ n-counts → places′ ≡ n-places → scores′ ≡ n-scores
-    → Roomy p f-length n-counts n-places n-scores → Roomy p f-length counts′ places′ scores′
-roomy-as counts′ places′ scores′ ec ep es r = record { f-long = r .f-long; counts-is = ec ∙ r .counts-is; places-long = omega (arith, r .places-long); scores-long = omega (arith, r .scores-long) }
-
-start-peak : lt (backwardStart .best) (backwardStart .last) ≡ false
+-- ---- The whole scan.
+start-level : lt (backwardStart .best) (backwardStart .last) ≡ false
 unfolding lt neg ofBits ofFields
-start-peak = refl
-
-cond-same : (b : Bool) (x : Backward) → cond b x x ≡ x
-cond-same true x = refl
-cond-same false x = refl
+start-level = refl
 
 pub none-counted : (m : ℕ) (q : List Place) (counts : List ℕ) → counts ≡ replicate m 0 → Counted m counts (drop (length q) q)
 none-counted m q counts clear = rw (clear, drop-length q) (cleared-counted m)
 
-pub backs-start : (q : List Place) (len m : ℕ) (a : BackwardState) (counts : List ℕ) → length q ≡ len → Fresh a → counts ≡ replicate m 0 → Backs m q len a counts
+pub backs-start : (q : List Place) (len m : ℕ) (a : BackwardState) (counts : List ℕ) → length q ≡ len → Fresh len a → counts ≡ replicate m 0 → Backs m q a counts
 backs-start q len m a counts l fresh clear =
+    let low : length q ≡ a .low = l ∙ sym (fresh .low-is) in
+    let f : a .found ≡ 0 = ap (λ (z : BackwardSums). z .found) (fresh .sums-are) in
     record {
-      unstopped = fresh .unstopped;
-      few = omega (arith, fresh .none-noted);
-      counted = subst (λ (n : ℕ). Counted m counts (drop n q)) l (none-counted m q counts clear);
-      peak = ap (λ (z : BackwardSums). lt (z .best) (z .last)) (fresh .sums-are) ∙ start-peak;
+      ended = record { low-in = omega arith; counted = subst (λ (n : ℕ). Counted m counts (drop n q)) low (none-counted m q counts clear) };
+      found-in = omega arith;
+      level = ap (λ (z : BackwardSums). lt (z .best) (z .last)) (fresh .sums-are) ∙ start-level;
+      from-zero = λ _. ap (λ (z : BackwardSums). z .best) (fresh .sums-are);
     }
 
 -- Read to the oldest entry.
 pub ended-all : (m : ℕ) (q : List Place) (a : BackwardState) (counts : List ℕ) → a .low ≡ 0 → Counted m counts (drop 0 q) → Ended m q a counts
 ended-all m q a counts z c = record { low-in = omega arith; counted = subst (λ (n : ℕ). Counted m counts (drop n q)) (sym z) c }
 
-module _ (p : Params) (ln f : List Float) (q : List Place) (len : ℕ) (l : length q ≡ len) (a : BackwardState) (counts₀ places₀ : List ℕ) (scores₀ : List Float) (fresh : Fresh a) (clear : counts₀ ≡ replicate (4 ^ p .kmer) 0)
-    (mid : ℕ) (b : BackwardState) (counts : List ℕ) (cs : List Candidate) (part : BackwardPart (setupOf p ln f) q mid len a b counts₀ counts (candidates (a .noted) places₀ scores₀) cs) where
-  abbrev S″ : Setup
-  S″ = setupOf p ln f
+-- ---- What is left of the ring's newer part, or else of its older part.
+module _ (w head len mid low : ℕ) (s : Seam w head len 0 mid) (h : head < w) (l : len ≤ w) (in-len : low ≤ len) where
+  straight-part : (b : Bool) → ltb mid low ≡ b → Straight w head (cond b mid 0) low (cond b w 0)
+  straight-part true e =
+      let g = past-seam w head len 0 mid s h l in
+      record { turned = λ i x y. g .turned i x (omega arith); at = λ i x y. g .at i x (omega arith) }
+  straight-part false e =
+      let n : low ≤ mid = ltb-false mid low e in
+      let g = before-seam w head len 0 mid s h in
+      record { turned = λ i x y. g .turned i x (omega arith); at = λ i x y. g .at i x (omega arith) }
 
-  begun : backwardFrom S″ q (length q) 1 backwardStart (cleared S″) [] ≡ backwardFrom S″ q len (length q + 1 - len) (backwardOf a) counts₀ (candidates (a .noted) places₀ scores₀)
-  unfolding candidates
-  begun =
-      let one : length q + 1 - len ≡ 1 = omega arith in
-      rw (one, fresh .sums-are, fresh .none-noted, clear) (ap (λ (n : ℕ). backwardFrom S″ q n 1 backwardStart (cleared S″) []) l)
+  pub straight-left : Straight w head (cond (ltb mid low) mid 0) low (cond (ltb mid low) w 0)
+  straight-left = straight-part (ltb mid low) refl
 
-  pub scans-stopped : b .done ≡ true → ScansBackward S″ q b counts cs
-  scans-stopped d = record { scanned = begun ∙ part .scanned ∙ rw d; ended = part .stop d }
-
-  pub scans-both : b .done ≡ false → (c : BackwardState) (counts′ : List ℕ) (cs′ : List Candidate) → BackwardPart S″ q 0 mid b c counts counts′ cs cs′ → ScansBackward S″ q c counts′ cs′
-  unfolding backwardFrom
-  scans-both d c counts′ cs′ next =
-      record {
-        scanned = begun ∙ part .scanned ∙ rw d (next .scanned ∙ cond-same (c .done) (record { best = c .best; found = c .found; counts = counts′; candidates = cs′ }));
-        ended = go (c .done) refl;
-      }
+  pub left-below : 0 < low → cond (ltb mid low) mid 0 < low
+  left-below some = go (ltb mid low) refl
     where
-      go : (t : Bool) → c .done ≡ t → Ended (kmers S″) q c counts′
-      go true e = next .stop e
-      go false e = let r = next .next e in ended-all (kmers S″) q c counts′ (r .unstopped .0) (r .counted)
+      go : (b : Bool) → ltb mid low ≡ b → cond b mid 0 < low
+      go true e = ltb-true mid low e
+      go false e = some

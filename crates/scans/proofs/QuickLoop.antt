@@ -171,16 +171,16 @@ out : (S : Setup) (q : List Place) (l : ℕ) (a : BackwardState) (counts : List 
 unfolding quickFrom
 out S q l a counts t = ap (λ (b : Bool). record { best = a .best; found = a .found; tied = b }) (sym t)
 
-pub quick-start : (q : List Place) (len m : ℕ) (a : BackwardState) (counts : List ℕ) → length q ≡ len → Fresh a → counts ≡ replicate m 0 → QuickGoes m q len a counts
+pub quick-start : (q : List Place) (len m : ℕ) (a : BackwardState) (counts : List ℕ) → length q ≡ len → Fresh 0 a → counts ≡ replicate m 0 → QuickGoes m q len a counts
 quick-start q len m a counts l fresh clear =
     let f : a .found ≡ 0 = ap (λ (z : BackwardSums). z .found) (fresh .sums-are) in
     record {
-      unstopped = fresh .unstopped;
+      unstopped = (fresh .low-is, fresh .going .0, fresh .going .1);
       counted = subst (λ (n : ℕ). Counted m counts (drop n q)) l (none-counted m q counts clear);
       best-read = λ s. absurd (let b : ⊥ = omega arith in b);
     }
 
-module _ (p : Params) (ln f : List Float) (q : List Place) (len : ℕ) (l : length q ≡ len) (a : BackwardState) (counts₀ : List ℕ) (fresh : Fresh a) (clear : counts₀ ≡ replicate (4 ^ p .kmer) 0)
+module _ (p : Params) (ln f : List Float) (q : List Place) (len : ℕ) (l : length q ≡ len) (a : BackwardState) (counts₀ : List ℕ) (fresh : Fresh 0 a) (clear : counts₀ ≡ replicate (4 ^ p .kmer) 0)
     (mid : ℕ) (b : BackwardState) (counts : List ℕ) (part : QuickPart (setupOf p ln f) q mid len a b counts₀ counts) where
   abbrev S′ : Setup
   S′ = setupOf p ln f

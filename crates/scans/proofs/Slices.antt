@@ -1,72 +1,43 @@
--- The candidates that two slices hold: how many, which, and one more. Assumes nothing.
+-- The candidates that a slice of records holds: how many, which, and one more. Assumes nothing.
 use mathlib.Core.Path.{_≡_, refl, sym, ap, ap₂, _∙_}
-use mathlib.Core.Bool.{false}
 use mathlib.Core.List.{List, [], _∷_, _++_}
 use mathlib.Core.Logic.{_≢_, _⊎_, inl, inr}
-use Prim.Native.Nat.{ℕ, zero, suc, _+_, _-_, _<_, _≤_}
+use Prim.Native.Nat.{ℕ, zero, suc, _+_, _<_, _≤_}
 use native.Mathlib.Nat.{eq-or-lt-of-le}
 use native.Mathlib.Numerals.{add-one}
 use native.Mathlib.Omega.{arith}
 use lib.ListN.{length, getD, set, length-append, List·getD-append}
 use lib.Seq.{getD-at, getD-set-same, getD-set-other}
-use lib.Dec.{eqb}
-use lib.Ieee.{Float, nan}
-use borrow.Author.Tests.{lt-ltb, le-ltb, eq-eqb, ne-eqb}
-use Rattle.scans.specs.Scans.{Candidate, candidate, noCandidate, withBest}
-use Rattle.scans.specs.Parts.{candidates}
+use Rattle.scans.specs.declared.ForwardPosition.{ForwardPosition}
+use Rattle.scans.specs.Scans.{Candidate, noCandidate}
+use Rattle.scans.specs.Search.{candidateOf, noPosition, candidatesIn}
 
-pub candidates-length : (n : ℕ) (places : List ℕ) (scores : List Float) → length (candidates n places scores) ≡ n
-unfolding candidates
-candidates-length zero places scores = refl
-candidates-length (suc n) places scores =
-    length-append (candidates n places scores) (candidate (getD places n 0) (getD scores n nan) ∷ []) ∙ omega (arith, candidates-length n places scores)
+pub candidates-length : (n : ℕ) (records : List ForwardPosition) → length (candidatesIn n records) ≡ n
+unfolding candidatesIn
+candidates-length zero records = refl
+candidates-length (suc n) records = length-append (candidatesIn n records) (candidateOf (getD records n noPosition) ∷ []) ∙ omega (arith, candidates-length n records)
 
-pub candidates-at : (n : ℕ) (places : List ℕ) (scores : List Float) (j : ℕ) → j < n → getD (candidates n places scores) j noCandidate ≡ candidate (getD places j 0) (getD scores j nan)
-unfolding candidates
-candidates-at zero places scores j h = absurd (let b : ⊥ = omega arith in b)
-candidates-at (suc n) places scores j h = go (eq-or-lt-of-le (let l : j ≤ n = omega arith in l)) (candidates-at n places scores j)
+pub candidates-at : (n : ℕ) (records : List ForwardPosition) (j : ℕ) → j < n → getD (candidatesIn n records) j noCandidate ≡ candidateOf (getD records j noPosition)
+unfolding candidatesIn
+candidates-at zero records j h = absurd (let b : ⊥ = omega arith in b)
+candidates-at (suc n) records j h = go (eq-or-lt-of-le (let l : j ≤ n = omega arith in l)) (candidates-at n records j)
   where
-    go : (j ≡ n) ⊎ (j < n) → (j < n → getD (candidates n places scores) j noCandidate ≡ candidate (getD places j 0) (getD scores j nan))
-        → getD (candidates n places scores ++ candidate (getD places n 0) (getD scores n nan) ∷ []) j noCandidate ≡ candidate (getD places j 0) (getD scores j nan)
+    go : (j ≡ n) ⊎ (j < n) → (j < n → getD (candidatesIn n records) j noCandidate ≡ candidateOf (getD records j noPosition))
+        → getD (candidatesIn n records ++ candidateOf (getD records n noPosition) ∷ []) j noCandidate ≡ candidateOf (getD records j noPosition)
     go (inl e) later =
-        getD-at (candidates n places scores) (candidate (getD places n 0) (getD scores n nan)) [] noCandidate j (candidates-length n places scores ∙ sym e)
-        ∙ ap (λ (z : ℕ). candidate (getD places z 0) (getD scores z nan)) (sym e)
-    go (inr l) later = List·getD-append (candidates n places scores) (candidate (getD places n 0) (getD scores n nan) ∷ []) noCandidate j (omega (arith, candidates-length n places scores)) ∙ later l
+        getD-at (candidatesIn n records) (candidateOf (getD records n noPosition)) [] noCandidate j (candidates-length n records ∙ sym e)
+        ∙ ap (λ (z : ℕ). candidateOf (getD records z noPosition)) (sym e)
+    go (inr l) later = List·getD-append (candidatesIn n records) (candidateOf (getD records n noPosition) ∷ []) noCandidate j (omega (arith, candidates-length n records)) ∙ later l
 
 -- A store past them leaves them alone.
-candidates-kept : (n m : ℕ) (places : List ℕ) (scores : List Float) (p : ℕ) (x : Float) → n ≤ m → candidates n (set places m p) (set scores m x) ≡ candidates n places scores
-unfolding candidates
-candidates-kept zero m places scores p x h = refl
-candidates-kept (suc n) m places scores p x h =
-    ap₂ (λ (l : List Candidate) (c : Candidate). l ++ c ∷ []) (candidates-kept n m places scores p x (omega arith))
-    (ap₂ candidate (getD-set-other places m n p 0 (let d : n ≢ m = omega arith in d)) (getD-set-other scores m n x nan (let d : n ≢ m = omega arith in d)))
+candidates-kept : (n m : ℕ) (records : List ForwardPosition) (c : ForwardPosition) → n ≤ m → candidatesIn n (set records m c) ≡ candidatesIn n records
+unfolding candidatesIn
+candidates-kept zero m records c h = refl
+candidates-kept (suc n) m records c h =
+    ap₂ (λ (l : List Candidate) (x : ForwardPosition). l ++ candidateOf x ∷ []) (candidates-kept n m records c (omega arith)) (getD-set-other records m n c noPosition (let d : n ≢ m = omega arith in d))
 
-pub candidates-push : (n : ℕ) (places : List ℕ) (scores : List Float) (p : ℕ) (x : Float) → n < length places → n < length scores
-    → candidates (n + 1) (set places n p) (set scores n x) ≡ candidates n places scores ++ candidate p x ∷ []
-unfolding candidates
-candidates-push n places scores p x h k =
-    ap (λ (z : ℕ). candidates z (set places n p) (set scores n x)) (add-one n)
-    ∙ ap₂ (λ (l : List Candidate) (c : Candidate). l ++ c ∷ []) (candidates-kept n n places scores p x (omega arith))
-    (ap₂ candidate (getD-set-same places n p 0 h) (getD-set-same scores n x nan k))
-
--- ---- The best place, one past which is `found`, joins them or not.
-module _ (best : Float) (found n : ℕ) (places : List ℕ) (scores : List Float) where
-  abbrev held : List Candidate
-  held = candidates n places scores
-
-  last-place : 0 < n → getD held (length held - 1) noCandidate .place ≡ getD places (n - 1) 0
-  last-place h =
-      ap (λ (z : ℕ). getD held (z - 1) noCandidate .place) (candidates-length n places scores) ∙ ap (λ (c : Candidate). c .place) (candidates-at n places scores (n - 1) (omega arith))
-
-  pub best-first : n ≡ 0 → withBest best found held ≡ held ++ candidate (found - 1) best ∷ []
-  best-first z = rw (eq-eqb (length held) 0 (candidates-length n places scores ∙ z))
-
-  module _ (some : n ≡ 0 → ⊥) where
-    not-none : eqb (length held) 0 ≡ false
-    not-none = ne-eqb (length held) 0 (λ (z : length held ≡ 0). some (sym (candidates-length n places scores) ∙ z))
-
-    pub best-older : found ≤ getD places (n - 1) 0 → withBest best found held ≡ held ++ candidate (found - 1) best ∷ []
-    best-older h = rw (not-none, lt-ltb found (getD held (length held - 1) noCandidate .place + 1) (omega (arith, last-place (let d : n ≢ 0 = some in omega arith))))
-
-    pub best-newer : getD places (n - 1) 0 < found → withBest best found held ≡ held
-    best-newer h = rw (not-none, le-ltb found (getD held (length held - 1) noCandidate .place + 1) (omega (arith, last-place (let d : n ≢ 0 = some in omega arith))))
+pub candidates-push : (n : ℕ) (records : List ForwardPosition) (c : ForwardPosition) → n < length records → candidatesIn (n + 1) (set records n c) ≡ candidatesIn n records ++ candidateOf c ∷ []
+unfolding candidatesIn
+candidates-push n records c h =
+    ap (λ (z : ℕ). candidatesIn z (set records n c)) (add-one n)
+    ∙ ap₂ (λ (l : List Candidate) (x : ForwardPosition). l ++ candidateOf x ∷ []) (candidates-kept n n records c (omega arith)) (getD-set-same records n c noPosition h)

@@ -7,17 +7,19 @@ use native.Mathlib.Numerals.{add-one}
 use native.Mathlib.Omega.{arith}
 use lib.ListN.{length, getD, drop}
 use lib.Dec.{eqb}
-use lib.Ieee.{Float, nan}
+use lib.Ieee.{Float}
 use borrow.Author.Tests.{lt-ltb, le-ltb, eq-eqb, ne-eqb}
 use Rattle.letters.specs.Place.{Place}
 use Rattle.scans.specs.declared.ForwardState.{ForwardState}
+use Rattle.scans.specs.declared.ForwardPosition.{ForwardPosition}
 use Rattle.scans.specs.declared.Scanned.{Scanned}
+use Rattle.scans.specs.declared.Trial.{Trial}
 use Rattle.scans.specs.Setup.{Setup}
 use Rattle.scans.specs.Counts.{cleared}
-use Rattle.scans.specs.Scans.{none, at, Outcome, ForwardSums, Candidate, candidate, noCandidate, larger, dustForward, tryFrom}
-use Rattle.scans.specs.Parts.{Finds, candidates}
+use Rattle.scans.specs.Scans.{none, at, Outcome, ForwardSums, Candidate, noCandidate, larger, dustForward, tryFrom}
+use Rattle.scans.specs.Parts.{Finds}
+use Rattle.scans.specs.Search.{candidateOf, FreshTrial, Leads, NextTrial}
 use Rattle.scans.specs.Carry.{Carried, Touched, Answers}
-use Rattle.scans.proofs.Slices.{candidates-at}
 use Rattle.scans.proofs.Touched.{dust-forward-touched}
 use Rattle.scans.proofs.CarriedScan.{found-carried}
 
@@ -30,71 +32,121 @@ answers-none S q o r counts n z clear =
       ends = λ _. z .1;
     }
 
--- With i candidates left, the rest of the tries answers as all of them, whatever the counts were before.
-pub record Trying (S : Setup) (q : List Place) (n : ℕ) (places : List ℕ) (scores : List Float) (i furthest : ℕ) (counts : List ℕ) : Type 0 where
-  pub inside : i ≤ n
-  pub clear : counts ≡ cleared S
-  pub rest : (before : List ℕ) → (after : List ℕ) × (tryFrom S q (candidates n places scores) n 0 before ≡ tryFrom S q (candidates n places scores) i furthest after)
+module _ (S : Setup) (q : List Place) where
+  -- A trial that goes on, with cleared counts, or has tried all.
+  leads-on : (cs : List Candidate) (o : Outcome) (b : Trial) (counts before : List ℕ) → counts ≡ cleared S → (b .scanned .found ≡ 0) × (b .scanned .carry .on ≡ false) → o ≡ tryFrom S q cs (b .left) (b .furthest) before
+      → Leads S q cs o b counts
+  unfolding tryFrom
+  leads-on cs o b counts before clear z e =
+      record {
+        clear = λ _. clear;
+        none = λ _. z;
+        rest = λ _. (before, e);
+        ended = λ l. answers-none S q o (b .scanned) counts (rw (e, l)) z clear;
+      }
 
-module _ (S : Setup) (q : List Place) (n : ℕ) (places : List ℕ) (scores : List Float) where
-  abbrev cs : List Candidate
-  cs = candidates n places scores
+  pub leads-start : (cs : List Candidate) (n : ℕ) (a : Trial) (counts : List ℕ) → FreshTrial n a → counts ≡ cleared S → (before : List ℕ) → Leads S q cs (tryFrom S q cs n 0 before) a counts
+  leads-start cs n a counts f clear before = leads-on cs (tryFrom S q cs n 0 before) a counts before clear (f .none) (rw (f .left-is, f .furthest-is))
 
-  pub trying-start : (counts : List ℕ) → counts ≡ cleared S → Trying S q n places scores n 0 counts
-  trying-start counts e = record { inside = omega arith; clear = e; rest = λ before. (before, refl) }
+  -- A forward scan touches the counts from the candidate's place on.
+  pub trial-touched : (place : ℕ) (score : Float) (st : ForwardState) (counts : List ℕ) → Finds (dustForward S q place score) st counts → Touched counts (drop place q)
+  trial-touched place score st counts k = rw (k .counts-are) (dust-forward-touched S q place score)
 
-  module _ (i furthest : ℕ) (counts : List ℕ) (c : Trying S q n places scores i furthest counts) where
-    pub trying-end : i ≡ 0 → (r : Scanned) → (r .found ≡ 0) × (r .carry .on ≡ false) → (before : List ℕ) → Answers S q (tryFrom S q cs n 0 before) r counts
+  module _ (c : ForwardPosition) (a : Trial) (counts : List ℕ) (some : 0 < a .left) where
+    abbrev place : ℕ
+    place = c .pos
+
+    abbrev score : Float
+    score = c .«max_score»
+
+    -- The candidate is the next.
+    next : (cs : List Candidate) (o : Outcome) (l : Leads S q cs o a counts) → o ≡ tryFrom S q cs (suc (a .left - 1)) (a .furthest) (l .rest some .0)
+    next cs o l = l .rest some .1 ∙ ap (λ (x : ℕ). tryFrom S q cs x (a .furthest) (l .rest some .0)) (let m : a .left ≡ suc (a .left - 1) = omega arith in m)
+
+    pub trial-skip : place + 1 < a .furthest → (b : Trial) → b ≡ record { left = a .left - 1; furthest = a .furthest; scanned = a .scanned } → NextTrial S q c a b counts counts
     unfolding tryFrom
-    trying-end e r z before = answers-none S q (tryFrom S q cs n 0 before) r counts (rw (c .rest before .1, e)) z (c .clear)
+    trial-skip h b z =
+        rw z
+        (record {
+          less = omega arith;
+          leads = λ cs o here l.
+              leads-on cs o (record { left = a .left - 1; furthest = a .furthest; scanned = a .scanned }) counts (l .rest some .0) (l .clear some) (l .none some)
+              (next cs o l ∙ rw (here, lt-ltb (place + 1) (a .furthest) h));
+        })
 
-    module _ (some : 0 < i) where
-      abbrev place : ℕ
-      place = getD places (i - 1) 0
+    module _ (h : a .furthest ≤ place + 1) (st : ForwardState) (counts′ : List ℕ) (k : Finds (dustForward S q place score) st counts′) where
+      found-is : st .found ≡ dustForward S q place score .sums .found
+      found-is = ap (λ (z : ForwardSums). z .found) (k .sums-are)
 
-      abbrev score : Float
-      score = getD scores (i - 1) nan
-
-      here : getD cs (i - 1) noCandidate ≡ candidate place score
-      here = candidates-at n places scores (i - 1) (omega (arith, c .inside))
-
-      next : (before : List ℕ) → tryFrom S q cs n 0 before ≡ tryFrom S q cs (suc (i - 1)) furthest (c .rest before .0)
-      next before = c .rest before .1 ∙ ap (λ (x : ℕ). tryFrom S q cs x furthest (c .rest before .0)) (let m : i ≡ suc (i - 1) = omega arith in m)
-
-      pub trying-skip : place + 1 < furthest → Trying S q n places scores (i - 1) furthest counts
+      tried-here : (cs : List Candidate) (o : Outcome) → getD cs (a .left - 1) noCandidate ≡ candidateOf c → Leads S q cs o a counts → o
+          ≡ cond (eqb (st .found) (length q)) (record { find = at place; counts = counts′ })
+          (cond (S .approx) (record { find = none; counts = counts′ }) (tryFrom S q cs (a .left - 1) (larger (a .furthest) (st .found)) counts′))
       unfolding tryFrom
-      trying-skip h = record { inside = omega (arith, c .inside); clear = c .clear; rest = λ before. (c .rest before .0, next before ∙ rw (here, lt-ltb (place + 1) furthest h)) }
+      tried-here cs o here l = next cs o l ∙ rw (here, le-ltb (place + 1) (a .furthest) h, ← found-is, ← k .counts-are)
 
-      module _ (h : furthest ≤ place + 1) (st : ForwardState) (counts′ : List ℕ) (k : Finds (dustForward S q place score) st counts′) where
-        found-is : st .found ≡ dustForward S q place score .sums .found
-        found-is = ap (λ (z : ForwardSums). z .found) (k .sums-are)
+      pub trial-found : 0 < length q → st .found ≡ length q → (b : Trial) → b .left ≡ 0 → b .scanned .found ≡ place + 1
+          → (b .scanned .carry .on ≡ true) × (b .scanned .carry .s ≡ st .s) × (b .scanned .carry .best ≡ st .best) → NextTrial S q c a b counts counts′
+      trial-found entries e b over f y =
+          let r : Scanned = b .scanned in
+          let carried = found-carried S q place score entries (sym found-is ∙ e) (r .carry) (y .1 ∙ ap (λ (z : ForwardSums). z .s) (k .sums-are)) (y .2 ∙ ap (λ (z : ForwardSums). z .best) (k .sums-are)) in
+          record {
+            less = omega arith;
+            leads = λ cs o here l.
+                let is : o ≡ record { find = at place; counts = counts′ } = tried-here cs o here l ∙ rw (eq-eqb (st .found) (length q) e) in
+                record {
+                  clear = λ s. absurd (let n : ⊥ = omega arith in n);
+                  none = λ s. absurd (let n : ⊥ = omega arith in n);
+                  rest = λ s. absurd (let n : ⊥ = omega arith in n);
+                  ended = λ _. rw is
+                      (record {
+                        settles = record { find-is = rw (f, add-one place); counts-are = refl };
+                        begins = λ j z.
+                            let p : place ≡ j = omega arith in
+                            (y .0, subst (λ (x : ℕ). Carried S (drop x q) (r .carry)) p carried);
+                        ends = λ z. absurd (let n : ⊥ = omega arith in n);
+                      });
+                };
+          }
 
-        tried-here : (before : List ℕ) → tryFrom S q cs n 0 before
-            ≡ cond (eqb (st .found) (length q)) (record { find = at place; counts = counts′ }) (cond (S .approx) (record { find = none; counts = counts′ }) (tryFrom S q cs (i - 1) (larger furthest (st .found)) counts′))
-        unfolding tryFrom
-        tried-here before = next before ∙ rw (here, le-ltb (place + 1) furthest h, ← found-is, ← k .counts-are)
-
-        pub trying-found : 0 < length q → st .found ≡ length q → (r : Scanned) → r .found ≡ place + 1 → (r .carry .on ≡ true) × (r .carry .s ≡ st .s) × (r .carry .best ≡ st .best)
-            → (before : List ℕ) → Answers S q (tryFrom S q cs n 0 before) r counts′
-        trying-found entries e r f y before =
-            let o : tryFrom S q cs n 0 before ≡ record { find = at place; counts = counts′ } = tried-here before ∙ rw (eq-eqb (st .found) (length q) e) in
-            let carried = found-carried S q place score entries (sym found-is ∙ e) (r .carry) (y .1 ∙ ap (λ (z : ForwardSums). z .s) (k .sums-are)) (y .2 ∙ ap (λ (z : ForwardSums). z .best) (k .sums-are)) in
-            rw o
+      module _ (e : st .found ≡ length q → ⊥) (counts″ : List ℕ) (clear : counts″ ≡ cleared S) where
+        pub trial-approx : S .approx ≡ true → (n : ℕ) (b : Trial) → b ≡ record { left = 0; furthest = n; scanned = a .scanned } → NextTrial S q c a b counts counts″
+        trial-approx x n b z =
+            rw z
             (record {
-              settles = record { find-is = rw (f, add-one place); counts-are = refl };
-              begins = λ j z.
-                  let p : place ≡ j = omega arith in
-                  (y .0, subst (λ (x : ℕ). Carried S (drop x q) (r .carry)) p carried);
-              ends = λ z. absurd (let b : ⊥ = omega arith in b);
+              less = some;
+              leads = λ cs o here l. record {
+                clear = λ s. clear;
+                none = λ s. l .none some;
+                rest = λ s. absurd (let n : ⊥ = omega arith in n);
+                ended = λ _. answers-none S q o (a .scanned) counts″ (rw (tried-here cs o here l, ne-eqb (st .found) (length q) e, x)) (l .none some) clear;
+              };
             })
 
-        -- The scan touched the counts from the candidate's place on.
-        pub trying-touched : Touched counts′ (drop place q)
-        trying-touched = rw (k .counts-are) (dust-forward-touched S q place score)
+        pub trial-on : S .approx ≡ false → (f : ℕ) → f ≡ larger (a .furthest) (st .found) → (b : Trial) → b ≡ record { left = a .left - 1; furthest = f; scanned = a .scanned } → NextTrial S q c a b counts counts″
+        trial-on x f p b z =
+            rw z
+            (record {
+              less = omega arith;
+              leads = λ cs o here l.
+                  leads-on cs o (record { left = a .left - 1; furthest = f; scanned = a .scanned }) counts″ counts′ clear (l .none some)
+                  (tried-here cs o here l ∙ rw (ne-eqb (st .found) (length q) e, x, p));
+            })
 
-        module _ (e : st .found ≡ length q → ⊥) (counts″ : List ℕ) (clear : counts″ ≡ cleared S) where
-          pub trying-approx : S .approx ≡ true → (r : Scanned) → (r .found ≡ 0) × (r .carry .on ≡ false) → (before : List ℕ) → Answers S q (tryFrom S q cs n 0 before) r counts″
-          trying-approx a r z before = answers-none S q (tryFrom S q cs n 0 before) r counts″ (rw (tried-here before, ne-eqb (st .found) (length q) e, a)) z clear
+-- ---- All the trials.
+pub record Trying (S : Setup) (q : List Place) (cs : List Candidate) (n size : ℕ) (a : Trial) (counts : List ℕ) : Type 0 where
+  pub inside : a .left ≤ n
+  pub same-counts : length counts ≡ size
+  pub leads : (before : List ℕ) → Leads S q cs (tryFrom S q cs n 0 before) a counts
 
-          pub trying-on : S .approx ≡ false → (f : ℕ) → f ≡ larger furthest (st .found) → Trying S q n places scores (i - 1) f counts″
-          trying-on a f p = record { inside = omega (arith, c .inside); clear = clear; rest = λ before. (counts′, tried-here before ∙ rw (ne-eqb (st .found) (length q) e, a, p)) }
+module _ (S : Setup) (q : List Place) (cs : List Candidate) (n : ℕ) where
+  pub trying-start : (a : Trial) (counts : List ℕ) → FreshTrial n a → counts ≡ cleared S → Trying S q cs n (length counts) a counts
+  trying-start a counts f clear = record { inside = omega (arith, f .left-is); same-counts = refl; leads = leads-start S q cs n a counts f clear }
+
+  pub trying-next : (size : ℕ) (a : Trial) (counts : List ℕ) → Trying S q cs n size a counts → (c : ForwardPosition) → candidateOf c ≡ getD cs (a .left - 1) noCandidate → (b : Trial) (counts′ : List ℕ) → NextTrial S q c a b counts counts′
+      → length counts′ ≡ length counts → Trying S q cs n size b counts′
+  trying-next size a counts t c here b counts′ k same =
+      record {
+        inside = omega (arith, t .inside, k .less);
+        same-counts = same ∙ t .same-counts;
+        leads = λ before. k .leads cs (tryFrom S q cs n 0 before) (sym here) (t .leads before);
+      }

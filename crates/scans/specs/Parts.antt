@@ -2,7 +2,7 @@
 use mathlib.Core.Path.{_≡_}
 use mathlib.Core.Bool.{Bool, true, false, cond}
 use mathlib.Core.List.{List, [], _∷_, _++_}
-use Prim.Native.Nat.{ℕ, zero, suc, _+_, _-_, _/_, _<_, _≤_}
+use Prim.Native.Nat.{ℕ, _+_, _-_, _/_, _<_, _≤_}
 use lib.ListN.{length, getD, drop}
 use lib.Ieee.{Float, nan, lt}
 use Rattle.floats.specs.Arithmetic.{_⊕_, _⊖_}
@@ -11,8 +11,8 @@ use Rattle.letters.specs.Place.{Place, ambiguous, plain}
 use Rattle.scans.specs.declared.ForwardState.{ForwardState}
 use Rattle.scans.specs.declared.BackwardState.{BackwardState}
 use Rattle.scans.specs.Setup.{Setup, kmers}
-use Rattle.scans.specs.Counts.{raise, cleared, Counted}
-use Rattle.scans.specs.Scans.{ForwardSums, Forward, forwardFrom, Candidate, candidate, BackwardSums, backwardStart, noted, backwardFrom}
+use Rattle.scans.specs.Counts.{raise, Counted}
+use Rattle.scans.specs.Scans.{ForwardSums, Forward, forwardFrom, Candidate, candidate, BackwardSums, backwardStart, Backward, backwardFrom}
 use Rattle.scans.specs.Window.{At, queue, window, countedValue}
 
 -- Of the entries from `start` on, those before r stand before the ring's end, and those from r on past it, from the ring's first number on.
@@ -63,13 +63,8 @@ pub record Finds (a : Forward) (r : ForwardState) (counts : List ℕ) : Type 0 w
 abbrev pub backwardOf : BackwardState → BackwardSums
 backwardOf a = record { s = a .s; sw = a .sw; last = a .last; best = a .best; found = a .found }
 
--- The first n candidates that two slices hold.
-unfoldable pub candidates : ℕ → List ℕ → List Float → List Candidate
-candidates zero places scores = []
-candidates (suc n) places scores = candidates n places scores ++ candidate (getD places n 0) (getD scores n nan) ∷ []
-
 abbrev pub withSums : BackwardState → Float → Float → BackwardState
-withSums a s sw = record { s = s; sw = sw; last = a .last; best = a .best; found = a .found; noted = a .noted; low = a .low; done = a .done; tied = a .tied }
+withSums a s sw = record { s = s; sw = sw; last = a .last; best = a .best; found = a .found; low = a .low; peak = a .peak; done = a .done; tied = a .tied }
 
 -- The ln entry of what a place's window count has left over its raised scan count, 0 if ambiguous.
 abbrev pub leftValue : List Float → List ℕ → List ℕ → Place → Float
@@ -83,60 +78,54 @@ pub record AddsEntry (t : Float) (window-counts : List ℕ) (ln : List Float) (e
 
 -- The score sl of entry i is the new best, or is below the best.
 abbrev pub withBestAt : BackwardState → Float → ℕ → BackwardState
-withBestAt a sl i = record { s = a .s; sw = a .sw; last = sl; best = sl; found = i + 1; noted = a .noted; low = a .low; done = a .done; tied = a .tied }
+withBestAt a sl i = record { s = a .s; sw = a .sw; last = sl; best = sl; found = i + 1; low = a .low; peak = a .peak; done = a .done; tied = a .tied }
 
 abbrev pub withLast : BackwardState → Float → BackwardState
-withLast a sl = record { s = a .s; sw = a .sw; last = sl; best = a .best; found = a .found; noted = a .noted; low = a .low; done = a .done; tied = a .tied }
+withLast a sl = record { s = a .s; sw = a .sw; last = sl; best = a .best; found = a .found; low = a .low; peak = a .peak; done = a .done; tied = a .tied }
 
-abbrev pub withNoted : BackwardState → ℕ → BackwardState
-withNoted a n = record { s = a .s; sw = a .sw; last = a .last; best = a .best; found = a .found; noted = n; low = a .low; done = a .done; tied = a .tied }
+-- The scan rests at entry i, which left a peak or not, and has stopped or not.
+abbrev pub pausedAt : BackwardState → ℕ → Bool → Bool → BackwardState
+pausedAt a i peak done = record { s = a .s; sw = a .sw; last = a .last; best = a .best; found = a .found; low = i; peak = peak; done = done; tied = a .tied }
 
 -- The scan stops at entry i, for a near tie or not.
 abbrev pub stoppedAt : BackwardState → ℕ → Bool → BackwardState
-stoppedAt a i tied = record { s = a .s; sw = a .sw; last = a .last; best = a .best; found = a .found; noted = a .noted; low = i; done = true; tied = tied }
-
--- At entry i with the score sl, the place of a peak is noted.
-pub record Notes (sl : Float) (i : ℕ) (a b : BackwardState) (cs cs′ : List Candidate) : Type 0 where
-  pub state-is : b ≡ withNoted a (b .noted)
-  pub at-most : b .noted ≤ a .noted + 1
-  pub candidates-are : cs′ ≡ noted (backwardOf a) sl i cs
+stoppedAt a i tied = record { s = a .s; sw = a .sw; last = a .last; best = a .best; found = a .found; low = i; peak = a .peak; done = true; tied = tied }
 
 -- The scan has not stopped.
 abbrev pub Unstopped : BackwardState → Type 0
 Unstopped a = (a .low ≡ 0) × (a .done ≡ false) × (a .tied ≡ false)
 
 -- It begins.
-pub record Fresh (a : BackwardState) : Type 0 where
+pub record Fresh (low : ℕ) (a : BackwardState) : Type 0 where
   pub sums-are : backwardOf a ≡ backwardStart
-  pub none-noted : a .noted ≡ 0
-  pub unstopped : Unstopped a
+  pub low-is : a .low ≡ low
+  pub going : (a .done ≡ false) × (a .tied ≡ false)
 
--- It is over, and the counts are those of the entries from the oldest read on.
+-- The counts are those of the entries from the oldest read on.
 pub record Ended (m : ℕ) (q : List Place) (a : BackwardState) (counts : List ℕ) : Type 0 where
   pub low-in : a .low ≤ length q
   pub counted : Counted m counts (drop (a .low) q)
 
--- A scan at entry i may go on: its counts are those of the entries read, no more candidates than those are noted, and the last score is not above the best.
-pub record Backs (m : ℕ) (q : List Place) (i : ℕ) (a : BackwardState) (counts : List ℕ) : Type 0 where
-  pub unstopped : Unstopped a
-  pub few : a .noted + i ≤ length q
-  pub counted : Counted m counts (drop i q)
-  pub peak : lt (a .best) (a .last) ≡ false
+-- A scan that rests: moreover the last score is not above the best, the best place lies in the window, and without one the best is 0.
+pub record Backs (m : ℕ) (q : List Place) (a : BackwardState) (counts : List ℕ) : Type 0 where
+  pub ended : Ended m q a counts
+  pub found-in : a .found ≤ length q
+  pub level : lt (a .best) (a .last) ≡ false
+  pub from-zero : a .found ≡ 0 → a .best ≡ zero64
 
--- A scan goes from entry `to` and state a down to entry `from` and state b, or has stopped at b.
-pub record BackwardPart (S : Setup) (q : List Place) (from to : ℕ) (a b : BackwardState) (counts counts′ : List ℕ) (cs cs′ : List Candidate) : Type 0 where
-  pub scanned : backwardFrom S q to (length q + 1 - to) (backwardOf a) counts cs
-      ≡ cond (b .done) (record { best = b .best; found = b .found; counts = counts′; candidates = cs′ }) (backwardFrom S q from (length q + 1 - from) (backwardOf b) counts′ cs′)
-  pub next : b .done ≡ false → Backs (kmers S) q from b counts′
-  pub stop : b .done ≡ true → Ended (kmers S) q b counts′
+-- The candidates with the place of a peak that the scan left.
+abbrev pub withPeak : BackwardState → List Candidate → List Candidate
+withPeak a cs = cond (a .peak) (cs ++ candidate (a .low + 1) (a .best) ∷ []) cs
 
--- The whole backward scan has ended at b.
-pub record ScansBackward (S : Setup) (q : List Place) (b : BackwardState) (counts : List ℕ) (cs : List Candidate) : Type 0 where
-  pub scanned : backwardFrom S q (length q) 1 backwardStart (cleared S) [] ≡ record { best = b .best; found = b .found; counts = counts; candidates = cs }
-  pub ended : Ended (kmers S) q b counts
+-- What a scan that rests at a answers in the end.
+abbrev pub resumed : Setup → List Place → BackwardState → List ℕ → List Candidate → Backward
+resumed S q a counts cs =
+    cond (a .done) (record { best = a .best; found = a .found; counts = counts; candidates = cs }) (backwardFrom S q (a .low) (length q + 1 - a .low) (backwardOf a) counts cs)
 
--- Two slices hold n candidates or more, the first n places being entries of the window.
-pub record Holds (len n : ℕ) (places : List ℕ) (scores-length : ℕ) : Type 0 where
-  pub in-places : n ≤ length places
-  pub in-scores : n ≤ scores-length
-  pub inside : (j : ℕ) → j < n → getD places j 0 < len
+-- A scan goes on from a, and rests at b.
+pub record BackwardPart (S : Setup) (q : List Place) (a b : BackwardState) (counts counts′ : List ℕ) : Type 0 where
+  pub scanned : (cs : List Candidate) → backwardFrom S q (a .low) (length q + 1 - a .low) (backwardOf a) counts cs ≡ resumed S q b counts′ (withPeak b cs)
+  pub less : b .low < a .low
+  pub here : Backs (kmers S) q b counts′
+  pub kept : b .found ≡ 0 → a .found ≡ 0
+  pub peaked : b .peak ≡ true → b .found ≡ 0 → ⊥

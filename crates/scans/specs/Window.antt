@@ -58,11 +58,10 @@ pub record Extends (S : Setup) (counts : List ℕ) (len x : ℕ) (r : Bool) (cou
   pub counts-are : counts′ ≡ cond r (raise counts (plain x)) counts
 
 -- The f table, the scan counts and the candidates are long enough.
-pub record Roomy (p : Params) (f-length counts-length places-length scores-length : ℕ) : Type 0 where
+pub record Roomy (p : Params) (f-length counts-length candidates-length : ℕ) : Type 0 where
   pub f-long : p .window < f-length
   pub counts-is : counts-length ≡ 4 ^ p .kmer
-  pub places-long : p .window ≤ places-length
-  pub scores-long : p .window ≤ scores-length
+  pub candidates-long : p .window ≤ candidates-length
 
 -- A number as a find: one past its index, 0 for none.
 abbrev pub findOf : ℕ → Find

@@ -1,21 +1,22 @@
 // The back check, the extension and the two scans over a window of places.
 
 ghost use mathlib.Core.Path.{_≡_};
-ghost use mathlib.Core.Bool.{true, false, not, _&&_};
-ghost use mathlib.Core.List.{List, [], _∷_, _++_};
+ghost use mathlib.Core.Bool.{true, false, cond, not, _&&_, _||_};
+ghost use mathlib.Core.List.{List};
 ghost use Prim.Native.Nat.{ℕ, _+_, _-_, _/_, _%_, _^_, _<_, _≤_};
-ghost use lib.ListN.{length, getD, drop, replicate};
-ghost use lib.Dec.{eqb};
+ghost use lib.ListN.{length, getD, set, drop, replicate};
+ghost use lib.Dec.{eqb, ltb};
 ghost use lib.Ieee.{Float, lt};
 ghost use Rattle.floats.specs.Arithmetic.{_⊖_};
 ghost use Rattle.letters.specs.Entry.{decode};
 ghost use Rattle.scans.specs.Setup.{dropLimit, maxTest, setupOf};
 ghost use Rattle.scans.specs.Counts.{lower, Counted};
-ghost use Rattle.scans.specs.Scans.{maxSteps, ifBackward, forwardStart, forwardJudged, dustForward, candidate, isNoted, withBest, larger, tryFrom, dustBackward};
+ghost use Rattle.scans.specs.Scans.{maxSteps, ifBackward, forwardStart, forwardJudged, dustForward, isNoted, larger, tryFrom, dustBackward};
 ghost use Rattle.scans.specs.Window.{ringIndex, window, countedValue, Windowed, Roomy, CountsEntry, Extends};
 ghost use Rattle.scans.specs.Carry.{noCarry, Carried, Touched, Walked, CarriesOn, carriedAhead, CarriesAhead, FindsQuickly, Answers};
 ghost use Rattle.scans.specs.Quick.{QuickGoes, QuickPart, ScansQuick};
-ghost use Rattle.scans.specs.Parts.{Seam, Straight, Queued, Ringed, Within, forwardOf, ForwardPart, Finds, backwardOf, candidates, AddsEntry, withBestAt, withLast, stoppedAt, Notes, Fresh, Backs, BackwardPart, ScansBackward, Holds};
+ghost use Rattle.scans.specs.Parts.{Seam, Straight, Queued, Ringed, Within, forwardOf, ForwardPart, Finds, backwardOf, AddsEntry, withBestAt, withLast, pausedAt, stoppedAt, Fresh, Backs, BackwardPart};
+ghost use Rattle.scans.specs.Search.{noPosition, candidatesIn, FreshSearch, notingAt, goneOn, finishedOf, Searches, NextCandidate, ScansBackward, Holds, FreshTrial, NextTrial};
 
 // How many places long a fall below the best may last before the backward scan stops; `Off` is the whole window.
 pub enum Xdrop {
@@ -443,39 +444,31 @@ impl Carry {
     }
 }
 
+// A place from which a forward scan is tried, with the backward scan's best score when it was noted.
+#[repr(C)]
+pub struct ForwardPosition {
+    pub pos: u32,
+    pub max_score: f64,
+}
+
 // The two sums of a backward scan, its last and its best score, one past the index that had the best (0: none),
-// how many candidates are noted, and whether the scan has stopped.
+// the oldest entry read, whether that one left a peak, which stands one newer, and whether the scan has stopped, for a near tie or not.
 struct BackwardState {
     s: f64,
     sw: f64,
     last: f64,
     best: f64,
     found: usize,
-    noted: usize,
     low: usize,
+    peak: bool,
     done: bool,
     tied: bool,
 }
 
-// A candidate after the first `noted`; answers how many there are then.
-fn push_candidate(
-    places: &mut [u32],
-    scores: &mut [f64],
-    noted: usize,
-    place: usize,
-    score: f64,
-) -> usize
-    requires { ⌜ (noted < length (now places)) × (noted < length (now scores)) × (place ≤ 65535) ⌝ }
-    ensures { λ r. ⌜ (r ≡ noted + 1) × (candidates r (now (places .exit)) (now (scores .exit)) ≡ candidates noted (now (places .entry)) (now (scores .entry)) ++ candidate place score ∷ []) ⌝ }
-{
-    places[noted] = place as u32;
-    scores[noted] = score;
-    noted + 1
-}
-
 impl BackwardState {
-    fn new() -> Self
-        ensures { λ r. ⌜ Fresh r ⌝ }
+    // A scan that has read no entry; `low` is one past the first to read, or what it is to be after the last.
+    fn new(low: usize) -> Self
+        ensures { λ r. ⌜ Fresh low r ⌝ }
     {
         Self {
             s: 0.0,
@@ -483,8 +476,8 @@ impl BackwardState {
             last: -1.0,
             best: 0.0,
             found: 0,
-            noted: 0,
-            low: 0,
+            low: low,
+            peak: false,
             done: false,
             tied: false,
         }
@@ -546,17 +539,6 @@ impl BackwardState {
         false
     }
 
-    // The place of such a peak, which is one newer than entry i, is noted with the best score so far.
-    fn note(mut self, sl: f64, i: usize, places: &mut [u32], scores: &mut [f64]) -> Self
-        requires { ⌜ (self .noted < length (now places)) × (self .noted < length (now scores)) × (i < 65535) ⌝ }
-        ensures { λ r. ⌜ Notes sl i self r (candidates (self .noted) (now (places .entry)) (now (scores .entry))) (candidates (r .noted) (now (places .exit)) (now (scores .exit))) ⌝ }
-    {
-        if self.leaves_peak(sl) {
-            self.noted = push_candidate(places, scores, self.noted, i + 1, self.best);
-        }
-        self
-    }
-
     // Whether the score is too far below the best.
     fn too_low(self, sl: f64, limit: f64) -> bool
         ensures { λ r. ⌜ r ≡ (not (eqb (self .found) 0) && lt limit (self .best ⊖ sl)) ⌝ }
@@ -565,6 +547,16 @@ impl BackwardState {
             return self.found != 0;
         }
         false
+    }
+
+    // The scan rests at entry i, which left a peak or not, and has stopped or not.
+    fn paused(mut self, i: usize, peak: bool, done: bool) -> Self
+        ensures { λ r. ⌜ r ≡ pausedAt self i peak done ⌝ }
+    {
+        self.low = i;
+        self.peak = peak;
+        self.done = done;
+        self
     }
 
     // The scan stops at entry i, for a near tie or not.
@@ -576,9 +568,19 @@ impl BackwardState {
         self.tied = tied;
         self
     }
+
+    // Whether no entry is left to read.
+    fn ended(self) -> bool
+        ensures { λ r. ⌜ r ≡ (self .done || eqb (self .low) 0) ⌝ }
+    {
+        if self.done {
+            return true;
+        }
+        self.low == 0
+    }
 }
 
-// A backward scan goes on over entries `to - 1` down to `from`, entry i standing at index head + i - turn.
+// A backward scan goes on down to entry `from`, or until it stops or leaves a peak; entry i stands at index head + i - turn.
 fn backward_part(
     p: Params,
     ring: &[u32],
@@ -586,24 +588,20 @@ fn backward_part(
     len: usize,
     turn: usize,
     from: usize,
-    to: usize,
     state: BackwardState,
     window_counts: &[u16],
     ln: &[f64],
     f: &[f64],
     scan_counts: &mut [u16],
-    places: &mut [u32],
-    scores: &mut [f64],
 ) -> BackwardState
     requires { ⌜ Windowed p (now ring) head len (now «window_counts») (length (now ln)) ⌝ }
-    requires { ⌜ Roomy p (length (now f)) (length (now «scan_counts»)) (length (now places)) (length (now scores)) ⌝ }
-    requires { ⌜ Straight (length (now ring)) head from to turn ⌝ }
-    requires { ⌜ (from ≤ to) × (to ≤ len) ⌝ }
-    requires { ⌜ Backs (4 ^ p .kmer) (window (now ring) head len) to state (now «scan_counts») ⌝ }
-    ensures { λ r. ⌜ BackwardPart (setupOf p (now (ln .entry)) (now (f .entry))) (window (now (ring .entry)) head len) from to state r (now («scan_counts» .entry)) (now («scan_counts» .exit)) (candidates (state .noted) (now (places .entry)) (now (scores .entry))) (candidates (r .noted) (now (places .exit)) (now (scores .exit))) ⌝ }
+    requires { ⌜ Straight (length (now ring)) head from (state .low) turn ⌝ }
+    requires { ⌜ (from < state .low) × (p .window < length (now f)) ⌝ }
+    requires { ⌜ Backs (4 ^ p .kmer) (window (now ring) head len) state (now «scan_counts») ⌝ }
+    ensures { λ r. ⌜ BackwardPart (setupOf p (now (ln .entry)) (now (f .entry))) (window (now (ring .entry)) head len) state r (now («scan_counts» .entry)) (now («scan_counts» .exit)) ⌝ }
 {
     let mut st = state;
-    let mut i = to;
+    let mut i = state.low;
     while from < i {
         i -= 1;
         let fl = f[len - i];
@@ -615,23 +613,186 @@ fn backward_part(
             scan_counts,
         );
         if st.sw - fl < 0.0 {
-            return st.stopped(i, false);
+            return st.paused(i, false, true);
         }
         let sl = st.s - fl;
         if sl >= st.best {
             st = st.raised(sl, i);
             continue;
         }
-        st = st.note(sl, i, places, scores);
-        if st.too_low(sl, p.limit) {
-            return st.stopped(i, false);
-        }
+        let peak = st.leaves_peak(sl);
+        let low = st.too_low(sl, p.limit);
         st = st.fallen(sl);
+        if peak | low {
+            return st.paused(i, peak, low);
+        }
     }
-    st
+    st.paused(from, false, false)
 }
 
-// The backward scan over the whole window from cleared counts, the ring's newer part first.
+// x if entries are left past the ring's end, that is, from `mid` on; else 0.
+fn if_past(mid: usize, low: usize, x: usize) -> usize
+    ensures { λ r. ⌜ r ≡ cond (ltb mid low) x 0 ⌝ }
+{
+    if mid < low {
+        return x;
+    }
+    0
+}
+
+// A backward scan goes on over what is left of the ring's newer part, or else of its older part.
+fn backward_on(
+    p: Params,
+    ring: &[u32],
+    head: usize,
+    len: usize,
+    state: BackwardState,
+    window_counts: &[u16],
+    ln: &[f64],
+    f: &[f64],
+    scan_counts: &mut [u16],
+) -> BackwardState
+    requires { ⌜ Windowed p (now ring) head len (now «window_counts») (length (now ln)) ⌝ }
+    requires { ⌜ (0 < state .low) × (p .window < length (now f)) ⌝ }
+    requires { ⌜ Backs (4 ^ p .kmer) (window (now ring) head len) state (now «scan_counts») ⌝ }
+    ensures { λ r. ⌜ BackwardPart (setupOf p (now (ln .entry)) (now (f .entry))) (window (now (ring .entry)) head len) state r (now («scan_counts» .entry)) (now («scan_counts» .exit)) ⌝ }
+{
+    let low = state.low;
+    let mid = seam(ring.len(), head, len, 0);
+    let turn = if_past(mid, low, ring.len());
+    let from = if_past(mid, low, mid);
+    backward_part(
+        p,
+        ring,
+        head,
+        len,
+        turn,
+        from,
+        state,
+        window_counts,
+        ln,
+        f,
+        scan_counts,
+    )
+}
+
+// The search for candidates: the backward scan, how many candidates it has noted, the last of them,
+// whether that one is still to be put to the others, and whether there may be more.
+struct Search {
+    scan: BackwardState,
+    noted: usize,
+    last: ForwardPosition,
+    fresh: bool,
+    on: bool,
+}
+
+impl Search {
+    fn new(len: usize) -> Self
+        ensures { λ r. ⌜ FreshSearch len r ⌝ }
+    {
+        Self {
+            scan: BackwardState::new(len),
+            noted: 0,
+            last: ForwardPosition {
+                pos: 0,
+                max_score: 0.0,
+            },
+            fresh: false,
+            on: true,
+        }
+    }
+
+    // One candidate more, the place before `found` with the scan's best score.
+    fn noting(mut self, found: usize) -> Self
+        requires { ⌜ (0 < found) × (found ≤ 65536) × (self .noted ≤ 65535) ⌝ }
+        ensures { λ r. ⌜ r ≡ notingAt self found ⌝ }
+    {
+        let last = ForwardPosition {
+            pos: (found - 1) as u32,
+            max_score: self.scan.best,
+        };
+        self.noted = self.noted + 1;
+        self.last = last;
+        self.fresh = true;
+        self
+    }
+
+    // The scan has gone on; a peak that it left is a candidate.
+    fn gone_on(mut self, scan: BackwardState) -> Self
+        requires { ⌜ (scan .low < 65535) × (self .noted ≤ 65535) ⌝ }
+        ensures { λ r. ⌜ r ≡ goneOn self scan ⌝ }
+    {
+        self.scan = scan;
+        self.fresh = false;
+        if scan.peak {
+            return self.noting(scan.low + 2);
+        }
+        self
+    }
+
+    // The scan is over: the best place joins the candidates if it is older than all noted, that is, older than the last.
+    fn finished(mut self) -> Self
+        requires { ⌜ (self .scan .found ≤ 65535) × (self .noted ≤ 65535) ⌝ }
+        ensures { λ r. ⌜ r ≡ finishedOf self ⌝ }
+    {
+        self.on = false;
+        self.fresh = false;
+        let found = self.scan.found;
+        if found == 0 {
+            return self;
+        }
+        if self.noted == 0 {
+            return self.noting(found);
+        }
+        if (self.last.pos as usize) < found {
+            return self;
+        }
+        self.noting(found)
+    }
+
+    // The search goes on to the next candidate, or to the end of the ring's part; once the scan is over, the counts are cleared.
+    fn next(
+        self,
+        p: Params,
+        ring: &[u32],
+        head: usize,
+        len: usize,
+        window_counts: &[u16],
+        ln: &[f64],
+        f: &[f64],
+        scan_counts: &mut [u16],
+    ) -> Self
+        requires { ⌜ Windowed p (now ring) head len (now «window_counts») (length (now ln)) ⌝ }
+        requires { ⌜ (p .window < length (now f)) × (length (now «scan_counts») ≡ 4 ^ p .kmer) ⌝ }
+        requires { ⌜ Searches (4 ^ p .kmer) (window (now ring) head len) self (now «scan_counts») ⌝ }
+        ensures { λ r. ⌜ NextCandidate (setupOf p (now (ln .entry)) (now (f .entry))) (window (now (ring .entry)) head len) self r (now («scan_counts» .entry)) (now («scan_counts» .exit)) ⌝ }
+    {
+        let scan = self.scan;
+        if scan.ended() {
+            let low = scan.low;
+            clear_from(ring, head, len, low, scan_counts);
+            return self.finished();
+        }
+        let on = backward_on(p, ring, head, len, scan, window_counts, ln, f, scan_counts);
+        self.gone_on(on)
+    }
+}
+
+fn candidate_at(candidates: &[ForwardPosition], i: usize) -> ForwardPosition
+    requires { ⌜ i < length (now candidates) ⌝ }
+    ensures { λ r. ⌜ r ≡ getD (now (candidates .entry)) i noPosition ⌝ }
+{
+    candidates[i]
+}
+
+fn set_candidate(candidates: &mut [ForwardPosition], i: usize, c: ForwardPosition)
+    requires { ⌜ i < length (now candidates) ⌝ }
+    ensures { λ _. ⌜ now (candidates .exit) ≡ set (now (candidates .entry)) i c ⌝ }
+{
+    candidates[i] = c;
+}
+
+// The candidates to try, from cleared counts, and how many; the counts are cleared again.
 fn scan_backward(
     p: Params,
     ring: &[u32],
@@ -641,64 +802,21 @@ fn scan_backward(
     ln: &[f64],
     f: &[f64],
     scan_counts: &mut [u16],
-    places: &mut [u32],
-    scores: &mut [f64],
-) -> BackwardState
+    candidates: &mut [ForwardPosition],
+) -> usize
     requires { ⌜ Windowed p (now ring) head len (now «window_counts») (length (now ln)) ⌝ }
-    requires { ⌜ Roomy p (length (now f)) (length (now «scan_counts»)) (length (now places)) (length (now scores)) ⌝ }
-    requires { ⌜ now «scan_counts» ≡ replicate (4 ^ p .kmer) 0 ⌝ }
-    ensures { λ r. ⌜ ScansBackward (setupOf p (now (ln .entry)) (now (f .entry))) (window (now (ring .entry)) head len) r (now («scan_counts» .exit)) (candidates (r .noted) (now (places .exit)) (now (scores .exit))) ⌝ }
+    requires { ⌜ Roomy p (length (now f)) (length (now «scan_counts»)) (length (now candidates)) ⌝ }
+    requires { ⌜ (0 < len) × (now «scan_counts» ≡ replicate (4 ^ p .kmer) 0) ⌝ }
+    ensures { λ r. ⌜ ScansBackward (setupOf p (now (ln .entry)) (now (f .entry))) (window (now (ring .entry)) head len) (now («scan_counts» .exit)) (candidatesIn r (now (candidates .exit))) ⌝ }
 {
-    let mid = seam(ring.len(), head, len, 0);
-    let newer = backward_part(
-        p,
-        ring,
-        head,
-        len,
-        ring.len(),
-        mid,
-        len,
-        BackwardState::new(),
-        window_counts,
-        ln,
-        f,
-        scan_counts,
-        places,
-        scores,
-    );
-    if newer.done {
-        return newer;
+    let mut seek = Search::new(len);
+    while seek.on {
+        seek = seek.next(p, ring, head, len, window_counts, ln, f, scan_counts);
+        if seek.fresh {
+            set_candidate(candidates, seek.noted - 1, seek.last);
+        }
     }
-    backward_part(
-        p,
-        ring,
-        head,
-        len,
-        0,
-        0,
-        mid,
-        newer,
-        window_counts,
-        ln,
-        f,
-        scan_counts,
-        places,
-        scores,
-    )
-}
-
-// The best place joins the candidates if it is older than all noted, that is, older than the last. `found` is one past it.
-fn push_best(places: &mut [u32], scores: &mut [f64], noted: usize, found: usize, best: f64) -> usize
-    requires { ⌜ (noted < length (now places)) × (noted < length (now scores)) × (0 < found) × (found ≤ 65535) ⌝ }
-    ensures { λ r. ⌜ candidates r (now (places .exit)) (now (scores .exit)) ≡ withBest best found (candidates noted (now (places .entry)) (now (scores .entry))) ⌝ }
-{
-    if noted == 0 {
-        return push_candidate(places, scores, noted, found - 1, best);
-    }
-    if (places[noted - 1] as usize) < found {
-        return noted;
-    }
-    push_candidate(places, scores, noted, found - 1, best)
+    seek.noted
 }
 
 fn larger(a: usize, b: usize) -> usize
@@ -720,6 +838,78 @@ fn nothing() -> Scanned
     }
 }
 
+// How many candidates are left to try, one past the furthest forward best so far, and the find.
+struct Trial {
+    left: usize,
+    furthest: usize,
+    scanned: Scanned,
+}
+
+impl Trial {
+    fn new(noted: usize) -> Self
+        ensures { λ r. ⌜ FreshTrial noted r ⌝ }
+    {
+        Self {
+            left: noted,
+            furthest: 0,
+            scanned: nothing(),
+        }
+    }
+
+    // With `left` candidates left.
+    fn going(mut self, left: usize, furthest: usize) -> Self
+        ensures { λ r. ⌜ r ≡ record { left = left; furthest = furthest; scanned = self .scanned } ⌝ }
+    {
+        self.left = left;
+        self.furthest = furthest;
+        self
+    }
+
+    // The last candidate left, c, is tried from cleared counts.
+    fn next(
+        self,
+        p: Params,
+        ring: &[u32],
+        head: usize,
+        len: usize,
+        c: ForwardPosition,
+        ln: &[f64],
+        f: &[f64],
+        scan_counts: &mut [u16],
+    ) -> Self
+        requires { ⌜ Ringed (now ring) head len (length (now ln)) (length (now f)) (length (now «scan_counts»)) ⌝ }
+        requires { ⌜ (0 < self .left) × (c .pos < len) × (now «scan_counts» ≡ replicate (4 ^ p .kmer) 0) ⌝ }
+        ensures { λ r. ⌜ NextTrial (setupOf p (now (ln .entry)) (now (f .entry))) (window (now (ring .entry)) head len) c self r (now («scan_counts» .entry)) (now («scan_counts» .exit)) ⌝ }
+    {
+        let left = self.left - 1;
+        let furthest = self.furthest;
+        let place = c.pos as usize;
+        if place + 1 < furthest {
+            return self.going(left, furthest);
+        }
+        let st = dust_forward(p, ring, head, len, place, c.max_score, ln, f, scan_counts);
+        if st.found == len {
+            return Trial {
+                left: 0,
+                furthest: len,
+                scanned: Scanned {
+                    found: place + 1,
+                    carry: Carry {
+                        on: true,
+                        s: st.s,
+                        best: st.best,
+                    },
+                },
+            };
+        }
+        clear_from(ring, head, len, place, scan_counts);
+        if p.approx {
+            return self.going(0, len);
+        }
+        self.going(left, larger(furthest, st.found))
+    }
+}
+
 // The candidates are tried from cleared counts, the last noted first, until the forward scan of one is best at the newest entry.
 fn try_candidates(
     p: Params,
@@ -729,92 +919,20 @@ fn try_candidates(
     noted: usize,
     ln: &[f64],
     f: &[f64],
-    places: &[u32],
-    scores: &[f64],
+    candidates: &[ForwardPosition],
     scan_counts: &mut [u16],
 ) -> Scanned
     requires { ⌜ Ringed (now ring) head len (length (now ln)) (length (now f)) (length (now «scan_counts»)) ⌝ }
     requires { ⌜ now «scan_counts» ≡ replicate (4 ^ p .kmer) 0 ⌝ }
-    requires { ⌜ Holds len noted (now places) (length (now scores)) ⌝ }
-    ensures { λ r. ⌜ ((before : List ℕ) → Answers (setupOf p (now (ln .entry)) (now (f .entry))) (window (now (ring .entry)) head len) (tryFrom (setupOf p (now (ln .entry)) (now (f .entry))) (window (now (ring .entry)) head len) (candidates noted (now (places .entry)) (now (scores .entry))) noted 0 before) r (now («scan_counts» .exit))) ⌝ }
+    requires { ⌜ Holds len noted (now candidates) ⌝ }
+    ensures { λ r. ⌜ ((before : List ℕ) → Answers (setupOf p (now (ln .entry)) (now (f .entry))) (window (now (ring .entry)) head len) (tryFrom (setupOf p (now (ln .entry)) (now (f .entry))) (window (now (ring .entry)) head len) (candidatesIn noted (now (candidates .entry))) noted 0 before) r (now («scan_counts» .exit))) ⌝ }
 {
-    let mut furthest = 0;
-    let mut i = noted;
-    while 0 < i {
-        i -= 1;
-        let place = places[i] as usize;
-        if place + 1 < furthest {
-            continue;
-        }
-        let st = dust_forward(p, ring, head, len, place, scores[i], ln, f, scan_counts);
-        if st.found == len {
-            return Scanned {
-                found: place + 1,
-                carry: Carry {
-                    on: true,
-                    s: st.s,
-                    best: st.best,
-                },
-            };
-        }
-        clear_from(ring, head, len, place, scan_counts);
-        if p.approx {
-            return nothing();
-        }
-        furthest = larger(furthest, st.found);
+    let mut trial = Trial::new(noted);
+    while 0 < trial.left {
+        let c = candidate_at(candidates, trial.left - 1);
+        trial = trial.next(p, ring, head, len, c, ln, f, scan_counts);
     }
-    nothing()
-}
-
-// The find by the candidates of the backward scan, from cleared counts.
-fn find_by_candidates(
-    p: Params,
-    ring: &[u32],
-    head: usize,
-    len: usize,
-    window_counts: &[u16],
-    ln: &[f64],
-    f: &[f64],
-    scan_counts: &mut [u16],
-    places: &mut [u32],
-    scores: &mut [f64],
-) -> Scanned
-    requires { ⌜ Windowed p (now ring) head len (now «window_counts») (length (now ln)) ⌝ }
-    requires { ⌜ Roomy p (length (now f)) (length (now «scan_counts»)) (length (now places)) (length (now scores)) ⌝ }
-    requires { ⌜ (0 < len) × (now «scan_counts» ≡ replicate (4 ^ p .kmer) 0) ⌝ }
-    ensures { λ r. ⌜ Answers (setupOf p (now (ln .entry)) (now (f .entry))) (window (now (ring .entry)) head len) (dustBackward (setupOf p (now (ln .entry)) (now (f .entry))) (window (now (ring .entry)) head len)) r (now («scan_counts» .exit)) ⌝ }
-{
-    let st = scan_backward(
-        p,
-        ring,
-        head,
-        len,
-        window_counts,
-        ln,
-        f,
-        scan_counts,
-        places,
-        scores,
-    );
-    let low = st.low;
-    clear_from(ring, head, len, low, scan_counts);
-    let found = st.found;
-    if found == 0 {
-        return nothing();
-    }
-    let noted = push_best(places, scores, st.noted, found, st.best);
-    try_candidates(
-        p,
-        ring,
-        head,
-        len,
-        noted,
-        ln,
-        f,
-        places,
-        scores,
-        scan_counts,
-    )
+    trial.scanned
 }
 
 // A quick scan goes on over entries `to - 1` down to `from`, entry i standing at index head + i - turn; a near tie stops it.
@@ -893,7 +1011,7 @@ fn scan_quickly(
         ring.len(),
         mid,
         len,
-        BackwardState::new(),
+        BackwardState::new(0),
         window_counts,
         ln,
         f,
@@ -1004,11 +1122,10 @@ pub fn dust_backward(
     ln: &[f64],
     f: &[f64],
     scan_counts: &mut [u16],
-    places: &mut [u32],
-    scores: &mut [f64],
+    candidates: &mut [ForwardPosition],
 ) -> Scanned
     requires { ⌜ Windowed p (now ring) head len (now «window_counts») (length (now ln)) ⌝ }
-    requires { ⌜ Roomy p (length (now f)) (length (now «scan_counts»)) (length (now places)) (length (now scores)) ⌝ }
+    requires { ⌜ Roomy p (length (now f)) (length (now «scan_counts»)) (length (now candidates)) ⌝ }
     requires { ⌜ (0 < len) × (now «scan_counts» ≡ replicate (4 ^ p .kmer) 0) ⌝ }
     requires { ⌜ Carried (setupOf p (now ln) (now f)) (drop last (window (now ring) head (len - 1))) carry ⌝ }
     ensures { λ r. ⌜ Answers (setupOf p (now (ln .entry)) (now (f .entry))) (window (now (ring .entry)) head len) (dustBackward (setupOf p (now (ln .entry)) (now (f .entry))) (window (now (ring .entry)) head len)) r (now («scan_counts» .exit)) ⌝ }
@@ -1028,7 +1145,7 @@ pub fn dust_backward(
     if quick.found != 0 {
         return quick;
     }
-    find_by_candidates(
+    let noted = scan_backward(
         p,
         ring,
         head,
@@ -1037,7 +1154,7 @@ pub fn dust_backward(
         ln,
         f,
         scan_counts,
-        places,
-        scores,
-    )
+        candidates,
+    );
+    try_candidates(p, ring, head, len, noted, ln, f, candidates, scan_counts)
 }

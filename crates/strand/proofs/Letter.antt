@@ -18,22 +18,17 @@ use Rattle.scans.specs.Setup.{Setup, setupOf}
 use Rattle.scans.specs.Counts.{count}
 use Rattle.scans.specs.Scans.{Find, none, at, Outcome}
 use Rattle.scans.specs.declared.Carry.{Carry}
-use Rattle.scans.specs.Window.{window, findOf, Windowed, Roomy}
+use Rattle.scans.specs.Window.{window, findOf, Windowed}
 use Rattle.scans.proofs.Test.{by-test}
 use Rattle.scans.proofs.Windows.{long}
 use Rattle.strand.specs.Step.{Run, join, isAt, search, st2, startAfter, savedAfter, foundBy, found, look, step}
 use Rattle.strand.specs.declared.Window.{Window}
 use Rattle.strand.specs.declared.Open.{Open}
 use Rattle.strand.specs.declared.State.{State}
-use Rattle.strand.specs.declared.Sought.{Sought}
-use Rattle.strand.specs.Kept.{Kept, rescanned, Like}
+use Rattle.strand.specs.Kept.{Kept, Sought, rescanned, Like}
 use Rattle.strand.specs.Held.{heldBy, Left, Joined, Entered, Enters, lookBy, lastBy, Seeks, Found, Settled}
 use Rattle.strand.proofs.Shape.{InWindow, search-inside}
 use Rattle.strand.proofs.Like.{like-end, like-trans, like-found, like-step}
-
--- A scan keeps the number of scan counts.
-pub roomy-as : {p : Params} {n-f n n′ n-places n-scores : ℕ} → n′ ≡ n → Roomy p n-f n n-places n-scores → Roomy p n-f n′ n-places n-scores
-roomy-as e r = rw e r
 
 -- ---- What a new entry leads to.
 module _ (S : Setup) (i : ℕ) (a : Run) where

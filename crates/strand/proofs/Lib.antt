@@ -13,3 +13,5 @@ pub mod ReadingOn
 pub mod Running
 pub mod Keeping
 pub mod Like
+pub mod InnerProcessKinds
+pub mod InnerProcessReads

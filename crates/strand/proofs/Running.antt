@@ -1,8 +1,8 @@
 -- The loop over a strand's letters: where the run stands before letter i, that there is room to save there, and what is left at the end.
 use mathlib.Core.Path.{_≡_, refl, sym, ap, _∙_, subst}
 use mathlib.Core.Bool.{false}
-use mathlib.Core.List.{List}
-use Prim.Native.Nat.{ℕ, _+_, _/_, _^_, _≤_, _<_}
+use mathlib.Core.List.{List, []}
+use Prim.Native.Nat.{ℕ, _+_, _-_, _/_, _^_, _≤_, _<_}
 use native.Mathlib.Omega.{arith}
 use lib.ListN.{length, drop, replicate, length-replicate, drop-of-length-le}
 use lib.IntN.{ℤ, pos, negsuc}
@@ -16,19 +16,27 @@ use Rattle.intervals.specs.Rows.{rows}
 use Rattle.intervals.proofs.Rows.{length-rows}
 use Rattle.scans.specs.declared.Params.{Params}
 use Rattle.scans.specs.Setup.{Setup, setupOf}
+use Rattle.scans.specs.declared.Scanned.{Scanned}
 use Rattle.scans.specs.Counts.{cleared}
-use Rattle.scans.specs.Window.{queue, window, Windowed}
+use Rattle.scans.specs.Window.{queue, window, findOf}
 use Rattle.scans.proofs.Counting.{cleared-counted}
+use Rattle.scans.proofs.Windows.{long}
 use Rattle.strand.specs.Step.{Run, begin, isAt, whole, saveFrom, step, runFrom, run, intervalsOfPlaces, intervalsOf}
 use Rattle.strand.specs.declared.Open.{Open}
 use Rattle.strand.specs.declared.Window.{Window}
 use Rattle.strand.specs.declared.Reading.{Reading}
-use Rattle.strand.specs.Kept.{Kept, Like}
-use Rattle.strand.specs.Held.{heldBy, Closing, Saving, Settled, unread, noInterval, readOn, Read, Skims, Stops, Lent, Ran}
-use Rattle.strand.proofs.Shape.{StartOk, Shaped, ShapedAt, shaped-more, saved-room, begin-shaped, step-shaped}
+use Rattle.strand.specs.declared.Going.{Going}
+use Rattle.strand.specs.declared.Look.{Look}
+use Rattle.strand.specs.declared.Look.the-variants.{Pass, Extension, Scan}
+use Rattle.strand.specs.Kept.{Kept, Sought, Passes, Clearing, extendedOf, answeredBy, Like}
+use Rattle.strand.specs.Held.{heldBy, Entered, lookBy, Looks, lastBy, Seeks, Found, Closing, Saving, Settled, unread, noInterval, readOn, Skims, Stops, Lent, Ran}
+use Rattle.strand.specs.Running.{Lasting, StartOk, Shaped, Before, begun, Answer, Due}
+use Rattle.strand.proofs.Shape.{ShapedAt, shaped-more, saved-room, begin-shaped, step-shaped}
 use Rattle.strand.proofs.Keeping.{kept-unread}
 use Rattle.strand.proofs.Like.{ended, like-refl, like-start, like-end, like-saved}
-use Rattle.strand.proofs.Letter.{stepped}
+use Rattle.strand.proofs.Moving.{window-below}
+use Rattle.strand.proofs.Searching.{clearing, seeks-answered, looked-counts, seeks-passed, seeks-extended, seeks-scanned}
+use Rattle.strand.proofs.Letter.{found-within, settles, stepped}
 use Rattle.strand.proofs.ReadingOn.{run-turn}
 
 -- ---- Room to save.
@@ -53,17 +61,20 @@ saving {k} {i} {o} {starts} {ends} n some small l in-starts in-ends h =
 pub cleared-is : {counts : List ℕ} {n m : ℕ} → n ≡ m → counts ≡ replicate n 0 → counts ≡ replicate m 0
 cleared-is e h = h ∙ ap (λ (n : ℕ). replicate n 0) e
 
-pub lent-as : {p : Params} {n n-ln n-f n-ring m m′ c c′ n-places n-scores n-starts n-ends : ℕ} → m′ ≡ m → c′ ≡ c
-    → Lent p n n-ln n-f n-ring m c n-places n-scores n-starts n-ends → Lent p n n-ln n-f n-ring m′ c′ n-places n-scores n-starts n-ends
-lent-as e f l = rw (e, f) l
-
--- ---- Before a letter.
-pub record Inv (p : Params) (codes : List ℕ) (ln f : List Float) (at : Reading) (o : Open) (ring window-counts counts starts ends : List ℕ) : Type 0 where
-  pub read : Read p codes ln f (at .i) (at .kmer) (at .window) ring window-counts counts
-  pub shaped : Shaped (p .kmer) (at .i) (o .start) (o .end) (rows (o .count) starts ends)
-  pub real : Run  -- the definition's run
-  pub like : Like (at .i) (heldBy (at .window) o ring counts (rows (o .count) starts ends)) real
-  pub rest : run (setupOf p ln f) (places (p .kmer) codes) ≡ runFrom (setupOf p ln f) (at .i) real (drop (at .i) (places (p .kmer) codes))
+-- What the parts of the run ask of the slices that they are lent.
+pub lasting : {p : Params} {n n-ln n-f n-ring n-window-counts n-counts n-candidates n-starts n-ends n-counts′ n-starts′ n-ends′ : ℕ}
+    → Lent p n n-ln n-f n-ring n-window-counts n-counts n-candidates n-starts n-ends → n-counts′ ≡ 4 ^ p .kmer → n-starts′ ≡ n-starts → n-ends′ ≡ n-ends
+    → Lasting p n n-f n-counts′ n-starts′ n-ends′
+lasting l c s e =
+    record {
+      kmer-some = l .kmer-some;
+      kmer-small = l .kmer-small;
+      letters-in = l .letters-in;
+      f-long = l .roomy .f-long;
+      counts-is = c;
+      starts-long = rw s (l .starts-long);
+      ends-long = rw e (l .ends-long);
+    }
 
 -- ---- No letter yet.
 begun-is : (S : Setup) (ring counts starts ends : List ℕ) → counts ≡ cleared S → heldBy (unread .window) noInterval ring counts (rows 0 starts ends) ≡ begin S
@@ -74,37 +85,34 @@ begun-kept : (S : Setup) (ring counts : List ℕ) → counts ≡ cleared S → K
 unfolding queue decoded
 begun-kept S ring counts h = rw h kept-unread
 
-begun-windowed : {p : Params} {ring counts : List ℕ} {n : ℕ} → length ring ≡ p .window → 1 < p .window → p .window ≤ 65535 → p .window < n
-    → counts ≡ replicate (4 ^ p .kmer) 0 → Windowed p ring 0 0 counts n
-unfolding queue decoded
-begun-windowed {p} e wide small ln-long h =
-    record {
-      ring-is = e;
-      wide = wide;
-      small = small;
-      head-in = omega arith;
-      len-in = omega arith;
-      ln-long = ln-long;
-      counts-long = rw h (length-replicate (4 ^ p .kmer) 0);
-      below = λ j l. absurd (let b : ⊥ = omega arith in b);
-      counted = rw h (cleared-counted (4 ^ p .kmer) .counted);
-    }
-
-module _ {p : Params} {codes : List ℕ} {ln f : List Float} {at : Reading} {o : Open} {ring window-counts counts starts ends : List ℕ} where
-  pub inv-start : length ring ≡ p .window → 1 < p .window → p .window ≤ 65535 → p .window < length ln
-      → window-counts ≡ replicate (4 ^ p .kmer) 0 → counts ≡ replicate (4 ^ p .kmer) 0 → at ≡ unread → o ≡ noInterval
-      → Inv p codes ln f at o ring window-counts counts starts ends
-  unfolding run
-  inv-start e wide small ln-long hw hc ha ho =
+module _ {p : Params} {codes : List ℕ} {ln f : List Float} {ring window-counts counts starts ends : List ℕ} where
+  pub inv-start : {n-f n-window-counts n-counts n-candidates n-starts n-ends : ℕ} {g : Going}
+      → Lent p (length codes) (length ln) n-f (length ring) n-window-counts n-counts n-candidates n-starts n-ends
+      → (g ≡ begun) × (window-counts ≡ replicate n-window-counts 0) × (counts ≡ replicate n-counts 0)
+      → Before p codes ln f (g .at) (g .hand) ring window-counts counts starts ends
+  unfolding run queue decoded
+  inv-start l (e, hw, hc) =
       let S = setupOf p ln f in
-      let b = begun-is S ring counts starts ends hc in
-      rw (ha, ho)
+      let window-clear = cleared-is (l .window-counts-are) hw in
+      let clear = cleared-is (l .roomy .counts-is) hc in
+      let b = begun-is S ring counts starts ends clear in
+      rw e
       (record {
         read = record {
           i-in = omega arith;
           kmer-is = kmer-none (p .kmer) codes;
-          windowed = begun-windowed e wide small ln-long hw;
-          kept = begun-kept S ring counts hc;
+          windowed = record {
+            ring-is = l .ring-is;
+            wide = l .wide;
+            small = l .small;
+            head-in = omega (arith, l .wide);
+            len-in = omega arith;
+            ln-long = l .ln-long;
+            counts-long = rw window-clear (length-replicate (4 ^ p .kmer) 0);
+            below = λ j m. absurd (let b : ⊥ = omega (arith, m) in b);
+            counted = rw window-clear (cleared-counted (4 ^ p .kmer) .counted);
+          };
+          kept = begun-kept S ring counts clear;
         };
         shaped = subst (λ (z : Run). ShapedAt S 0 z) (sym b) (begin-shaped S);
         real = begin S;
@@ -119,7 +127,7 @@ run-end S codes i a h =
     rw (drop-of-length-le ps {i = i} (let l : length ps ≤ i = omega (arith, places-length (S .kmer) codes) in l))
 
 module _ {p : Params} {codes : List ℕ} {ln f : List Float} {at : Reading} {o : Open} {ring window-counts counts starts ends : List ℕ}
-    (v : Inv p codes ln f at o ring window-counts counts starts ends) where
+    (v : Before p codes ln f at o ring window-counts counts starts ends) where
   -- No interval ends past the letters that were read.
   pub not-ended : {i : ℕ} → at .i ≤ i → isAt (o .end) (i + 1) ≡ false
   not-ended l = ended (o .end) (omega (arith, v .shaped .end-in))
@@ -128,7 +136,7 @@ module _ {p : Params} {codes : List ℕ} {ln f : List Float} {at : Reading} {o :
   module _ {r : Reading} {ring′ window-counts′ counts₁ : List ℕ} (s : Stops p codes ln f at r ring counts ring′ window-counts′ counts₁) (l : r .i < length codes) where
     pub inv-turn : {at′ : Reading} {w′ : Window} {o′ : Open} {counts′ starts′ ends′ : List ℕ}
         → Settled p ln f (r .i) (r .entry) (record { window = r .window; hand = o }) (record { window = w′; hand = o′ }) ring′ window-counts′ counts₁ starts ends counts′ starts′ ends′
-        → at′ ≡ readOn r w′ → Inv p codes ln f at′ o′ ring′ window-counts′ counts′ starts′ ends′
+        → at′ ≡ readOn r w′ → Before p codes ln f at′ o′ ring′ window-counts′ counts′ starts′ ends′
     inv-turn t u =
         let S = setupOf p ln f in
         let i = r .i in
@@ -161,6 +169,73 @@ module _ {p : Params} {codes : List ℕ} {ln f : List Float} {at : Reading} {o :
         saved-is = like-saved (x .like) ∙ ap (λ (z : Run). z .saved) all;
         saving = c;
       }
+
+-- ---- A letter that is searched from, by what the look answers.
+module _ {p : Params} {codes : List ℕ} {ln f : List Float} {at : Reading} {o : Open} {ring₀ window-counts₀ counts₀ starts ends : List ℕ}
+    (v : Before p codes ln f at o ring₀ window-counts₀ counts₀ starts ends)
+    {r : Reading} {ring window-counts counts : List ℕ} (s : Stops p codes ln f at r ring₀ counts₀ ring window-counts counts) (l : r .i < length codes)
+    {look : Look} {counts₁ : List ℕ}
+    (k : (saved : List Interval) → Looks (setupOf p ln f) (r .i) (heldBy (r .window) o ring counts saved) (decode (r .entry)) look counts₁) where
+  entered : Entered p ln f (r .window) (r .entry) ring window-counts counts
+  entered = s .enters .entered
+
+  -- Before the next letter, when what was sought is settled.
+  before-next : {q : Sought} {at′ : Reading} {w′ : Window} {o′ : Open} {counts′ starts′ ends′ : List ℕ}
+      → ((saved : List Interval) → Seeks (setupOf p ln f) (window ring (r .window .head) (r .window .len)) (r .window)
+      (lookBy (setupOf p ln f) (r .i) (heldBy (r .window) o ring counts saved) (decode (r .entry))) q counts′)
+      → Found (p .kmer) (r .i) (r .window .len) o o′ (findOf (q .found)) (rows (o .count) starts ends) (rows (o′ .count) starts′ ends′)
+      → w′ ≡ lastBy (q .window) (findOf (q .found)) → at′ ≡ readOn r w′ → Before p codes ln f at′ o′ ring window-counts counts′ starts′ ends′
+  before-next t h u a =
+      inv-turn v s l (settles {a = record { window = r .window; hand = o }} (not-ended v (s .skims .further)) (entered .windowed) t h u) a
+
+  -- Nothing more.
+  pub before-passed : {at′ : Reading} {w′ : Window} {counts′ : List ℕ} → look ≡ Pass → Passes (setupOf p ln f) (r .window) (decode (r .entry)) w′ counts₁ counts′
+      → at′ ≡ readOn r w′ → Before p codes ln f at′ o ring window-counts counts′ starts ends
+  before-passed {w′ = w′} e t a =
+      before-next {q = record { window = w′; found = 0 }}
+      (λ saved. seeks-passed (k saved) (entered .kept) (entered .newest) e (window-below (entered .windowed)) (sym (long (entered .windowed))) t)
+      (record { start-is = refl; end-is = refl; saved-is = refl }) refl a
+
+  -- A find by extension.
+  pub before-extended : {at′ : Reading} {w′ : Window} {o′ : Open} {starts′ ends′ : List ℕ} → look ≡ Extension
+      → Found (p .kmer) (r .i) (r .window .len) o o′ (findOf 1) (rows (o .count) starts ends) (rows (o′ .count) starts′ ends′)
+      → w′ ≡ lastBy (extendedOf (r .window) .window) (findOf 1) → at′ ≡ readOn r w′ → Before p codes ln f at′ o′ ring window-counts counts₁ starts′ ends′
+  before-extended e h u a =
+      before-next {q = extendedOf (r .window)} (λ saved. seeks-extended (k saved) (entered .kept) (entered .newest) e refl) h u a
+
+  -- A look that does not extend leaves the scan counts as they were.
+  kept-as : counts₁ ≡ counts → Kept (setupOf p ln f) (window ring (r .window .head) (r .window .len - 1)) (r .window) counts₁
+  kept-as e = subst (λ (z : List ℕ). Kept (setupOf p ln f) (window ring (r .window .head) (r .window .len - 1)) (r .window) z) (sym e) (entered .kept)
+
+  pub kept-passing : look ≡ Pass → Kept (setupOf p ln f) (window ring (r .window .head) (r .window .len - 1)) (r .window) counts₁
+  kept-passing e = kept-as (looked-counts (k []) e)
+
+  -- The backward scan is due.
+  module _ (e : look ≡ Scan) where
+    kept-still : Kept (setupOf p ln f) (window ring (r .window .head) (r .window .len - 1)) (r .window) counts₁
+    kept-still = kept-as (looked-counts (k []) e)
+
+    pub scan-clearing : length counts₁ ≡ 4 ^ p .kmer → Clearing (r .window) (window ring (r .window .head) (r .window .len)) counts₁
+    scan-clearing c = clearing kept-still (entered .windowed) refl c
+
+    answer-seeks : {a : Scanned} {counts′ : List ℕ} → Answer p ln f (r .window) ring a counts′
+        → (saved : List Interval) → Seeks (setupOf p ln f) (window ring (r .window .head) (r .window .len)) (r .window)
+        (lookBy (setupOf p ln f) (r .i) (heldBy (r .window) o ring counts saved) (decode (r .entry))) (answeredBy (r .window) (a .found) (a .carry)) counts′
+    answer-seeks h saved =
+        seeks-scanned (k saved) e (seeks-answered (omega (arith, long (entered .windowed), entered .some)) (window-below (entered .windowed)) h refl)
+
+    pub due-scan : {last : ℕ} {counts₂ : List ℕ} → last ≡ whole (r .window .last) → counts₂ ≡ replicate (length counts₁) 0 → length counts₁ ≡ 4 ^ p .kmer
+        → Saving o starts ends → Due p codes ln f (record { at = r; hand = o; last = last }) ring window-counts counts₂ starts ends
+    due-scan {last} x y c can-save =
+        record {
+          some = entered .some;
+          windowed = entered .windowed;
+          clear = cleared-is c y;
+          carried = rw x (kept-still .carried);
+          saving = can-save;
+          within = λ a counts′ h. found-within (setupOf p ln f) (r .i) o entered (answer-seeks h []);
+          leads = λ a g′ counts′ starts′ ends′ h t. before-next {q = answeredBy (r .window) (a .found) (a .carry)} (answer-seeks h) (t .found) refl (t .at-is);
+        }
 
 -- The last interval is saved.
 pub last-saved : {p : Params} {codes : List ℕ} {ln f : List Float} {o : Open} {starts ends : List ℕ} {is : List Interval}

@@ -5,7 +5,7 @@ use mathlib.Core.Bool.{Bool, true, false, cond, _&&_, _||_, true≢false}
 use mathlib.Core.List.{List, [], _∷_, _++_}
 use Prim.Native.Nat.{ℕ, zero, suc, _+_, _-_, _/_, _%_, _≤_, _<_}
 use native.Mathlib.Omega.{arith}
-use lib.ListN.{length, getD, drop, length-append}
+use lib.ListN.{length, getD, drop, replicate, length-append}
 use lib.Seq.{drop-append-le}
 use lib.Dec.{leb, eqb}
 use lib.IntN.{ℤ, pos, _-ℤ_}
@@ -33,8 +33,7 @@ use Rattle.strand.specs.declared.Window.{Window}
 use Rattle.strand.specs.declared.State.{State}
 use Rattle.strand.specs.declared.Look.{Look}
 use Rattle.strand.specs.declared.Look.the-variants.{Pass, Extension, Scan}
-use Rattle.strand.specs.declared.Sought.{Sought}
-use Rattle.strand.specs.Kept.{Kept, Passes, rescanned, extendedOf, answeredBy}
+use Rattle.strand.specs.Kept.{Kept, Sought, Passes, Clearing, rescanned, extendedOf, answeredBy}
 use Rattle.strand.specs.Held.{heldBy, isSearched, triedBy, Extended, lookBy, lookedAs, countsLooked, Looks, lastBy, Seeks}
 use Rattle.strand.proofs.Moving.{window-split, older-long}
 use Rattle.strand.proofs.Keeping.{kept-passed, kept-extended, kept-answered}
@@ -159,6 +158,13 @@ module _ {S : Setup} {p : Params} {w : Window} {counts ring window-counts : List
             (sym (ap (λ (z : List Place). drop j z) (window-split ring head (len - 1) len (omega arith)) ∙ drop-append-le j older newer (k .inside on)))
             (touched-more counts (drop j older) newer (k .touched on)),
       )
+
+  pub clearing : w .len ≡ len → length counts ≡ kmers S → Clearing w (window ring head len) counts
+  clearing e c =
+      record {
+        touched = λ on. rw e (touched-all refl on);
+        clear = λ off. k .clear off ∙ ap (λ (n : ℕ). replicate n 0) (sym c);
+      }
 
 left-found : (S : Setup) (o : Outcome) (r : ℕ) → findOf r ≡ o .find → 0 < r → countsLeft S (o .find) (o .counts) ≡ o .counts
 left-found S o zero h l = absurd (let b : ⊥ = omega arith in b)

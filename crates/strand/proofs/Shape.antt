@@ -19,6 +19,7 @@ use Rattle.scans.specs.Scans.{Find, none, at, Outcome}
 use Rattle.scans.proofs.Test.{by-test}
 use Rattle.scans.proofs.ForwardScore.{forward-inside}
 use Rattle.strand.specs.Step.{Run, begin, withoutOldest, leave, join, search, st2, startAfter, whole, saveFrom, savedAfter, foundBy, found, look, step, runFrom, run, intervalsOfPlaces}
+use Rattle.strand.specs.Running.{StartOk, Shaped}
 use Rattle.strand.proofs.Finds.{search-facts}
 
 -- ---- st2 is (i + j + 2) - (len + k).
@@ -32,17 +33,7 @@ st2-is k i len j =
     is-as (st2 k i len j) (i + (0 + 1 + j) + (0 + 1)) (0 + (len + 0 + 0) + (k + 0)) (i + j + 2) (len + k) (omega arith)
     (is-sub (pos i -ℤ (pos len -ℤ pos 1 -ℤ pos j)) (pos k -ℤ pos 1) (i + (0 + 1 + j)) (0 + (len + 0 + 0)) (k + 0) (0 + 1) a s)
 
--- ---- After i letters: what is saved is canonical and ends before end, and start, if it is not negative, lies k letters or more before end.
-abbrev pub StartOk : ℕ → ℤ → ℕ → Type 0
-StartOk k (pos s) e = s + k ≤ e
-StartOk k (negsuc s) e = Unit {0}
-
-pub record Shaped (k i : ℕ) (start end : ℤ) (saved : List Interval) : Type 0 where
-  pub canonical : Canonical i k saved
-  pub ends-below : EndsBelow (whole end) saved
-  pub end-in : whole end ≤ i
-  pub start-ok : StartOk k start (whole end)
-
+-- ---- After i letters.
 start-more : (k : ℕ) (start : ℤ) (e e′ : ℕ) → e ≤ e′ → StartOk k start e → StartOk k start e′
 start-more k (pos s) e e′ h r = omega arith
 start-more k (negsuc s) e e′ h r = tt

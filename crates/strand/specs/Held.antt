@@ -28,9 +28,8 @@ use Rattle.strand.specs.declared.Open.{Open}
 use Rattle.strand.specs.declared.State.{State}
 use Rattle.strand.specs.declared.Look.{Look}
 use Rattle.strand.specs.declared.Look.the-variants.{Pass, Extension, Scan}
-use Rattle.strand.specs.declared.Sought.{Sought}
 use Rattle.strand.specs.declared.Reading.{Reading}
-use Rattle.strand.specs.Kept.{Kept, rescanned, Like}
+use Rattle.strand.specs.Kept.{Kept, Sought, rescanned, Like}
 
 -- The run that a window, an interval in hand, the ring, the scan counts and the saved intervals hold.
 abbrev pub heldBy : Window → Open → (ring counts : List ℕ) → List Interval → Run
@@ -171,14 +170,7 @@ pub record Saving (o : Open) (starts ends : List ℕ) : Type 0 where
   pub room : Room (o .count) starts ends
   pub room-after : Room (length (saveFrom (rows (o .count) starts ends) (o .start) (o .end))) starts ends
 
--- ---- A letter i that is searched from and has entered the window: what it asks, and the run that it leads to.
-pub record Settling (p : Params) (i : ℕ) (o : Open) (starts ends : List ℕ) (n-f n-counts n-places n-scores : ℕ) : Type 0 where
-  pub kmer-small : p .kmer ≤ 12
-  pub letter-in : i < 2147483648
-  pub roomy : Roomy p n-f n-counts n-places n-scores
-  pub saving : Saving o starts ends
-  pub ended : isAt (o .end) (i + 1) ≡ false
-
+-- ---- A letter i that is searched from and has entered the window: the run that it leads to.
 pub record Settled (p : Params) (ln f : List Float) (i e : ℕ) (a a′ : State) (ring window-counts counts starts ends : List ℕ)
     (counts′ starts′ ends′ : List ℕ) : Type 0 where
   pub like : Like (i + 1) (held a′ ring counts′ starts′ ends′) (look (setupOf p ln f) i (held a ring counts starts ends) (decode e))
@@ -232,7 +224,7 @@ pub record Skimmed (p : Params) (codes : List ℕ) (ln f : List Float) (from r :
 
 -- ---- The run over a strand of n letters.
 -- The numbers lie in their ranges, and the lent slices have the sizes that the paper lists.
-pub record Lent (p : Params) (n n-ln n-f n-ring n-window-counts n-counts n-places n-scores n-starts n-ends : ℕ) : Type 0 where
+pub record Lent (p : Params) (n n-ln n-f n-ring n-window-counts n-counts n-candidates n-starts n-ends : ℕ) : Type 0 where
   pub kmer-some : 0 < p .kmer
   pub kmer-small : p .kmer ≤ 12
   pub letters-in : n < 2147483648
@@ -241,7 +233,7 @@ pub record Lent (p : Params) (n n-ln n-f n-ring n-window-counts n-counts n-place
   pub ln-long : p .window < n-ln
   pub ring-is : n-ring ≡ p .window
   pub window-counts-are : n-window-counts ≡ 4 ^ p .kmer
-  pub roomy : Roomy p n-f n-counts n-places n-scores
+  pub roomy : Roomy p n-f n-counts n-candidates
   pub starts-long : (n + 1) / (p .kmer + 1) ≤ n-starts
   pub ends-long : (n + 1) / (p .kmer + 1) ≤ n-ends
 

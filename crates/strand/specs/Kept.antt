@@ -3,7 +3,7 @@ use mathlib.Core.Path.{_≡_}
 use Prim.Native.Nat.{ℕ, zero, suc, _-_, _/_, _≤_, _<_}
 use mathlib.Core.Bool.{Bool, true, false, not}
 use mathlib.Core.List.{List}
-use lib.ListN.{length, getD, drop}
+use lib.ListN.{length, getD, drop, replicate}
 use lib.Dec.{eqb}
 use lib.IntN.{ℤ, pos, negsuc}
 use Rattle.letters.specs.Place.{Place}
@@ -13,7 +13,6 @@ use Rattle.scans.specs.Counts.{cleared, Counted}
 use Rattle.scans.specs.Carry.{Carried, Touched, CarriesOn, noCarry}
 use Rattle.strand.specs.Step.{Run, whole, isAt}
 use Rattle.strand.specs.declared.Window.{Window}
-use Rattle.strand.specs.declared.Sought.{Sought}
 
 -- Not live: all are 0. Live: only places from last_q on have raised them. A carried scan: they are the counts of the places from last_q on, and the sums are those of the scan over them.
 pub record Kept (S : Setup) (q : List Place) (w : Window) (counts : List ℕ) : Type 0 where
@@ -45,9 +44,19 @@ pub record Passes (S : Setup) (w : Window) (e : Place) (w′ : Window) (counts c
   pub off : w .carry .on ≡ false → (w′ ≡ w) × (counts′ ≡ counts)
   pub on : w .carry .on ≡ true → (w′ ≡ rescanned w (w .live) (w′ .carry)) × CarriesOn S (w .len - whole (w .last)) e (w .carry) (w′ .carry) counts counts′
 
+-- ---- A find by extension, or of a backward scan: one past its index, 0 for none, and the window with the scan counts that it left.
+pub record Sought : Type 0 where
+  pub window : Window
+  pub found : ℕ
+
 -- A find by extension.
 abbrev pub extendedOf : Window → Sought
 extendedOf w = record { window = rescanned w true noCarry; found = 1 }
+
+-- What is to be known of the counts to clear them.
+pub record Clearing (w : Window) (q : List Place) (counts : List ℕ) : Type 0 where
+  pub touched : w .live ≡ true → (whole (w .last) ≤ w .len) × Touched counts (drop (whole (w .last)) q)
+  pub clear : w .live ≡ false → counts ≡ replicate (length counts) 0
 
 -- What a backward scan found.
 abbrev pub answeredBy : Window → ℕ → Carry → Sought

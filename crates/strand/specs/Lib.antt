@@ -2,3 +2,4 @@ pub mod Step
 pub mod Range
 pub mod Kept
 pub mod Held
+pub mod Running

@@ -13,13 +13,14 @@ ghost use Rattle.intervals.specs.Interval.{Interval};
 ghost use Rattle.intervals.specs.Rows.{rows};
 ghost use Rattle.scans.specs.Setup.{setupOf};
 ghost use Rattle.scans.specs.Counts.{raise, lower};
-ghost use Rattle.scans.specs.Scans.{dustBackward};
-ghost use Rattle.scans.specs.Window.{findOf, window, Windowed, Roomy};
+ghost use Rattle.scans.specs.Window.{findOf, window, Windowed};
+ghost use Rattle.scans.specs.Parts.{Queued};
 ghost use Rattle.strand.specs.Step.{whole, lastWithout, isAt, st2, startAfter, saveFrom, savedAfter, intervalsOf};
-ghost use Rattle.strand.specs.Held.{heldBy, sumLess, sumMore, Left, Joined, triedBy, Extended, lookBy};
-ghost use Rattle.strand.specs.Held.{lastBy, Found, Saving, Settling, Settled, unread, noInterval, readOn, Lent, Ran};
-ghost use Rattle.strand.specs.Held.{isSearched, Entered, Looks, Seeks, Read, Skimmed};
-ghost use Rattle.strand.specs.Kept.{Kept, Passing, Passes, extendedOf, answeredBy};
+ghost use Rattle.strand.specs.Held.{heldBy, sumLess, sumMore, Left, Joined, triedBy, Extended};
+ghost use Rattle.strand.specs.Held.{lastBy, Found, Saving, unread, noInterval, readOn, Lent};
+ghost use Rattle.strand.specs.Held.{isSearched, Looks, Read, Skimmed};
+ghost use Rattle.strand.specs.Kept.{Passing, Passes, Clearing, extendedOf, answeredBy};
+ghost use Rattle.strand.specs.Running.{Lasting, Before, Reached, Answered, begun};
 
 // ---- The window.
 
@@ -79,12 +80,6 @@ fn last_index(last: i64) -> usize
         return 0;
     }
     last as usize
-}
-
-// What a search found: one past its index, 0 for none, and the window with the scan counts that it left.
-struct Sought {
-    window: Window,
-    found: usize,
 }
 
 impl Window {
@@ -178,68 +173,29 @@ impl Window {
     }
 
     // A find by extension, at the oldest entry.
-    fn extended(mut self) -> Sought
-        ensures { λ r. ⌜ r ≡ extendedOf self ⌝ }
+    fn extended(mut self) -> Self
+        ensures { λ r. ⌜ r ≡ lastBy (extendedOf self .window) (findOf 1) ⌝ }
     {
         self.live = true;
         self.carry = scans::Carry::none();
-        Sought {
-            window: self,
-            found: 1,
-        }
+        self.last = 0;
+        self
     }
 
-    // What a backward scan found, with the scan that it left to carry on.
-    fn answered(mut self, found: usize, carry: scans::Carry) -> Sought
-        ensures { λ r. ⌜ r ≡ answeredBy self found carry ⌝ }
-    {
-        self.live = found != 0;
-        self.carry = carry;
-        Sought {
-            window: self,
-            found: found,
-        }
-    }
-
-    // The backward scan, from cleared counts.
-    fn scanned(
-        self,
-        p: scans::Params,
-        queue: &[u32],
-        window_counts: &[u16],
-        ln: &[f64],
-        f: &[f64],
-        scan_counts: &mut [u16],
-        places: &mut [u32],
-        scores: &mut [f64],
-    ) -> Sought
-        requires { ⌜ 0 < self .len ⌝ }
-        requires { ⌜ Windowed p (now queue) (self .head) (self .len) (now «window_counts») (length (now ln)) ⌝ }
-        requires { ⌜ Roomy p (length (now f)) (length (now «scan_counts»)) (length (now places)) (length (now scores)) ⌝ }
-        requires { ⌜ Kept (setupOf p (now ln) (now f)) (window (now queue) (self .head) (self .len - 1)) self (now «scan_counts») ⌝ }
-        ensures { λ r. ⌜ Seeks (setupOf p (now (ln .entry)) (now (f .entry))) (window (now (queue .entry)) (self .head) (self .len)) self (dustBackward (setupOf p (now (ln .entry)) (now (f .entry))) (window (now (queue .entry)) (self .head) (self .len))) r (now («scan_counts» .exit)) ⌝ }
+    // Clears the scan counts, and answers last_q as an index.
+    fn cleared(self, queue: &[u32], scan_counts: &mut [u16]) -> usize
+        requires { ⌜ Queued (now queue) (self .head) (self .len) (length (now «scan_counts»)) ⌝ }
+        requires { ⌜ Clearing self (window (now queue) (self .head) (self .len)) (now «scan_counts») ⌝ }
+        ensures { λ r. ⌜ (r ≡ whole (self .last)) × (now («scan_counts» .exit) ≡ replicate (length (now («scan_counts» .entry))) 0) ⌝ }
     {
         let head = self.head;
         let len = self.len;
         let last = last_index(self.last);
         if self.live {
             scans::clear_from(queue, head, len, last, scan_counts);
+            return last;
         }
-        let r = scans::dust_backward(
-            p,
-            self.carry,
-            last,
-            queue,
-            head,
-            len,
-            window_counts,
-            ln,
-            f,
-            scan_counts,
-            places,
-            scores,
-        );
-        self.answered(r.found, r.carry)
+        last
     }
 
     // last_q after a search: r is one past the index found, 0 for none.
@@ -252,6 +208,16 @@ impl Window {
         }
         self.last = (r - 1) as i64;
         self
+    }
+
+    // What a backward scan found, with the scan that it left to carry on.
+    fn answered(mut self, found: usize, carry: scans::Carry) -> Self
+        requires { ⌜ found ≤ 65535 ⌝ }
+        ensures { λ r. ⌜ r ≡ lastBy (answeredBy self found carry .window) (findOf found) ⌝ }
+    {
+        self.live = found != 0;
+        self.carry = carry;
+        self.found(found)
     }
 }
 
@@ -452,88 +418,6 @@ impl State {
         }
         Look::Pass
     }
-
-    // The search from the newest entry at letter i.
-    fn search(
-        self,
-        p: scans::Params,
-        i: usize,
-        entry: u32,
-        queue: &[u32],
-        window_counts: &[u16],
-        scan_counts: &mut [u16],
-        ln: &[f64],
-        f: &[f64],
-        places: &mut [u32],
-        scores: &mut [f64],
-    ) -> Sought
-        requires { ⌜ (i < 2147483648) × (isSearched (p .least) (now «window_counts») (decode entry) ≡ true) ⌝ }
-        requires { ⌜ Entered p (now ln) (now f) (self .window) entry (now queue) (now «window_counts») (now «scan_counts») ⌝ }
-        requires { ⌜ Roomy p (length (now f)) (length (now «scan_counts»)) (length (now places)) (length (now scores)) ⌝ }
-        ensures { λ r. ⌜ ((saved : List Interval) → Seeks (setupOf p (now (ln .entry)) (now (f .entry)))
-            (window (now (queue .entry)) (self .window .head) (self .window .len)) (self .window)
-            (lookBy (setupOf p (now (ln .entry)) (now (f .entry))) i (heldBy (self .window) (self .hand) (now (queue .entry)) (now («scan_counts» .entry)) saved) (decode entry))
-            r (now («scan_counts» .exit))) ⌝ }
-    {
-        match self.look(p, i, entry, queue, window_counts, scan_counts, ln, f) {
-            Look::Pass => Sought {
-                window: self.window.passed(p, entry, ln, f, scan_counts),
-                found: 0,
-            },
-            Look::Extension => self.window.extended(),
-            Look::Scan => self.window.scanned(
-                p,
-                queue,
-                window_counts,
-                ln,
-                f,
-                scan_counts,
-                places,
-                scores,
-            ),
-        }
-    }
-
-    // The state after letter i, which is searched from and stands last in the window.
-    fn settled(
-        mut self,
-        p: scans::Params,
-        i: usize,
-        entry: u32,
-        ln: &[f64],
-        f: &[f64],
-        queue: &[u32],
-        window_counts: &[u16],
-        scan_counts: &mut [u16],
-        places: &mut [u32],
-        scores: &mut [f64],
-        starts: &mut [u32],
-        ends: &mut [u32],
-    ) -> Self
-        requires { ⌜ Settling p i (self .hand) (now starts) (now ends) (length (now f)) (length (now «scan_counts»)) (length (now places)) (length (now scores)) ⌝ }
-        requires { ⌜ Entered p (now ln) (now f) (self .window) entry (now queue) (now «window_counts») (now «scan_counts») ⌝ }
-        requires { ⌜ isSearched (p .least) (now «window_counts») (decode entry) ≡ true ⌝ }
-        ensures { λ r. ⌜ Settled p (now (ln .entry)) (now (f .entry)) i entry self r
-            (now (queue .entry)) (now («window_counts» .entry)) (now («scan_counts» .entry)) (now (starts .entry)) (now (ends .entry))
-            (now («scan_counts» .exit)) (now (starts .exit)) (now (ends .exit)) ⌝ }
-    {
-        let sought = self.search(
-            p,
-            i,
-            entry,
-            queue,
-            window_counts,
-            scan_counts,
-            ln,
-            f,
-            places,
-            scores,
-        );
-        let r = sought.found;
-        self.hand = self.hand.found(p.kmer, i, self.window.len, r, starts, ends);
-        self.window = sought.window.found(r);
-        self
-    }
 }
 
 // ---- Reading on.
@@ -634,54 +518,110 @@ fn skim(
 
 // ---- The run.
 
-// The run over all letters, from cleared counts.
-fn run(
+// Where a run stands: how far it has read, and the interval in hand. Where a backward scan is due, `last` is last_q as an index.
+struct Going {
+    at: Reading,
+    hand: Open,
+    last: usize,
+}
+
+impl Going {
+    // The state after letter i, whose backward scan is answered.
+    fn answered(
+        self,
+        p: scans::Params,
+        r: scans::Scanned,
+        starts: &mut [u32],
+        ends: &mut [u32],
+    ) -> Self
+        requires { ⌜ (self .at .i < 2147483648) × (self .at .window .len < 65536) × (r .found ≤ self .at .window .len) × (p .kmer ≤ 12) ⌝ }
+        requires { ⌜ Saving (self .hand) (now starts) (now ends) ⌝ }
+        ensures { λ g. ⌜ Answered (p .kmer) self r g (now (starts .entry)) (now (ends .entry)) (now (starts .exit)) (now (ends .exit)) ⌝ }
+    {
+        let at = self.at;
+        let window = at.window;
+        let hand = self.hand;
+        let found = r.found;
+        let next = hand.found(p.kmer, at.i, window.len, found, starts, ends);
+        let after = at.after(window.answered(found, r.carry));
+        Going {
+            at: after,
+            hand: next,
+            last: 0,
+        }
+    }
+}
+
+// No letter is read, and the counts are cleared.
+fn begin(window_counts: &mut [u16], scan_counts: &mut [u16]) -> Going
+    ensures { λ r. ⌜ (r ≡ begun) × (now («window_counts» .exit) ≡ replicate (length (now («window_counts» .entry))) 0)
+        × (now («scan_counts» .exit) ≡ replicate (length (now («scan_counts» .entry))) 0) ⌝ }
+{
+    buffers::clear(window_counts);
+    buffers::clear(scan_counts);
+    let at = Reading::new();
+    let hand = Open::new();
+    Going {
+        at: at,
+        hand: hand,
+        last: 0,
+    }
+}
+
+// Goes on with a run to the next letter whose backward scan is due, with cleared scan counts, or to the end.
+fn until_scan(
     p: scans::Params,
+    from: Going,
     codes: &[u8],
     ln: &[f64],
     f: &[f64],
     queue: &mut [u32],
     window_counts: &mut [u16],
     scan_counts: &mut [u16],
-    places: &mut [u32],
-    scores: &mut [f64],
     starts: &mut [u32],
     ends: &mut [u32],
-) -> Open
-    requires { ⌜ Lent p (length (now codes)) (length (now ln)) (length (now f)) (length (now queue))
-        (length (now «window_counts»)) (length (now «scan_counts»)) (length (now places)) (length (now scores))
-        (length (now starts)) (length (now ends)) ⌝ }
-    requires { ⌜ (now «window_counts» ≡ replicate (4 ^ p .kmer) 0) × (now «scan_counts» ≡ replicate (4 ^ p .kmer) 0) ⌝ }
-    ensures { λ r. ⌜ Ran p (now (codes .entry)) (now (ln .entry)) (now (f .entry)) r (now (starts .exit)) (now (ends .exit)) ⌝ }
+) -> Going
+    requires { ⌜ Lasting p (length (now codes)) (length (now f)) (length (now «scan_counts»)) (length (now starts)) (length (now ends)) ⌝ }
+    requires { ⌜ Before p (now codes) (now ln) (now f) (from .at) (from .hand) (now queue) (now «window_counts») (now «scan_counts») (now starts) (now ends) ⌝ }
+    ensures { λ r. ⌜ Reached p (now (codes .entry)) (now (ln .entry)) (now (f .entry)) (from .at .i) r
+        (now (queue .exit)) (now («window_counts» .exit)) (now («scan_counts» .exit)) (now (starts .exit)) (now (ends .exit)) ⌝ }
 {
-    let mut at = Reading::new();
-    let mut hand = Open::new();
+    let mut at = from.at;
+    let mut hand = from.hand;
     loop {
         at = skim(p, at, codes, ln, f, queue, window_counts, scan_counts);
         if at.i >= codes.len() {
-            return hand;
+            return Going {
+                at: at,
+                hand: hand,
+                last: 0,
+            };
         }
         let window = at.window;
         let st = State {
             window: window,
             hand: hand,
         };
-        let next = st.settled(
-            p,
-            at.i,
-            at.entry,
-            ln,
-            f,
-            queue,
-            window_counts,
-            scan_counts,
-            places,
-            scores,
-            starts,
-            ends,
-        );
-        hand = next.hand;
-        at = at.after(next.window);
+        let look = st.look(p, at.i, at.entry, queue, window_counts, scan_counts, ln, f);
+        match look {
+            Look::Scan => {
+                let last = window.cleared(queue, scan_counts);
+                return Going {
+                    at: at,
+                    hand: hand,
+                    last: last,
+                };
+            }
+            Look::Extension => {
+                hand = hand.found(p.kmer, at.i, window.len, 1, starts, ends);
+                at = at.after(window.extended());
+                continue;
+            }
+            Look::Pass => {
+                at = at.after(window.passed(p, at.entry, ln, f, scan_counts));
+                continue;
+            }
+        }
     }
 }
 
@@ -694,31 +634,46 @@ pub fn inner_process(
     queue: &mut [u32],
     window_counts: &mut [u16],
     scan_counts: &mut [u16],
-    places: &mut [u32],
-    scores: &mut [f64],
+    candidates: &mut [scans::ForwardPosition],
     starts: &mut [u32],
     ends: &mut [u32],
 ) -> usize
     requires { ⌜ Lent p (length (now codes)) (length (now ln)) (length (now f)) (length (now queue))
-        (length (now «window_counts»)) (length (now «scan_counts»)) (length (now places)) (length (now scores))
+        (length (now «window_counts»)) (length (now «scan_counts»)) (length (now candidates))
         (length (now starts)) (length (now ends)) ⌝ }
     ensures { λ r. ⌜ rows r (now (starts .exit)) (now (ends .exit))
         ≡ intervalsOf (setupOf p (now (ln .entry)) (now (f .entry))) (now (codes .entry)) ⌝ }
 {
-    buffers::clear(window_counts);
-    buffers::clear(scan_counts);
-    let hand = run(
-        p,
-        codes,
-        ln,
-        f,
-        queue,
-        window_counts,
-        scan_counts,
-        places,
-        scores,
-        starts,
-        ends,
-    );
-    hand.close(starts, ends)
+    let mut st = begin(window_counts, scan_counts);
+    loop {
+        st = until_scan(
+            p,
+            st,
+            codes,
+            ln,
+            f,
+            queue,
+            window_counts,
+            scan_counts,
+            starts,
+            ends,
+        );
+        if st.at.i >= codes.len() {
+            return st.hand.close(starts, ends);
+        }
+        let r = scans::dust_backward(
+            p,
+            st.at.window.carry,
+            st.last,
+            queue,
+            st.at.window.head,
+            st.at.window.len,
+            window_counts,
+            ln,
+            f,
+            scan_counts,
+            candidates,
+        );
+        st = st.answered(p, r, starts, ends);
+    }
 }

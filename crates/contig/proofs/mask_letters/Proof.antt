@@ -2,7 +2,12 @@
 use borrow.Author.Needs.{needs}
 use Rattle.contig.proofs.Run.{ran}
 use Rattle.contig.proofs.mask_letters.Statement.{statement}
-use Rattle.contig.proofs.mask_letters.Tie as tie
+use Rattle.contig.proofs.mask_letters.Proof.Tie as tie
+mod Lts
+mod Tie
+
+no-candidates-requires : tie.Need-no-candidates-requires
+no-candidates-requires c κs = search needs
 
 default-requires : tie.Need-default-requires
 default-requires c κs = search needs
@@ -43,9 +48,6 @@ slice-aggregate-process-11 c = search needs
 slice-aggregate-process-12 : tie.Need-slice-aggregate-process-12
 slice-aggregate-process-12 c = search needs
 
-slice-aggregate-process-13 : tie.Need-slice-aggregate-process-13
-slice-aggregate-process-13 c = search needs
-
 process-requires : tie.Need-process-requires
 process-requires c κs = search needs
 
@@ -57,15 +59,16 @@ same-length-2 c = search needs
 
 returns : tie.Need-returns
 returns c =
-    let P = c .before .before .before .before .before .before .before .before .before .before .before .before .before .before .before .before .before in
-    let D = P .before .before .before .before .before .before .before .before .before .before .before .before .before .before .before .before in
-    let S = D .before .before .before .before in
-    ran (S .args .starts .now) (S .args .ends .now) (S .pre .0) (S .pre .1) (D .default .ensures) (P .process .ensures)
+    let P = c .before .before .before .before .before .before .before .before .before .before .before .before .before .before .before .before in
+    let D = P .before .before .before .before .before .before .before .before .before .before .before .before .before .before .before in
+    let S = D .before .before .before .before .before in
+    ran _ (S .args .starts .now) (S .args .ends .now) (search needs) (S .pre .0) (S .pre .1) (D .default .ensures) (P .process .ensures)
 
 pub mask-letters-spec : {M : Type 1} → statement M
 mask-letters-spec =
     tie.close
     (tie.spec
+    no-candidates-requires
     default-requires
     slice-aggregate-process
     slice-aggregate-process-2
@@ -79,7 +82,6 @@ mask-letters-spec =
     slice-aggregate-process-10
     slice-aggregate-process-11
     slice-aggregate-process-12
-    slice-aggregate-process-13
     process-requires
     same-length
     same-length-2

@@ -2,10 +2,12 @@
 use borrow.Author.Needs.{needs}
 use Rattle.longdust_c.proofs.Answers.{count-small, exported}
 use Rattle.longdust_c.proofs.longdust_process.Statement.{statement}
-use Rattle.longdust_c.proofs.longdust_process.Tie as tie
+use Rattle.longdust_c.proofs.longdust_process.Proof.Tie as tie
+mod Lts
+mod Tie
 
 abbrev call : tie.After-count-or-refusal → tie.After-process
-call c = c .before .before .before .before .before .before .before .before .before .before .before .before .before .before .before .before .before .before .before .before .before .before .before .before .before .before .before .before .before .before .before .before
+call c = c .before .before .before .before .before .before .before .before .before .before .before .before .before .before .before .before .before .before .before .before .before .before .before .before .before .before .before .before .before
 
 options-of-requires : tie.Need-options-of-requires
 options-of-requires c κs = search needs
@@ -17,7 +19,7 @@ flag-of-requires : tie.Need-flag-of-requires
 flag-of-requires c κs = search needs
 
 count-or-refusal-requires : tie.Need-count-or-refusal-requires
-count-or-refusal-requires c κs = count-small (c .before .before .before .before .before .before .before .before .before .before .before .before .before .before .before .before .before .before .before .before .before .before .before .before .before .before .before .before .before .before .before .process .ensures)
+count-or-refusal-requires c κs = count-small (c .before .before .before .before .before .before .before .before .before .before .before .before .before .before .before .before .before .before .before .before .before .before .before .before .before .before .before .before .process .ensures)
 
 same-length : tie.Need-same-length
 same-length c = call c .process .kept .1 .1 .0
@@ -61,14 +63,11 @@ same-length-13 c = call c .process .kept .1 .1 .1 .1 .1 .1 .1 .1 .1 .1 .1 .1 .1 
 same-length-14 : tie.Need-same-length-14
 same-length-14 c = call c .process .kept .1 .1 .1 .1 .1 .1 .1 .1 .1 .1 .1 .1 .1 .1 .1 .0
 
-same-length-15 : tie.Need-same-length-15
-same-length-15 c = call c .process .kept .1 .1 .1 .1 .1 .1 .1 .1 .1 .1 .1 .1 .1 .1 .1 .1 .0
-
 returns : tie.Need-returns
 returns c =
     exported
     (call c .process .ensures)
-    (call c .before .before .before .before .before .before .before .before .before .before .before .before .before .before .before .before .options-of .ensures)
+    (call c .before .before .before .before .before .before .before .before .before .before .before .before .before .before .before .options-of .ensures)
     (record { sfits = c .count-or-refusal .ok })
     (c .count-or-refusal .ensures)
     (c .before .flag-of .ensures)
@@ -95,5 +94,4 @@ longdust-process-spec =
     same-length-12
     same-length-13
     same-length-14
-    same-length-15
     returns)

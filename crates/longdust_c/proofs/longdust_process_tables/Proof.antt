@@ -2,10 +2,12 @@
 use borrow.Author.Needs.{needs}
 use Rattle.longdust_c.proofs.Answers.{count-small, exported}
 use Rattle.longdust_c.proofs.longdust_process_tables.Statement.{statement}
-use Rattle.longdust_c.proofs.longdust_process_tables.Tie as tie
+use Rattle.longdust_c.proofs.longdust_process_tables.Proof.Tie as tie
+mod Lts
+mod Tie
 
 abbrev call : tie.After-count-or-refusal → tie.After-process-tables
-call c = c .before .before .before .before .before .before .before .before .before .before .before .before .before .before .before .before .before .before .before .before .before .before .before .before .before .before .before .before
+call c = c .before .before .before .before .before .before .before .before .before .before .before .before .before .before .before .before .before .before .before .before .before .before .before .before .before
 
 options-of-requires : tie.Need-options-of-requires
 options-of-requires c κs = search needs
@@ -17,7 +19,7 @@ flag-of-requires : tie.Need-flag-of-requires
 flag-of-requires c κs = search needs
 
 count-or-refusal-requires : tie.Need-count-or-refusal-requires
-count-or-refusal-requires c κs = count-small (c .before .before .before .before .before .before .before .before .before .before .before .before .before .before .before .before .before .before .before .before .before .before .before .before .before .before .before .process-tables .ensures)
+count-or-refusal-requires c κs = count-small (c .before .before .before .before .before .before .before .before .before .before .before .before .before .before .before .before .before .before .before .before .before .before .before .before .process-tables .ensures)
 
 same-length : tie.Need-same-length
 same-length c = call c .process-tables .kept .1 .1 .1 .1 .0
@@ -55,14 +57,11 @@ same-length-11 c = call c .process-tables .kept .1 .1 .1 .1 .1 .1 .1 .1 .1 .1 .1
 same-length-12 : tie.Need-same-length-12
 same-length-12 c = call c .process-tables .kept .1 .1 .1 .1 .1 .1 .1 .1 .1 .1 .1 .1 .1 .1 .1 .0
 
-same-length-13 : tie.Need-same-length-13
-same-length-13 c = call c .process-tables .kept .1 .1 .1 .1 .1 .1 .1 .1 .1 .1 .1 .1 .1 .1 .1 .1 .0
-
 returns : tie.Need-returns
 returns c =
     exported
     (call c .process-tables .ensures)
-    (call c .before .before .before .before .before .before .before .before .before .before .before .before .before .before .options-of .ensures)
+    (call c .before .before .before .before .before .before .before .before .before .before .before .before .before .options-of .ensures)
     (record { sfits = c .count-or-refusal .ok })
     (c .count-or-refusal .ensures)
     (c .before .flag-of .ensures)
@@ -87,5 +86,4 @@ longdust-process-tables-spec =
     same-length-10
     same-length-11
     same-length-12
-    same-length-13
     returns)

@@ -1,5 +1,5 @@
 use mathlib.Core.Path.{refl}
-use Prim.Native.Nat.{_<_, _≤_}
+use Prim.Native.Nat.{_-_, _<_, _≤_}
 use native.Mathlib.Omega.{arith}
 use lib.ListN.{length}
 use Rattle.scans.proofs.ForwardScan.{queued-less}
@@ -7,12 +7,6 @@ use Rattle.scans.proofs.CarriedFind.{carries-off, last-in, low-in, newe
 use borrow.Author.Needs.{needs}
 use Rattle.scans.proofs.carry_ahead.Statement.{statement}
 use Rattle.scans.proofs.carry_ahead.Tie as tie
-use Rattle.scans.proofs.carry_ahead.Reads as reads
-use Rattle.scans.proofs.carry_ahead.Lts as lts
-use Rattle.scans.proofs.Carry.ahead.Reads as ahead-reads
-use Rattle.scans.proofs.Carry.none.Reads as none-reads
-use Rattle.scans.proofs.ring_index.Reads as ring-index-reads
-use Rattle.scans.proofs.uncount.Reads as uncount-reads
 
 abbrev start : tie.Else1 → tie.Start
 start c = c .before .before .before .before .before

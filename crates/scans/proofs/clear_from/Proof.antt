@@ -5,11 +5,6 @@ use Rattle.scans.proofs.ForwardScan.{queued-less, before-seam, past-sea
 use Rattle.scans.proofs.Walk.{cleared-both}
 use Rattle.scans.proofs.clear_from.Statement.{statement}
 use Rattle.scans.proofs.clear_from.Tie as tie
-use Rattle.scans.proofs.clear_from.Reads as reads
-use Rattle.scans.proofs.clear_from.Lts as lts
-use Rattle.buffers.proofs.clear.Reads as clear-reads
-use Rattle.scans.proofs.clear_part.Reads as clear-part-reads
-use Rattle.scans.proofs.seam.Reads as seam-reads
 
 abbrev start : tie.After-seam → tie.Start
 start c = c .before .before .before .before

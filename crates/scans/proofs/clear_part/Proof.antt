@@ -7,8 +7,6 @@ use Rattle.scans.specs.Carry.{Touched}
 use Rattle.scans.proofs.Walk.{Walking, walking-start, walking-end, walking-below, clearing-turn}
 use Rattle.scans.proofs.clear_part.Statement.{statement}
 use Rattle.scans.proofs.clear_part.Tie as tie
-use Rattle.scans.proofs.clear_part.Reads as reads
-use Rattle.scans.proofs.clear_part.Lts as lts
 
 abbrev Inv-loop : tie.InvT-loop
 Inv-loop ring head turn from to scan-counts₀ i₀ scan-counts i = Walking Touched ring head from to scan-counts₀ i scan-counts

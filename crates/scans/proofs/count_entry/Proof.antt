@@ -4,8 +4,6 @@ use Rattle.scans.proofs.Values.{even-plain, odd-ambiguous, raised-plain
 use borrow.Author.Needs.{needs}
 use Rattle.scans.proofs.count_entry.Statement.{statement}
 use Rattle.scans.proofs.count_entry.Tie as tie
-use Rattle.scans.proofs.count_entry.Reads as reads
-use Rattle.scans.proofs.count_entry.Lts as lts
 
 -- src/lib.rt:74:9
 returns : tie.Need-returns

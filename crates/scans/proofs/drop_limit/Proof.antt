@@ -2,8 +2,6 @@ use Rattle.scans.specs.Setup.{dropLimit}
 use borrow.Author.Needs.{needs}
 use Rattle.scans.proofs.drop_limit.Statement.{statement}
 use Rattle.scans.proofs.drop_limit.Tie as tie
-use Rattle.scans.proofs.drop_limit.Reads as reads
-use Rattle.scans.proofs.drop_limit.Lts as lts
 
 -- src/lib.rt:34:36
 enum-told : tie.Need-enum-told

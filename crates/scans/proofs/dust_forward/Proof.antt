@@ -5,11 +5,6 @@ use borrow.Author.Needs.{needs}
 use Rattle.scans.proofs.ForwardScan.{ringed-less, within-cleared, before-seam, past-seam, forward-stopped, forward-both}
 use Rattle.scans.proofs.dust_forward.Statement.{statement}
 use Rattle.scans.proofs.dust_forward.Tie as tie
-use Rattle.scans.proofs.dust_forward.Reads as reads
-use Rattle.scans.proofs.dust_forward.Lts as lts
-use Rattle.scans.proofs.ForwardState.new.Reads as new-reads
-use Rattle.scans.proofs.forward_part.Reads as forward-part-reads
-use Rattle.scans.proofs.seam.Reads as seam-reads
 
 abbrev start : tie.After-seam → tie.Start
 start c = c .before .before .before .before .before

@@ -5,8 +5,6 @@ use Rattle.scans.specs.Scans.{extends}
 use borrow.Author.Needs.{needs}
 use Rattle.scans.proofs.extend.Statement.{statement}
 use Rattle.scans.proofs.extend.Tie as tie
-use Rattle.scans.proofs.extend.Reads as reads
-use Rattle.scans.proofs.extend.Lts as lts
 
 -- src/lib.rt:87:13
 mul-c : tie.Need-mul-c

@@ -9,12 +9,6 @@ use Rattle.scans.proofs.CarriedFind.{quickly-found, quickly-none}
 use borrow.Author.Needs.{needs}
 use Rattle.scans.proofs.find_quickly.Statement.{statement}
 use Rattle.scans.proofs.find_quickly.Tie as tie
-use Rattle.scans.proofs.find_quickly.Reads as reads
-use Rattle.scans.proofs.find_quickly.Lts as lts
-use Rattle.scans.proofs.carry_ahead.Reads as carry-ahead-reads
-use Rattle.scans.proofs.clear_from.Reads as clear-from-reads
-use Rattle.scans.proofs.nothing.Reads as nothing-reads
-use Rattle.scans.proofs.scan_quickly.Reads as scan-quickly-reads
 
 abbrev start : tie.Then1 → tie.Start
 start c = c .before .before .before .before .before .before

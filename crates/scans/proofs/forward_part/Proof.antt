@@ -5,11 +5,6 @@ use Rattle.scans.specs.Setup.{setupOf}
 use Rattle.scans.proofs.ForwardScan.{Forwarding, forwarding-start, forwarding-end, entry-counts, forwarding-turn, forwarding-stop}
 use Rattle.scans.proofs.forward_part.Statement.{statement}
 use Rattle.scans.proofs.forward_part.Tie as tie
-use Rattle.scans.proofs.forward_part.Reads as reads
-use Rattle.scans.proofs.forward_part.Lts as lts
-use Rattle.scans.proofs.ForwardState.judged.Reads as judged-reads
-use Rattle.scans.proofs.ForwardState.stopped.Reads as stopped-reads
-use Rattle.scans.proofs.count_entry.Reads as count-entry-reads
 
 abbrev Inv-loop : tie.InvT-loop
 Inv-loop p ring head turn start from to limit ln f scan-counts₀ st₀ i₀ scan-counts st i = Forwarding (setupOf p ln f) limit ring head start from to st₀ scan-counts₀ i st scan-counts

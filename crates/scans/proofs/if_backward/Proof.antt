@@ -8,11 +8,6 @@ use Rattle.scans.proofs.Windows.{long, count-in, entry-in}
 use Rattle.scans.proofs.BackCheck.{Checking, checking-start, checking-turn, checking-no, checking-yes}
 use Rattle.scans.proofs.if_backward.Statement.{statement}
 use Rattle.scans.proofs.if_backward.Tie as tie
-use Rattle.scans.proofs.if_backward.Reads as reads
-use Rattle.scans.proofs.if_backward.Lts as lts
-use Rattle.scans.proofs.Params.max_steps.Reads as max-steps-reads
-use Rattle.scans.proofs.ring_index.Reads as ring-index-reads
-use Rattle.scans.proofs.window_value.Reads as window-value-reads
 
 abbrev Inv-loop : tie.InvT-loop
 Inv-loop p ring head len window-counts ln s₀ left₀ i₀ s left i = Checking p ln (window ring head len) left i s

@@ -1,8 +1,6 @@
 use borrow.Author.Tests.{lt-ltb, le-ltb}
 use Rattle.scans.proofs.larger.Statement.{statement}
 use Rattle.scans.proofs.larger.Tie as tie
-use Rattle.scans.proofs.larger.Reads as reads
-use Rattle.scans.proofs.larger.Lts as lts
 
 -- src/lib.rt:514:9
 returns : tie.Need-returns

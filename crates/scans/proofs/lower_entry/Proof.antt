@@ -5,8 +5,6 @@ use Rattle.scans.proofs.Values.{even-plain, odd-ambiguous}
 use Rattle.scans.proofs.Walk.{lower-none}
 use Rattle.scans.proofs.lower_entry.Statement.{statement}
 use Rattle.scans.proofs.lower_entry.Tie as tie
-use Rattle.scans.proofs.lower_entry.Reads as reads
-use Rattle.scans.proofs.lower_entry.Lts as lts
 
 returns : tie.Need-returns
 returns c = rw (odd-ambiguous (c .before .args .entry) (c .if1 .taken))

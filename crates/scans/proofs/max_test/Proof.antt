@@ -4,9 +4,6 @@ use borrow.Author.Needs.{needs}
 use Rattle.scans.proofs.MaxTest.{Testing, testing-start, testing-turn, testing-found, testing-end}
 use Rattle.scans.proofs.max_test.Statement.{statement}
 use Rattle.scans.proofs.max_test.Tie as tie
-use Rattle.scans.proofs.max_test.Reads as reads
-use Rattle.scans.proofs.max_test.Lts as lts
-use Rattle.floats.proofs.to_i32.Reads as to-i32-reads
 
 abbrev Inv-loop : tie.InvT-loop
 Inv-loop ln f window threshold s₀ i₀ s i = Testing ln f window threshold s i

@@ -10,13 +10,6 @@ use Rattle.scans.proofs.Reading.{Entered, add-ready, entered}
 use Rattle.scans.proofs.QuickLoop.{Quicking, quicking-start, quicking-end, quicking-read, quicking-ended, quicking-raised, quicking-tied, quicking-dropped, quicking-fallen}
 use Rattle.scans.proofs.quick_part.Statement.{statement}
 use Rattle.scans.proofs.quick_part.Tie as tie
-use Rattle.scans.proofs.quick_part.Reads as reads
-use Rattle.scans.proofs.quick_part.Lts as lts
-use Rattle.scans.proofs.BackwardState.add_entry.Reads as add-entry-reads
-use Rattle.scans.proofs.BackwardState.fallen.Reads as fallen-reads
-use Rattle.scans.proofs.BackwardState.raised.Reads as raised-reads
-use Rattle.scans.proofs.BackwardState.stopped.Reads as stopped-reads
-use Rattle.scans.proofs.BackwardState.too_low.Reads as too-low-reads
 
 abbrev Inv-loop : tie.InvT-loop
 Inv-loop p ring head len turn from to window-counts ln f scan-counts₀ st₀ i₀ scan-counts st i = Quicking (setupOf p ln f) (window ring head len) from to st₀ scan-counts₀ i st scan-counts

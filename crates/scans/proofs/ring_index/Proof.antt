@@ -2,8 +2,6 @@ use borrow.Author.Tests.{lt-ltb, le-ltb}
 use borrow.Author.Needs.{needs}
 use Rattle.scans.proofs.ring_index.Statement.{statement}
 use Rattle.scans.proofs.ring_index.Tie as tie
-use Rattle.scans.proofs.ring_index.Reads as reads
-use Rattle.scans.proofs.ring_index.Lts as lts
 
 -- src/lib.rt:61:13
 add-i : tie.Need-add-i

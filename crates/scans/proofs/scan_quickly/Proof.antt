@@ -6,11 +6,6 @@ use Rattle.scans.proofs.ForwardScan.{before-seam, past-seam}
 use Rattle.scans.proofs.QuickLoop.{quick-start, quick-stopped, quick-both}
 use Rattle.scans.proofs.scan_quickly.Statement.{statement}
 use Rattle.scans.proofs.scan_quickly.Tie as tie
-use Rattle.scans.proofs.scan_quickly.Reads as reads
-use Rattle.scans.proofs.scan_quickly.Lts as lts
-use Rattle.scans.proofs.BackwardState.new.Reads as new-reads
-use Rattle.scans.proofs.quick_part.Reads as quick-part-reads
-use Rattle.scans.proofs.seam.Reads as seam-reads
 
 abbrev start : tie.After-seam → tie.Start
 start c = c .before .before .before .before .before .before

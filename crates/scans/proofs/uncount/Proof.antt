@@ -8,10 +8,6 @@ use Rattle.scans.proofs.Ring.{ring-index-at}
 use Rattle.scans.proofs.Walk.{Walking, walking-start, walking-end, walking-below, lowering-turn}
 use Rattle.scans.proofs.uncount.Statement.{statement}
 use Rattle.scans.proofs.uncount.Tie as tie
-use Rattle.scans.proofs.uncount.Reads as reads
-use Rattle.scans.proofs.uncount.Lts as lts
-use Rattle.scans.proofs.lower_entry.Reads as lower-entry-reads
-use Rattle.scans.proofs.ring_index.Reads as ring-index-reads
 
 abbrev Inv-loop : tie.InvT-loop
 Inv-loop ring head from to scan-counts₀ i₀ scan-counts i = Walking (Counted (length scan-counts₀)) ring head from to scan-counts₀ i scan-counts

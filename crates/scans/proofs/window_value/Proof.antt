@@ -2,8 +2,6 @@ use Rattle.scans.proofs.Values.{even-plain, odd-ambiguous}
 use borrow.Author.Needs.{needs}
 use Rattle.scans.proofs.window_value.Statement.{statement}
 use Rattle.scans.proofs.window_value.Tie as tie
-use Rattle.scans.proofs.window_value.Reads as reads
-use Rattle.scans.proofs.window_value.Lts as lts
 
 -- src/lib.rt:105:9
 returns : tie.Need-returns

@@ -1,81 +1,142 @@
-use mathlib.Core.Path.{_∙_}
-use borrow.Author.Needs.{needs}
-use Rattle.strand.proofs.Running.{cleared-is, lent-as, last-saved}
+use mathlib.Core.Path.{_≡_, refl, sym, ap, _∙_}
+use mathlib.Core.List.{List}
+use Prim.Native.Nat.{ℕ, _-_, _^_}
+use native.Mathlib.Omega.{arith}
+use lib.ListN.{length}
+use lib.Ieee.{Float}
+use Rattle.scans.specs.declared.ForwardPosition.{ForwardPosition}
+use Rattle.scans.specs.declared.Params.{Params}
+use Rattle.strand.specs.declared.Going.{Going}
+use Rattle.strand.specs.declared.Reading.{Reading}
+use Rattle.strand.specs.Running.{Before}
+use Rattle.strand.proofs.Running.{lasting, inv-start, last-saved}
 use Rattle.strand.proofs.inner_process.Statement.{statement}
-use Rattle.strand.proofs.inner_process.Tie as tie
+use Rattle.strand.proofs.inner_process.Proof.Tie as tie
+mod Lts
+mod Tie
 
-abbrev start : tie.After-clear → tie.Start
-start c = c .before .before .before .before .before .before .before .before .before .before .before .before
+-- Where the run stands, and what that does not tell of the sizes of the lent slices.
+record Around (p : Params) (codes : List ℕ) (ln f : List Float) (candidates₀ : List ForwardPosition) (starts₀ ends₀ : List ℕ)
+    (queue window-counts scan-counts : List ℕ) (candidates : List ForwardPosition) (starts ends : List ℕ) (st : Going) : Type 0 where
+  inv : Before p codes ln f (st .at) (st .hand) queue window-counts scan-counts starts ends
+  counts-are : length scan-counts ≡ 4 ^ p .kmer
+  same-candidates : length candidates ≡ length candidates₀
+  same-starts : length starts ≡ length starts₀
+  same-ends : length ends ≡ length ends₀
 
-abbrev cleared2 : tie.After-run → tie.After-clear2
-cleared2 c = c .before .before .before .before .before .before .before .before .before .before
+abbrev Inv-loop : tie.InvT-loop
+Inv-loop p codes ln f queue₀ window-counts₀ scan-counts₀ candidates₀ starts₀ ends₀ st₀ queue window-counts scan-counts candidates starts ends st =
+    Around p codes ln f candidates₀ starts₀ ends₀ queue window-counts scan-counts candidates starts ends st
 
-abbrev cleared : tie.After-run → tie.After-clear
-cleared c = cleared2 c .before .before .before .before
+abbrev μ-loop : tie.MeasureT-loop
+μ-loop p codes ln f queue₀ window-counts₀ scan-counts₀ candidates₀ starts₀ ends₀ st₀ queue window-counts scan-counts candidates starts ends st =
+    length codes - st .at .i
 
-abbrev ran : tie.After-slice-known18 → tie.After-run
-ran c = c .before .before .before .before .before .before .before .before .before .before .before .before .before .before .before .before .before .before .before .before .before
+abbrev start : tie.At-loop Inv-loop μ-loop → tie.Start Inv-loop μ-loop
+start c = c .before .before .before .before .before .before .before .before .before .before .before .before .before .before .before .before
 
-clear-requires : tie.Need-clear-requires
-clear-requires c κs = search needs
+abbrev looping : tie.After-until-scan Inv-loop μ-loop → tie.At-loop Inv-loop μ-loop
+looping c = c .before .before .before .before .before .before
 
-clear-requires-2 : tie.Need-clear-requires-2
-clear-requires-2 c κs = search needs
+abbrev reached : tie.After-struct-known Inv-loop μ-loop → tie.After-until-scan Inv-loop μ-loop
+reached c = c .before .before .before .before .before .before .before .before .before .before .before
 
-run-requires : tie.Need-run-requires
-run-requires c κs =
-    let s = c .before .before .before .before .before .before .before .before .before in
-    let w = s .before .before .before .before in
-    let b = start w in
-    let l = b .pre in (
-      lent-as (w .clear .kept .0) (s .clear2 .kept .0) l,
-      (cleared-is (l .window-counts-are) (w .clear .ensures), cleared-is (l .roomy .counts-is) (s .clear2 .ensures)),
-    )
+abbrev closed : tie.After-slice-known14 Inv-loop μ-loop → tie.After-close Inv-loop μ-loop
+closed c = c .before .before .before .before
 
-close-requires : tie.Need-close-requires
-close-requires c κs = search needs
+abbrev ended : tie.After-slice-known14 Inv-loop μ-loop → tie.After-until-scan Inv-loop μ-loop
+ended c = reached (closed c .before .before .before .before)
 
-same-length : tie.Need-same-length
-same-length c = search needs
+abbrev scanning : tie.After-dust-backward Inv-loop μ-loop → tie.Else1 Inv-loop μ-loop
+scanning c = c .before .before .before .before .before
 
-same-length-2 : tie.Need-same-length-2
-same-length-2 c =
-    let r = ran c in
-    r .run .kept .1 .1 .1 .1 .1 .0 ∙ cleared r .clear .kept .0
+abbrev scanned : tie.After-answered Inv-loop μ-loop → tie.After-dust-backward Inv-loop μ-loop
+scanned c = c .before .before .before .before .before .before
 
-same-length-3 : tie.Need-same-length-3
-same-length-3 c =
-    let r = ran c in
-    r .run .kept .1 .1 .1 .1 .1 .1 .0 ∙ cleared2 r .clear2 .kept .0
+begin-requires : tie.Need-begin-requires Inv-loop μ-loop
+begin-requires c κs = tt
 
-same-length-4 : tie.Need-same-length-4
-same-length-4 c = search needs
+loop-holds : tie.Need-loop-holds Inv-loop μ-loop
+loop-holds c =
+    let b = c .before .before .before .before in
+    let l = b .before .before .before .before .before .before .before .before .before .before .before .pre in
+    record { inv = inv-start l (b .begin .ensures); counts-are = b .begin .kept .1 .0 ∙ l .roomy .counts-is; same-candidates = refl; same-starts = refl; same-ends = refl }
 
-same-length-5 : tie.Need-same-length-5
-same-length-5 c = search needs
+until-scan-requires : tie.Need-until-scan-requires Inv-loop μ-loop
+until-scan-requires c κs =
+    let g = c .before .before .before .before .before in
+    let h = g .loop .inv in
+    (lasting (start g .pre) (h .counts-are) (h .same-starts) (h .same-ends), h .inv)
 
-same-length-6 : tie.Need-same-length-6
-same-length-6 c = search needs
+close-requires : tie.Need-close-requires Inv-loop μ-loop
+close-requires c κs =
+    let t = c .before .before in
+    reached (t .before) .until-scan .ensures .ended (t .if1 .taken) .saving
 
-same-length-7 : tie.Need-same-length-7
-same-length-7 c = search needs
+same-length : tie.Need-same-length Inv-loop μ-loop
+same-length c = ended c .until-scan .kept .1 .1 .1 .1 .1 .0 ∙ looping (ended c) .loop .inv .inv .read .windowed .ring-is ∙ sym (start (looping (ended c)) .pre .ring-is)
 
-returns : tie.Need-returns
-returns c = last-saved (ran c .run .ensures) (c .before .before .before .before .close .ensures)
+same-length-2 : tie.Need-same-length-2 Inv-loop μ-loop
+same-length-2 c = ended c .until-scan .kept .1 .1 .1 .1 .1 .1 .0 ∙ looping (ended c) .loop .inv .inv .read .windowed .counts-long ∙ sym (start (looping (ended c)) .pre .window-counts-are)
+
+same-length-3 : tie.Need-same-length-3 Inv-loop μ-loop
+same-length-3 c = ended c .until-scan .kept .1 .1 .1 .1 .1 .1 .1 .0 ∙ looping (ended c) .loop .inv .counts-are ∙ sym (start (looping (ended c)) .pre .roomy .counts-is)
+
+same-length-4 : tie.Need-same-length-4 Inv-loop μ-loop
+same-length-4 c = looping (ended c) .loop .inv .same-candidates
+
+same-length-5 : tie.Need-same-length-5 Inv-loop μ-loop
+same-length-5 c = closed c .close .kept .1 .0 ∙ ended c .until-scan .kept .1 .1 .1 .1 .1 .1 .1 .1 .0 ∙ looping (ended c) .loop .inv .same-starts
+
+same-length-6 : tie.Need-same-length-6 Inv-loop μ-loop
+same-length-6 c = closed c .close .kept .1 .1 .0 ∙ ended c .until-scan .kept .1 .1 .1 .1 .1 .1 .1 .1 .1 .0 ∙ looping (ended c) .loop .inv .same-ends
+
+returns : tie.Need-returns Inv-loop μ-loop
+returns c = last-saved (ended c .until-scan .ensures .ended (closed c .before .before .before .if1 .taken)) (closed c .close .ensures)
+
+dust-backward-requires : tie.Need-dust-backward-requires Inv-loop μ-loop
+dust-backward-requires c κs =
+    let x = c .before .before .before .before in
+    let u = reached (x .before) in
+    let g = looping u in
+    let l = start g .pre .roomy in
+    let d = u .until-scan .ensures .due (x .if1 .left) in
+    let counts-are = u .until-scan .kept .1 .1 .1 .1 .1 .1 .1 .0 ∙ g .loop .inv .counts-are in
+    (d .windowed, (record { f-long = l .f-long; counts-is = counts-are; candidates-long = omega (arith, g .loop .inv .same-candidates, l .candidates-long) }, ((d .some, d .clear), d .carried)))
+
+answered-requires : tie.Need-answered-requires Inv-loop μ-loop
+answered-requires c κs =
+    let b = c .before .before .before .before .before in
+    let x = scanning b in
+    let u = reached (x .before) in
+    let l = start (looping u) .pre in
+    let d = u .until-scan .ensures .due (x .if1 .left) in
+    ((omega (arith, x .if1 .left, l .letters-in), omega (arith, d .windowed .len-in, d .windowed .small), d .within _ _ (b .dust-backward .ensures), l .kmer-small), d .saving)
+
+loop-less : tie.Need-loop-less Inv-loop μ-loop
+loop-less c =
+    let n = c .before .before .before .before in
+    let x = scanning (scanned n) in
+    omega (arith, x .if1 .left, reached (x .before) .until-scan .ensures .further, ap (λ (z : Reading). z .i) (n .answered .ensures .at-is))
+
+loop-again : tie.Need-loop-again Inv-loop μ-loop
+loop-again c =
+    let n = c .before .before .before .before in
+    let b = scanned n .dust-backward in
+    let x = scanning (scanned n) in
+    let u = reached (x .before) in
+    let h = looping u .loop .inv in
+    record {
+      inv = u .until-scan .ensures .due (x .if1 .left) .leads _ _ _ _ _ (b .ensures) (n .answered .ensures);
+      counts-are = b .kept .1 .1 .1 .1 .1 .1 .1 .1 .1 .0 ∙ u .until-scan .kept .1 .1 .1 .1 .1 .1 .1 .0 ∙ h .counts-are;
+      same-candidates = b .kept .1 .1 .1 .1 .1 .1 .1 .1 .1 .1 .0 ∙ h .same-candidates;
+      same-starts = n .answered .kept .1 .1 .1 .0 ∙ u .until-scan .kept .1 .1 .1 .1 .1 .1 .1 .1 .0 ∙ h .same-starts;
+      same-ends = n .answered .kept .1 .1 .1 .1 .0 ∙ u .until-scan .kept .1 .1 .1 .1 .1 .1 .1 .1 .1 .0 ∙ h .same-ends;
+    }
 
 pub inner-process-spec : {M : Type 1} → statement M
 inner-process-spec =
     tie.close
-    (tie.spec
-    clear-requires
-    clear-requires-2
-    run-requires
-    close-requires
-    same-length
-    same-length-2
-    same-length-3
-    same-length-4
-    same-length-5
-    same-length-6
-    same-length-7
-    returns)
+    (tie.spec Inv-loop μ-loop begin-requires loop-holds until-scan-requires close-requires
+    same-length same-length-2 same-length-3 same-length-4 same-length-5 same-length-6 returns
+    dust-backward-requires answered-requires loop-less loop-again)

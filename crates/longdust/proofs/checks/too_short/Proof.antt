@@ -24,7 +24,7 @@ add-result-2 c = search needs
 
 returns : tie.Need-returns
 unfolding tooShort
-returns c = rw (c .before .before .before .before .before .before .before .before .before .before .before .before .before .before .before .n-kmers .ensures)
+returns c = rw (c .before .before .before .before .before .before .before .before .before .before .before .before .before .before .n-kmers .ensures)
 
 pub too-short-spec : {M : Type 1} → statement M
 too-short-spec =

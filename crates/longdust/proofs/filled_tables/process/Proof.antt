@@ -15,17 +15,19 @@ use Rattle.longdust.specs.Inner.{Admitted}
 use Rattle.longdust.proofs.Accept.{admitted}
 use Rattle.longdust.proofs.Calls.{encoded, encoded-length, encoded-free, admitted-as, answered}
 use Rattle.longdust.proofs.filled_tables.process.Statement.{statement}
-use Rattle.longdust.proofs.filled_tables.process.Tie as tie
+use Rattle.longdust.proofs.filled_tables.process.Proof.Tie as tie
+mod Lts
+mod Tie
 
 abbrev start : tie.Else1 → tie.Start
-start c = c .before .before .before .before .before .before .before .before .before .before .before .before .before .before .before .before .before .before
+start c = c .before .before .before .before .before .before .before .before .before .before .before .before .before .before .before .before
 
 abbrev bytes : tie.Start → List ℕ
 bytes s = s .args .sequence .now
 
 abbrev entry : tie.Start → Buffers
 entry s =
-    buffers (s .args .ln .now) (s .args .f .now) (s .args .queue .now) (s .args .window-counts .now) (s .args .scan-counts .now) (s .args .places .now) (s .args .scores .now)
+    buffers (s .args .ln .now) (s .args .f .now) (s .args .queue .now) (s .args .window-counts .now) (s .args .scan-counts .now) (s .args .candidates .now)
     (s .args .codes .now) (s .args .reverse-codes .now) (s .args .forward-starts .now) (s .args .forward-ends .now) (s .args .reverse-starts .now)
     (s .args .reverse-ends .now) (s .args .starts .now) (s .args .ends .now)
 
@@ -56,18 +58,18 @@ abbrev at-encode : tie.After-fill-tables → tie.After-encode-sequence
 at-encode c = c .before .before .before .before .before .before
 
 abbrev at-fill : tie.After-mask-encoded → tie.After-fill-tables
-at-fill c = c .before .before .before .before .before .before .before .before .before .before .before .before .before .before .before .before .before .before .before .before
+at-fill c = c .before .before .before .before .before .before .before .before .before .before .before .before .before .before .before .before .before .before .before
 
 -- The buffers as the run leaves them.
 abbrev left : tie.After-mask-encoded → Buffers
 left c =
     let l = c .mask-encoded .last .1 .1 .1 .1 in
-    let m = l .1 .1 .1 .1 .1 .1 in
-    buffers (at-fill c .fill-tables .last .0) (at-fill c .fill-tables .last .1 .0) (l .0) (l .1 .0) (l .1 .1 .0) (l .1 .1 .1 .0) (l .1 .1 .1 .1 .0)
-    (part (at-encode (at-fill c))) (l .1 .1 .1 .1 .1 .0) (m .0) (m .1 .0) (m .1 .1 .0) (m .1 .1 .1 .0) (m .1 .1 .1 .1 .0) (m .1 .1 .1 .1 .1 .0)
+    let m = l .1 .1 .1 .1 .1 in
+    buffers (at-fill c .fill-tables .last .0) (at-fill c .fill-tables .last .1 .0) (l .0) (l .1 .0) (l .1 .1 .0) (l .1 .1 .1 .0)
+    (part (at-encode (at-fill c))) (l .1 .1 .1 .1 .0) (m .0) (m .1 .0) (m .1 .1 .0) (m .1 .1 .1 .0) (m .1 .1 .1 .1 .0) (m .1 .1 .1 .1 .1 .0)
 
-abbrev done : tie.After-slice-known30 → tie.After-mask-encoded
-done c = c .before .before .before .before .before .before .before .before .before .before .before .before .before .before .before .before .before .before .before .before .before .before .before .before
+abbrev done : tie.After-slice-known26 → tie.After-mask-encoded
+done c = c .before .before .before .before .before .before .before .before .before .before .before .before .before .before .before .before .before .before .before .before .before
 
 check-requires : tie.Need-check-requires
 check-requires c κs = search needs
@@ -103,7 +105,7 @@ slice-aggregate-mask-encoded c = sym (part-long (at-encode (c .before .before .b
 
 mask-encoded-requires : tie.Need-mask-encoded-requires
 mask-encoded-requires c κs =
-    let t = c .before .before .before .before .before .before .before .before .before .before .before .before .before .before .before .before .before .before .before in
+    let t = c .before .before .before .before .before .before .before .before .before .before .before .before .before .before .before .before .before .before in
     let e = at-encode t in
     let i = at-if e in
     admitted-as _ _ (entry (start i)) (admit i) (t .fill-tables .last .0) (t .fill-tables .last .1 .0) (part e) (t .fill-tables .kept .0) (t .fill-tables .kept .1 .0) (part-long e)
@@ -127,10 +129,10 @@ same-length-6 : tie.Need-same-length-6
 same-length-6 c = done c .mask-encoded .kept .1 .1 .1 .1 .1 .1 .1 .0
 
 same-length-7 : tie.Need-same-length-7
-same-length-7 c = done c .mask-encoded .kept .1 .1 .1 .1 .1 .1 .1 .1 .0
+same-length-7 c = at-encode (at-fill (done c)) .encode-sequence .kept .1 .0
 
 same-length-8 : tie.Need-same-length-8
-same-length-8 c = at-encode (at-fill (done c)) .encode-sequence .kept .1 .0
+same-length-8 c = done c .mask-encoded .kept .1 .1 .1 .1 .1 .1 .1 .1 .0
 
 same-length-9 : tie.Need-same-length-9
 same-length-9 c = done c .mask-encoded .kept .1 .1 .1 .1 .1 .1 .1 .1 .1 .0
@@ -149,9 +151,6 @@ same-length-13 c = done c .mask-encoded .kept .1 .1 .1 .1 .1 .1 .1 .1 .1 .1 .1 .
 
 same-length-14 : tie.Need-same-length-14
 same-length-14 c = done c .mask-encoded .kept .1 .1 .1 .1 .1 .1 .1 .1 .1 .1 .1 .1 .1 .1 .0
-
-same-length-15 : tie.Need-same-length-15
-same-length-15 c = done c .mask-encoded .kept .1 .1 .1 .1 .1 .1 .1 .1 .1 .1 .1 .1 .1 .1 .1 .0
 
 returns-2 : tie.Need-returns-2
 returns-2 c =
@@ -196,5 +195,4 @@ process-spec =
     same-length-12
     same-length-13
     same-length-14
-    same-length-15
     returns-2)

@@ -12,17 +12,19 @@ use Rattle.longdust.specs.Inner.{Admitted}
 use Rattle.longdust.proofs.Accept.{admitted}
 use Rattle.longdust.proofs.Calls.{encoded, encoded-length, encoded-free, admitted-as, answered}
 use Rattle.longdust.proofs.lent_tables.process_tables.Statement.{statement}
-use Rattle.longdust.proofs.lent_tables.process_tables.Tie as tie
+use Rattle.longdust.proofs.lent_tables.process_tables.Proof.Tie as tie
+mod Lts
+mod Tie
 
 abbrev start : tie.Else1 → tie.Start
-start c = c .before .before .before .before .before .before .before .before .before .before .before .before .before .before .before .before .before .before
+start c = c .before .before .before .before .before .before .before .before .before .before .before .before .before .before .before .before
 
 abbrev bytes : tie.Start → List ℕ
 bytes s = s .args .sequence .now
 
 abbrev entry : tie.Start → Buffers
 entry s =
-    buffers (s .args .ln .now) (s .args .f .now) (s .args .queue .now) (s .args .window-counts .now) (s .args .scan-counts .now) (s .args .places .now) (s .args .scores .now)
+    buffers (s .args .ln .now) (s .args .f .now) (s .args .queue .now) (s .args .window-counts .now) (s .args .scan-counts .now) (s .args .candidates .now)
     (s .args .codes .now) (s .args .reverse-codes .now) (s .args .forward-starts .now) (s .args .forward-ends .now) (s .args .reverse-starts .now)
     (s .args .reverse-ends .now) (s .args .starts .now) (s .args .ends .now)
 
@@ -50,18 +52,18 @@ part-long : (c : tie.After-encode-sequence) → length (part c) ≡ length (byte
 part-long c = encoded-length _ _ _ (c .encode-sequence .ensures) (c .encode-sequence .kept .1 .0)
 
 abbrev at-encode : tie.After-mask-encoded → tie.After-encode-sequence
-at-encode c = c .before .before .before .before .before .before .before .before .before .before .before .before .before .before .before .before
+at-encode c = c .before .before .before .before .before .before .before .before .before .before .before .before .before .before .before
 
 -- The buffers as the run leaves them.
 abbrev left : tie.After-mask-encoded → Buffers
 left c =
     let l = c .mask-encoded .last .1 .1 .1 .1 in
-    let m = l .1 .1 .1 .1 .1 .1 in
-    buffers (start (at-if (at-encode c)) .args .ln .now) (start (at-if (at-encode c)) .args .f .now) (l .0) (l .1 .0) (l .1 .1 .0) (l .1 .1 .1 .0) (l .1 .1 .1 .1 .0)
-    (part (at-encode c)) (l .1 .1 .1 .1 .1 .0) (m .0) (m .1 .0) (m .1 .1 .0) (m .1 .1 .1 .0) (m .1 .1 .1 .1 .0) (m .1 .1 .1 .1 .1 .0)
+    let m = l .1 .1 .1 .1 .1 in
+    buffers (start (at-if (at-encode c)) .args .ln .now) (start (at-if (at-encode c)) .args .f .now) (l .0) (l .1 .0) (l .1 .1 .0) (l .1 .1 .1 .0)
+    (part (at-encode c)) (l .1 .1 .1 .1 .0) (m .0) (m .1 .0) (m .1 .1 .0) (m .1 .1 .1 .0) (m .1 .1 .1 .1 .0) (m .1 .1 .1 .1 .1 .0)
 
-abbrev done : tie.After-slice-known26 → tie.After-mask-encoded
-done c = c .before .before .before .before .before .before .before .before .before .before .before .before .before .before .before .before .before .before .before .before .before .before .before .before
+abbrev done : tie.After-slice-known22 → tie.After-mask-encoded
+done c = c .before .before .before .before .before .before .before .before .before .before .before .before .before .before .before .before .before .before .before .before .before
 
 check-requires : tie.Need-check-requires
 check-requires c κs = search needs
@@ -86,7 +88,7 @@ slice-aggregate-mask-encoded c = sym (part-long (c .before .before .before))
 
 mask-encoded-requires : tie.Need-mask-encoded-requires
 mask-encoded-requires c κs =
-    let e = c .before .before .before .before .before .before .before .before .before .before .before .before .before .before .before in
+    let e = c .before .before .before .before .before .before .before .before .before .before .before .before .before .before in
     let i = at-if e in
     admitted-as _ _ (entry (start i)) (admit i) (start i .args .ln .now) (start i .args .f .now) (part e) refl refl (part-long e)
 
@@ -103,10 +105,10 @@ same-length-4 : tie.Need-same-length-4
 same-length-4 c = done c .mask-encoded .kept .1 .1 .1 .1 .1 .1 .1 .0
 
 same-length-5 : tie.Need-same-length-5
-same-length-5 c = done c .mask-encoded .kept .1 .1 .1 .1 .1 .1 .1 .1 .0
+same-length-5 c = at-encode (done c) .encode-sequence .kept .1 .0
 
 same-length-6 : tie.Need-same-length-6
-same-length-6 c = at-encode (done c) .encode-sequence .kept .1 .0
+same-length-6 c = done c .mask-encoded .kept .1 .1 .1 .1 .1 .1 .1 .1 .0
 
 same-length-7 : tie.Need-same-length-7
 same-length-7 c = done c .mask-encoded .kept .1 .1 .1 .1 .1 .1 .1 .1 .1 .0
@@ -125,9 +127,6 @@ same-length-11 c = done c .mask-encoded .kept .1 .1 .1 .1 .1 .1 .1 .1 .1 .1 .1 .
 
 same-length-12 : tie.Need-same-length-12
 same-length-12 c = done c .mask-encoded .kept .1 .1 .1 .1 .1 .1 .1 .1 .1 .1 .1 .1 .1 .1 .0
-
-same-length-13 : tie.Need-same-length-13
-same-length-13 c = done c .mask-encoded .kept .1 .1 .1 .1 .1 .1 .1 .1 .1 .1 .1 .1 .1 .1 .1 .0
 
 returns-2 : tie.Need-returns-2
 returns-2 c =
@@ -162,5 +161,4 @@ process-tables-spec =
     same-length-10
     same-length-11
     same-length-12
-    same-length-13
     returns-2)

@@ -1,95 +1,179 @@
--- `both_strands`: the forward list and the other strand's, merged. Assumes nothing.
-use mathlib.Core.Path.{refl, _∙_}
+-- `both_strands`: the forward list, merged with the other strand's where that is scanned. Assumes nothing.
+use mathlib.Core.Path.{_≡_, refl, _∙_}
 use native.Mathlib.Omega.{arith}
+use borrow.Author.Needs.{needs}
+use Rattle.letters.specs.Code.{reverseComplement}
 use Rattle.scans.specs.Setup.{Setup, setupOf}
-use Rattle.longdust.proofs.Strands.{lent-as, Scanned, mergeable, merged-room, merged-rows}
+use Rattle.longdust.proofs.Strands.{lent-as, reversed-whole, other-none, other-some, Scanned, mergeable, merged-room, merged-rows}
 use Rattle.longdust.proofs.run.both_strands.Statement.{statement}
-use Rattle.longdust.proofs.run.both_strands.Tie as tie
+use Rattle.longdust.proofs.run.both_strands.Proof.Tie as tie
+mod Lts
+mod Tie
 
--- After the forward strand and after the other one.
 abbrev start : tie.After-inner-process → tie.Start
-start c = c .before .before .before .before .before .before .before .before .before .before .before .before .before .before .before .before .before .before .before .before .before .before .before
-
-abbrev forward : tie.After-reverse-strand → tie.After-inner-process
-forward c = c .before .before .before .before .before .before .before .before .before .before .before .before .before .before .before .before .before .before .before .before .before .before .before
+start c = c .before .before .before .before .before .before .before .before .before .before .before .before .before .before .before .before .before .before .before .before
 
 abbrev by : tie.Start → Setup
 by s = setupOf (s .args .p) (s .args .ln .now) (s .args .f .now)
 
-scanned : (c : tie.After-reverse-strand)
-    → Scanned (by (start (forward c))) (start (forward c) .args .forward-only) (start (forward c) .args .encoded .now)
-    (forward c .inner-process .last .1 .1 .1 .1 .1 .1 .1 .1 .1 .0) (forward c .inner-process .last .1 .1 .1 .1 .1 .1 .1 .1 .1 .1 .0)
-    (c .reverse-strand .last .1 .1 .1 .1 .1 .1 .1 .1 .1 .1 .1 .0) (c .reverse-strand .last .1 .1 .1 .1 .1 .1 .1 .1 .1 .1 .1 .1 .0)
-    (forward c .inner-process .result) (c .reverse-strand .result)
-scanned c =
-    record { some = start (forward c) .pre .forward .kmer-some; forward = forward c .inner-process .ensures; reverse = c .reverse-strand .ensures }
+-- In a forward-only run.
+abbrev only : tie.Then1 → tie.After-inner-process
+only c = c .before .before .before .before .before .before .before .before .before .before .before .before
 
-abbrev done : tie.After-slice-known29 → tie.After-reverse-strand
-done c = c .before .before .before .before .before .before .before .before .before .before .before .before .before .before .before .before .before .before .before .before .before .before .before .before .before .before .before
+scanned-only : (c : tie.Then1)
+    → Scanned (by (start (only c))) (start (only c) .args .forward-only) (start (only c) .args .encoded .now)
+    (only c .inner-process .last .1 .1 .1 .1 .1 .1 .1 .1 .0) (only c .inner-process .last .1 .1 .1 .1 .1 .1 .1 .1 .1 .0)
+    (start (only c) .args .reverse-starts .now) (start (only c) .args .reverse-ends .now) (only c .inner-process .result) 0
+scanned-only c =
+    record { some = start (only c) .pre .forward .kmer-some; forward = only c .inner-process .ensures; reverse = other-none _ _ _ _ _ (c .if1 .taken) }
+
+abbrev only-merged : tie.After-slice-known17 → tie.After-merge-intervals
+only-merged c = c .before .before .before .before
+
+abbrev only-end : tie.After-slice-known17 → tie.Then1
+only-end c = only-merged c .before .before .before .before .before .before .before
+
+-- After the other strand.
+abbrev written : tie.After-inner-process2 → tie.After-reverse-complement-encoded-sequence
+written c = c .before .before .before .before .before .before .before .before .before .before
+
+abbrev forward : tie.After-reverse-complement-encoded-sequence → tie.After-inner-process
+forward c = c .before .before .before .before .before .before .before .before .before .before .before .before .before .before
+
+reversed : (c : tie.After-reverse-complement-encoded-sequence)
+    → c .reverse-complement-encoded-sequence .last .1 .0 ≡ reverseComplement (start (forward c) .args .encoded .now)
+reversed c =
+    let s = start (forward c) in
+    reversed-whole (s .args .encoded .now) (s .args .reverse-codes .now) _ (c .reverse-complement-encoded-sequence .ensures) (s .pre .reverse-codes)
+
+abbrev first : tie.After-inner-process2 → tie.After-inner-process
+first c = forward (written c)
+
+scanned : (c : tie.After-inner-process2)
+    → Scanned (by (start (first c))) (start (first c) .args .forward-only) (start (first c) .args .encoded .now)
+    (first c .inner-process .last .1 .1 .1 .1 .1 .1 .1 .1 .0) (first c .inner-process .last .1 .1 .1 .1 .1 .1 .1 .1 .1 .0)
+    (c .inner-process2 .last .1 .1 .1 .1 .1 .1 .1 .1 .0) (c .inner-process2 .last .1 .1 .1 .1 .1 .1 .1 .1 .1 .0)
+    (first c .inner-process .result) (c .inner-process2 .result)
+scanned c =
+    record {
+      some = start (first c) .pre .forward .kmer-some;
+      forward = first c .inner-process .ensures;
+      reverse = other-some _ _ _ _ _ (written c .before .before .if1 .left) (reversed (written c)) (c .inner-process2 .ensures);
+    }
+
+abbrev merged : tie.After-slice-known25 → tie.After-merge-intervals2
+merged c = c .before .before .before .before
+
+abbrev done : tie.After-slice-known25 → tie.After-inner-process2
+done c = merged c .before .before .before .before .before .before .before .before .before .before .before .before .before .before .before .before .before .before
 
 cast-n : tie.Need-cast-n
-cast-n c = omega (arith, c .before .before .before .before .before .before .before .before .before .before .before .before .before .before .before .pre .forward .letters-in)
+cast-n c = omega (arith, c .before .before .before .before .before .before .before .before .before .before .before .before .before .pre .forward .letters-in)
 
 inner-process-requires : tie.Need-inner-process-requires
-inner-process-requires c κs = c .before .before .before .before .before .before .before .before .before .before .before .before .before .before .before .before .before .before .before .before .before .before .pre .forward
-
-reverse-strand-requires : tie.Need-reverse-strand-requires
-reverse-strand-requires c κs =
-    let t = c .before .before .before .before .before .before .before .before .before .before .before .before .before .before .before .before .before .before .before .before .before .before in
-    let e = start t .pre in
-    let k = t .inner-process .kept in
-    (lent-as (e .reverse) refl (k .1 .1 .1 .1 .0) (k .1 .1 .1 .1 .1 .0) (k .1 .1 .1 .1 .1 .1 .0) (k .1 .1 .1 .1 .1 .1 .1 .0) (k .1 .1 .1 .1 .1 .1 .1 .1 .0), e .reverse-codes)
+inner-process-requires c κs = c .before .before .before .before .before .before .before .before .before .before .before .before .before .before .before .before .before .before .before .pre .forward
 
 merge-intervals-requires : tie.Need-merge-intervals-requires
 merge-intervals-requires c κs =
-    let t = c .before .before .before .before .before .before .before .before .before .before .before .before .before .before .before .before .before .before .before .before .before .before in
-    let u = forward t in
-    let a = start u .args in
-    let e = start u .pre in (
-      mergeable (scanned t) _ refl
-          (omega (arith, e .forward .starts-long, u .inner-process .kept .1 .1 .1 .1 .1 .1 .1 .1 .1 .0)) (omega (arith, e .forward .ends-long, u .inner-process .kept .1 .1 .1 .1 .1 .1 .1 .1 .1 .1 .0))
-          (omega (arith, e .reverse .starts-long, t .reverse-strand .kept .1 .1 .1 .1 .1 .1 .1 .1 .1 .1 .1 .0)) (omega (arith, e .reverse .ends-long, t .reverse-strand .kept .1 .1 .1 .1 .1 .1 .1 .1 .1 .1 .1 .1 .0)),
-      merged-room (scanned t) _ refl (a .starts .now) (a .ends .now) (e .starts) (e .ends),
+    let t = c .before .before .before .before .before .before in
+    let k = only t .inner-process .kept in
+    let s = start (only t) in
+    let e = s .pre in (
+      mergeable (scanned-only t) _ refl (omega (arith, e .forward .starts-long, k .1 .1 .1 .1 .1 .1 .1 .1 .0)) (omega (arith, e .forward .ends-long, k .1 .1 .1 .1 .1 .1 .1 .1 .1 .0)) (e .reverse .starts-long)
+          (e .reverse .ends-long),
+      merged-room (scanned-only t) _ refl (s .args .starts .now) (s .args .ends .now) (e .starts) (e .ends),
     )
 
 same-length : tie.Need-same-length
-same-length c = done c .reverse-strand .kept .1 .1 .1 .1 .1 .0 ∙ forward (done c) .inner-process .kept .1 .1 .1 .1 .0
+same-length c = only (only-end c) .inner-process .kept .1 .1 .1 .1 .0
 
 same-length-2 : tie.Need-same-length-2
-same-length-2 c = done c .reverse-strand .kept .1 .1 .1 .1 .1 .1 .0 ∙ forward (done c) .inner-process .kept .1 .1 .1 .1 .1 .0
+same-length-2 c = only (only-end c) .inner-process .kept .1 .1 .1 .1 .1 .0
 
 same-length-3 : tie.Need-same-length-3
-same-length-3 c = done c .reverse-strand .kept .1 .1 .1 .1 .1 .1 .1 .0 ∙ forward (done c) .inner-process .kept .1 .1 .1 .1 .1 .1 .0
+same-length-3 c = only (only-end c) .inner-process .kept .1 .1 .1 .1 .1 .1 .0
 
 same-length-4 : tie.Need-same-length-4
-same-length-4 c = done c .reverse-strand .kept .1 .1 .1 .1 .1 .1 .1 .1 .0 ∙ forward (done c) .inner-process .kept .1 .1 .1 .1 .1 .1 .1 .0
+same-length-4 c = only (only-end c) .inner-process .kept .1 .1 .1 .1 .1 .1 .1 .0
 
 same-length-5 : tie.Need-same-length-5
-same-length-5 c = done c .reverse-strand .kept .1 .1 .1 .1 .1 .1 .1 .1 .1 .0 ∙ forward (done c) .inner-process .kept .1 .1 .1 .1 .1 .1 .1 .1 .0
+same-length-5 c = only (only-end c) .inner-process .kept .1 .1 .1 .1 .1 .1 .1 .1 .0
 
 same-length-6 : tie.Need-same-length-6
-same-length-6 c = done c .reverse-strand .kept .1 .1 .1 .1 .1 .1 .1 .1 .1 .1 .0
+same-length-6 c = only (only-end c) .inner-process .kept .1 .1 .1 .1 .1 .1 .1 .1 .1 .0
 
 same-length-7 : tie.Need-same-length-7
-same-length-7 c = forward (done c) .inner-process .kept .1 .1 .1 .1 .1 .1 .1 .1 .1 .0
+same-length-7 c = refl
 
 same-length-8 : tie.Need-same-length-8
-same-length-8 c = forward (done c) .inner-process .kept .1 .1 .1 .1 .1 .1 .1 .1 .1 .1 .0
+same-length-8 c = refl
 
 same-length-9 : tie.Need-same-length-9
-same-length-9 c = done c .reverse-strand .kept .1 .1 .1 .1 .1 .1 .1 .1 .1 .1 .1 .0
+same-length-9 c = only-merged c .merge-intervals .kept .1 .1 .1 .1 .1 .1 .1 .0
 
 same-length-10 : tie.Need-same-length-10
-same-length-10 c = done c .reverse-strand .kept .1 .1 .1 .1 .1 .1 .1 .1 .1 .1 .1 .1 .0
-
-same-length-11 : tie.Need-same-length-11
-same-length-11 c = c .before .before .before .before .merge-intervals .kept .1 .1 .1 .1 .1 .1 .1 .0
-
-same-length-12 : tie.Need-same-length-12
-same-length-12 c = c .before .before .before .before .merge-intervals .kept .1 .1 .1 .1 .1 .1 .1 .1 .0
+same-length-10 c = only-merged c .merge-intervals .kept .1 .1 .1 .1 .1 .1 .1 .1 .0
 
 returns : tie.Need-returns
-returns c = merged-rows (scanned (done c)) (c .before .before .before .before .merge-intervals .ensures)
+returns c = merged-rows (scanned-only (only-end c)) (only-merged c .merge-intervals .ensures)
+
+reverse-complement-encoded-sequence-requires : tie.Need-reverse-complement-encoded-sequence-requires
+reverse-complement-encoded-sequence-requires c κs = search needs
+
+inner-process-requires-2 : tie.Need-inner-process-requires-2
+inner-process-requires-2 c κs =
+    let r = c .before .before .before .before .before .before .before .before .before in
+    let e = start (forward r) .pre in
+    let k = forward r .inner-process .kept .1 .1 .1 .1 in
+    lent-as (e .reverse) (r .reverse-complement-encoded-sequence .kept .1 .0 ∙ e .reverse-codes) (k .0) (k .1 .0) (k .1 .1 .0) (k .1 .1 .1 .0)
+
+merge-intervals-requires-2 : tie.Need-merge-intervals-requires-2
+merge-intervals-requires-2 c κs =
+    let t = c .before .before .before .before .before .before .before .before .before .before .before .before .before .before .before .before .before in
+    let k = first t .inner-process .kept in
+    let l = t .inner-process2 .kept in
+    let s = start (first t) in
+    let e = s .pre in (
+      mergeable (scanned t) _ refl (omega (arith, e .forward .starts-long, k .1 .1 .1 .1 .1 .1 .1 .1 .0)) (omega (arith, e .forward .ends-long, k .1 .1 .1 .1 .1 .1 .1 .1 .1 .0))
+          (omega (arith, e .reverse .starts-long, l .1 .1 .1 .1 .1 .1 .1 .1 .0)) (omega (arith, e .reverse .ends-long, l .1 .1 .1 .1 .1 .1 .1 .1 .1 .0)),
+      merged-room (scanned t) _ refl (s .args .starts .now) (s .args .ends .now) (e .starts) (e .ends),
+    )
+
+same-length-11 : tie.Need-same-length-11
+same-length-11 c = done c .inner-process2 .kept .1 .1 .1 .1 .0 ∙ first (done c) .inner-process .kept .1 .1 .1 .1 .0
+
+same-length-12 : tie.Need-same-length-12
+same-length-12 c = done c .inner-process2 .kept .1 .1 .1 .1 .1 .0 ∙ first (done c) .inner-process .kept .1 .1 .1 .1 .1 .0
+
+same-length-13 : tie.Need-same-length-13
+same-length-13 c = done c .inner-process2 .kept .1 .1 .1 .1 .1 .1 .0 ∙ first (done c) .inner-process .kept .1 .1 .1 .1 .1 .1 .0
+
+same-length-14 : tie.Need-same-length-14
+same-length-14 c = done c .inner-process2 .kept .1 .1 .1 .1 .1 .1 .1 .0 ∙ first (done c) .inner-process .kept .1 .1 .1 .1 .1 .1 .1 .0
+
+same-length-15 : tie.Need-same-length-15
+same-length-15 c = written (done c) .reverse-complement-encoded-sequence .kept .1 .0
+
+same-length-16 : tie.Need-same-length-16
+same-length-16 c = first (done c) .inner-process .kept .1 .1 .1 .1 .1 .1 .1 .1 .0
+
+same-length-17 : tie.Need-same-length-17
+same-length-17 c = first (done c) .inner-process .kept .1 .1 .1 .1 .1 .1 .1 .1 .1 .0
+
+same-length-18 : tie.Need-same-length-18
+same-length-18 c = done c .inner-process2 .kept .1 .1 .1 .1 .1 .1 .1 .1 .0
+
+same-length-19 : tie.Need-same-length-19
+same-length-19 c = done c .inner-process2 .kept .1 .1 .1 .1 .1 .1 .1 .1 .1 .0
+
+same-length-20 : tie.Need-same-length-20
+same-length-20 c = merged c .merge-intervals2 .kept .1 .1 .1 .1 .1 .1 .1 .0
+
+same-length-21 : tie.Need-same-length-21
+same-length-21 c = merged c .merge-intervals2 .kept .1 .1 .1 .1 .1 .1 .1 .1 .0
+
+returns-2 : tie.Need-returns-2
+returns-2 c = merged-rows (scanned (done c)) (merged c .merge-intervals2 .ensures)
 
 pub both-strands-spec : {M : Type 1} → statement M
 both-strands-spec =
@@ -97,7 +181,6 @@ both-strands-spec =
     (tie.spec
     cast-n
     inner-process-requires
-    reverse-strand-requires
     merge-intervals-requires
     same-length
     same-length-2
@@ -109,6 +192,19 @@ both-strands-spec =
     same-length-8
     same-length-9
     same-length-10
+    returns
+    reverse-complement-encoded-sequence-requires
+    inner-process-requires-2
+    merge-intervals-requires-2
     same-length-11
     same-length-12
-    returns)
+    same-length-13
+    same-length-14
+    same-length-15
+    same-length-16
+    same-length-17
+    same-length-18
+    same-length-19
+    same-length-20
+    same-length-21
+    returns-2)

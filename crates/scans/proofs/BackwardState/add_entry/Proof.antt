@@ -5,8 +5,6 @@ use Rattle.scans.proofs.Values.{even, adds-ambiguous, adds-plain}
 use borrow.Author.Needs.{needs}
 use Rattle.scans.proofs.BackwardState.add_entry.Statement.{statement}
 use Rattle.scans.proofs.BackwardState.add_entry.Tie as tie
-use Rattle.scans.proofs.BackwardState.add_entry.Reads as reads
-use Rattle.scans.proofs.BackwardState.add_entry.Lts as lts
 
 -- the scan has not counted the window's last place of this k-mer
 scanned : (c : tie.Else1) → getD (c .before .args .scan-counts .now) (c .before .args .entry / 2) 0 < getD (c .before .args .window-counts .now) (c .before .args .entry / 2) 0

@@ -4,9 +4,6 @@ use Rattle.scans.proofs.BackwardScan.{and-nothing}
 use borrow.Author.Needs.{needs}
 use Rattle.scans.proofs.BackwardState.leaves_peak.Statement.{statement}
 use Rattle.scans.proofs.BackwardState.leaves_peak.Tie as tie
-use Rattle.scans.proofs.BackwardState.leaves_peak.Reads as reads
-use Rattle.scans.proofs.BackwardState.leaves_peak.Lts as lts
-use Rattle.floats.proofs.near_zero.Reads as near-zero-reads
 
 -- src/lib.rt:386:12
 near-zero-requires : tie.Need-near-zero-requires

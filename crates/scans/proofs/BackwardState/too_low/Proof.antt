@@ -1,8 +1,6 @@
 use mathlib.Core.Bool.{and-true, and-false}
 use Rattle.scans.proofs.BackwardState.too_low.Statement.{statement}
 use Rattle.scans.proofs.BackwardState.too_low.Tie as tie
-use Rattle.scans.proofs.BackwardState.too_low.Reads as reads
-use Rattle.scans.proofs.BackwardState.too_low.Lts as lts
 
 -- src/lib.rt:410:13
 returns : tie.Need-returns

@@ -1,9 +1,6 @@
 use borrow.Author.Needs.{needs}
 use Rattle.scans.proofs.Carry.ahead.Statement.{statement}
 use Rattle.scans.proofs.Carry.ahead.Tie as tie
-use Rattle.scans.proofs.Carry.ahead.Reads as reads
-use Rattle.scans.proofs.Carry.ahead.Lts as lts
-use Rattle.scans.proofs.window_value.Reads as window-value-reads
 
 window-value-requires : tie.Need-window-value-requires
 window-value-requires c κs = search needs

@@ -5,9 +5,6 @@ use Rattle.scans.proofs.Values.{decode-below}
 use Rattle.scans.proofs.CarriedScan.{carries-on}
 use Rattle.scans.proofs.Carry.next.Statement.{statement}
 use Rattle.scans.proofs.Carry.next.Tie as tie
-use Rattle.scans.proofs.Carry.next.Reads as reads
-use Rattle.scans.proofs.Carry.next.Lts as lts
-use Rattle.scans.proofs.count_entry.Reads as count-entry-reads
 
 abbrev entry : tie.After-struct-known4 → tie.After-count-entry
 entry c = c .before .before .before .before .before .before .before

@@ -2,8 +2,6 @@ use mathlib.Core.Path.{refl}
 use borrow.Author.Needs.{needs}
 use Rattle.scans.proofs.ForwardState.judged.Statement.{statement}
 use Rattle.scans.proofs.ForwardState.judged.Tie as tie
-use Rattle.scans.proofs.ForwardState.judged.Reads as reads
-use Rattle.scans.proofs.ForwardState.judged.Lts as lts
 
 -- src/lib.rt:191:26
 add-self : tie.Need-add-self

@@ -5,8 +5,6 @@ use mir.Facts.{toZ-ofZ, fits-natAbs}
 use Rattle.scans.proofs.BackCheck.{steps-whole, steps-number, steps-some, steps-all}
 use Rattle.scans.proofs.Params.max_steps.Statement.{statement}
 use Rattle.scans.proofs.Params.max_steps.Tie as tie
-use Rattle.scans.proofs.Params.max_steps.Reads as reads
-use Rattle.scans.proofs.Params.max_steps.Lts as lts
 
 -- max_test is a number of 32 bits
 in-range : (c : tie.After-struct-told) → SFits w32 (c .before .before .args .self .test)

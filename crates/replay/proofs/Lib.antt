@@ -1,0 +1,4 @@
+pub mod CallCallKinds
+pub mod CallCallReads
+pub mod CallAnswerKinds
+pub mod CallAnswerReads
