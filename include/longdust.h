@@ -63,8 +63,7 @@
 extern "C" {
 #endif
 
-/* A candidate of a backward scan, a place with its score: 16 bytes, the score at byte 8. The calls keep
- * candidates in one work slice of such records, so that a host lends one buffer and not two. */
+/* A candidate of a backward scan, a place with its score: 16 bytes, the score at byte 8. */
 struct longdust_forward_position {
     uint32_t pos;
     double max_score;

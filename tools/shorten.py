@@ -146,11 +146,3 @@ def shorten(text):
         out[inner:inner] = [indent + z if z else z for z in names.inner]
     head = ["use denote.RattleType as Rows·type", "use mathlib.Core.List.{[], _∷_, _++_}", ""]
     return use + "\n".join(head + names.top + out)
-
-
-if __name__ == "__main__":
-    import sys
-    for path in sys.argv[1:]:
-        text = open(path).read()
-        short = shorten(text)
-        print(path, len(text), len(short))

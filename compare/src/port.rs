@@ -44,7 +44,7 @@ impl<T: Copy + PartialEq> Slice for Lent<T> {
     }
 }
 
-/// A candidate as the C interface has it, its score as bits.
+/// A candidate as the C interface has it (`longdust_forward_position`), its score as bits.
 #[derive(Clone, Copy, PartialEq)]
 #[repr(C)]
 pub struct Candidate {

@@ -130,7 +130,7 @@ fn table(table: &[u64]) -> String {
     runs.iter().fold(runs.len().to_string(), |line, (entry, times)| format!("{line} {times} {}", float(*entry)))
 }
 
-/// The number of the only slice that is shorter than listed, or how many there are if none or all are.
+/// The word `short` of a record: 0, the number of the only slice that is shorter than listed, or 15 if all are.
 fn short(request: &Request) -> usize {
     match request.sizes.iter().position(Option::is_some) {
         None => 0,

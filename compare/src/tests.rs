@@ -213,7 +213,7 @@ fn right(request: &Request, lent: &mut Buffers) -> (i64, u32) {
     let listed = request.listed();
     lent.queue.now[..listed[2]].fill(7);
     lent.scan_counts.now[..listed[4]].fill(7);
-    lent.lists[0].now[..listed[9]].fill(7);
+    lent.lists[0].now[..listed[8]].fill(7);
     for (row, (start, end)) in intervals.iter().enumerate() {
         lent.lists[4].now[row] = *start as u32;
         lent.lists[5].now[row] = *end as u32;

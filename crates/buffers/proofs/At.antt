@@ -1,4 +1,4 @@
--- The entry of a list at an index inside it: it does not depend on the default, and reading backwards takes it from the other end. Assumes nothing.
+-- The entry of a list at an index inside it: it does not depend on the default, and reading backwards takes it from the other end.
 use mathlib.Core.Path.{_≡_, refl, sym, ap, _∙_}
 use mathlib.Core.Logic.{_⊎_, inl, inr}
 use mathlib.Core.List.{List, [], _∷_, _++_, reverse, reverse-cons}

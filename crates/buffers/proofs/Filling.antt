@@ -1,4 +1,4 @@
--- A loop that fills the front of a buffer d with the entries of a list xs, one store a turn: after i turns the buffer is `part xs d i`. Assumes nothing.
+-- A loop that fills the front of a buffer d with the entries of a list xs, one store a turn: after i turns the buffer is `part xs d i`.
 use mathlib.Core.Path.{_≡_, sym, ap, _∙_}
 use mathlib.Core.List.{List, _∷_, _++_, append-nil}
 use Prim.Native.Nat.{ℕ, suc, _+_, _≤_, _<_}

@@ -1,4 +1,4 @@
--- The first m entries of a buffer xs were lent as a part and came back as ys, so that the buffer is now `ys ++ drop m xs`. Assumes nothing.
+-- The first m entries of a buffer xs were lent as a part and came back as ys, so that the buffer is now `ys ++ drop m xs`.
 use mathlib.Core.Path.{_≡_, sym, ap, _∙_}
 use mathlib.Core.List.{List, _++_}
 use Prim.Native.Nat.{ℕ, _≤_}
@@ -19,7 +19,7 @@ module _ {A : Type 0} (m : ℕ) (xs ys : List A) (fits : m ≤ length xs) (long 
         past = ap (λ (k : ℕ). drop k (ys ++ drop m xs)) (sym e) ∙ drop-append-seam ys (drop m xs);
       }
 
-  -- Entries that the part left alone from r on are alone in the whole.
+  -- Entries from r on that the part left as they were are as they were in the whole.
   pub part-kept : (r : ℕ) → r ≤ m → drop r ys ≡ drop r (take m xs) → drop r (ys ++ drop m xs) ≡ drop r xs
   part-kept r h e =
       let l = as-long in

@@ -1,4 +1,4 @@
--- `tabulate f n`: its length, its entries, and a loop that fills the front of a buffer with it. Assumes nothing.
+-- `tabulate f n`: its length, its entries, and a loop that fills the front of a buffer with it.
 use mathlib.Core.Path.{_≡_, refl, sym, ap, _∙_}
 use mathlib.Core.List.{List}
 use Prim.Native.Nat.{ℕ, zero, suc, _+_, _≤_, _<_}

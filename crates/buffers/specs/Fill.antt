@@ -1,4 +1,4 @@
--- What a lent buffer holds after its front was filled.
+-- Terms of contracts: what a lent buffer holds after its front was filled.
 use Prim.Native.Nat.{ℕ, zero, suc}
 use mathlib.Core.List.{List, [], _∷_, _++_}
 use lib.ListN.{length, drop}

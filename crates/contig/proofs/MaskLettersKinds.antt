@@ -1,4 +1,4 @@
--- Made by tools/lift from the prover's `Kinds` of `mask_letters` over a slice of `[u64; 2]`; not to be edited. Assumes nothing.
+-- Made by tools/lift from the prover's `Kinds` of `mask_letters` over a slice of `[u64; 2]`; not to be edited.
 use Rattle.contig.proofs.Outcome
 use Rattle.contig.proofs.Outcome.Laws
 use borrow.Fn.Kinds

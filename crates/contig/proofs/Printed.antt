@@ -1,4 +1,4 @@
--- What is printed in each case of a run, and that it fits a text of 49,167 bytes: 4,096 lines of 12 bytes and the count's line of 15. Assumes nothing.
+-- What is printed in each case of a run, and that it fits a text of 49,167 bytes: 4,096 lines of 12 bytes and the count's line of 15.
 use Prim.Native.Nat.{ℕ, zero, suc, _≤_, _<_}
 use mathlib.Core.Path.{_≡_, refl, sym, ap, subst, _∙_}
 use mathlib.Core.Logic.{⊎-elim}
@@ -18,14 +18,14 @@ use Rattle.report.specs.Written.{Fits}
 use Rattle.report.proofs.Decimal.{length-decimal}
 use Rattle.report.proofs.Lines.{length-report}
 use Rattle.contig.specs.declared.Outcome.{Outcome}
-use Rattle.contig.specs.Run.{refusalOf, maskOf, unless, Ran}
+use Rattle.contig.specs.Run.{contigRefusal, contigMask, unless, Ran}
 use Rattle.contig.specs.Printed.{answered, printed}
 
 pub too-many : (s : List ℕ) → 32768 < length s → sizeLine ≡ printed s
 unfolding printed
 too-many s h = rw (lt-ltb 32768 (length s) h)
 
-few : (s : List ℕ) → length s ≤ 32768 → answered (refusalOf s) (maskOf s) ≡ printed s
+few : (s : List ℕ) → length s ≤ 32768 → answered (contigRefusal s) (contigMask s) ≡ printed s
 unfolding printed
 few s h = rw (le-ltb 32768 (length s) h)
 
@@ -34,16 +34,16 @@ refusal-fits n d h l = record { room = simp length-append (omega (arith, length-
 
 module _ {s starts ends starts′ ends′ : List ℕ} {r : Outcome} (few-letters : length s ≤ 32768) (run : Ran s starts ends starts′ ends′ r) where
   pub refused : 0 < r .refusal → refusalLine (r .refusal) ≡ printed s
-  refused h = go (refusalOf s) (run .number) ∙ few s few-letters
+  refused h = go (contigRefusal s) (run .number) ∙ few s few-letters
     where
-      go : (n : ℕ) → r .refusal ≡ n → refusalLine (r .refusal) ≡ answered n (maskOf s)
+      go : (n : ℕ) → r .refusal ≡ n → refusalLine (r .refusal) ≡ answered n (contigMask s)
       go zero e = absurd (omega arith)
       go (suc n) e = ap refusalLine e
 
   pub accepted : r .refusal ≡ 0 → report (rows (r .count) starts′ ends′) ≡ printed s
-  accepted h = ap report (run .list .list-is) ∙ go (refusalOf s) (sym (run .number) ∙ h) ∙ few s few-letters
+  accepted h = ap report (run .list .list-is) ∙ go (contigRefusal s) (sym (run .number) ∙ h) ∙ few s few-letters
     where
-      go : (n : ℕ) → n ≡ 0 → report (unless n (maskOf s)) ≡ answered n (maskOf s)
+      go : (n : ℕ) → n ≡ 0 → report (unless n (contigMask s)) ≡ answered n (contigMask s)
       go zero e = refl
       go (suc n) e = absurd (omega arith)
 

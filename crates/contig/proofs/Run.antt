@@ -1,4 +1,4 @@
--- What the filling call's contract says of the program's run: the default options, new buffers of exactly the paper's sizes. Assumes nothing.
+-- What the filling call's contract says of the program's run: the default options, and buffers of exactly the paper's sizes.
 use Prim.Native.Nat.{ℕ, zero, suc, _<_}
 use mathlib.Core.Path.{_≡_, ap, ap₂, subst, _∙_}
 use mathlib.Core.List.{List}
@@ -24,7 +24,7 @@ use Rattle.longdust.specs.Options.{defaults}
 use Rattle.longdust.specs.Checks.{refusal}
 use Rattle.longdust.specs.Mask.{mask}
 use Rattle.longdust.specs.Call.{Buffers, buffers, lengths, lnRead, fRead, Filled, Answered}
-use Rattle.contig.specs.Run.{lent, refusalOf, maskOf, unless, Ran}
+use Rattle.contig.specs.Run.{lent, contigRefusal, contigMask, unless, Ran}
 
 -- The buffers before the run, whatever the candidates are.
 abbrev pub fresh : List ForwardPosition → List ℕ → List ℕ → Buffers
@@ -50,12 +50,12 @@ module _ (candidates : List ForwardPosition) (starts ends : List ℕ) (lc : leng
   fresh-lent = simp (length-replicate, lc, ls, le)
 
   module _ (s : List ℕ) (b′ : Buffers) (a : Answer) (r : Answered Filled defaults s (fresh candidates starts ends) b′ a) where
-    number-is : a .refusal ≡ refusalOf s
-    unfolding refusalOf
+    number-is : a .refusal ≡ contigRefusal s
+    unfolding contigRefusal
     number-is = r .number ∙ ap (λ (l : Lent). refusal defaults s l) fresh-lent
 
-    tables-are : a .refusal ≡ 0 → mask defaults s (lnRead defaults b′) (fRead defaults b′) ≡ maskOf s
-    unfolding maskOf defaults
+    tables-are : a .refusal ≡ 0 → mask defaults s (lnRead defaults b′) (fRead defaults b′) ≡ contigMask s
+    unfolding contigMask defaults
     tables-are h =
         let D : Density = density 7 Uniform (codes s) in
         ap₂
@@ -63,7 +63,7 @@ module _ (candidates : List ForwardPosition) (starts ends : List ℕ) (lc : leng
         (ap (λ (l : List Float). take 5001 l) (r .tables h .ln) ∙ take-at (lnTable 5000) _ 5001 (lnTable-length 5000))
         (ap (λ (l : List Float). take 5002 l) (r .tables h .f) ∙ take-at (fTable 7 5000 D) _ 5002 (fTable-length 7 5000 D))
 
-    list-is : (n : ℕ) → a .refusal ≡ n → Rows (unless n (maskOf s)) starts ends (b′ .starts) (b′ .ends) (a .count)
+    list-is : (n : ℕ) → a .refusal ≡ n → Rows (unless n (contigMask s)) starts ends (b′ .starts) (b′ .ends) (a .count)
     unfolding rows
     list-is zero h = rows-as (tables-are h) (r .accepted h .buffers .list)
     list-is (suc n) h =
@@ -74,13 +74,13 @@ module _ (candidates : List ForwardPosition) (starts ends : List ℕ) (lc : leng
           ends-kept = ap (λ (b : Buffers). drop (a .count) (b .ends)) (q .same);
         }
 
-    shape-is : (n : ℕ) → a .refusal ≡ n → Canonical (length s) 7 (unless n (maskOf s))
+    shape-is : (n : ℕ) → a .refusal ≡ n → Canonical (length s) 7 (unless n (contigMask s))
     unfolding defaults
     shape-is zero h = subst (λ (is : List Interval). Canonical (length s) 7 is) (list-is zero h .list-is) (r .accepted h .shape)
     shape-is (suc n) h = tt
 
     ran-defaults : Ran s starts ends (b′ .starts) (b′ .ends) (record { refusal = a .refusal; count = a .count })
-    ran-defaults = record { number = number-is; list = list-is (refusalOf s) number-is; shape = shape-is (refusalOf s) number-is }
+    ran-defaults = record { number = number-is; list = list-is (contigRefusal s) number-is; shape = shape-is (contigRefusal s) number-is }
 
   pub ran : {o : LongdustOptions} {s : List ℕ} {b′ : Buffers} {a : Answer} → o ≡ defaults → Answered Filled o s (fresh candidates starts ends) b′ a
       → Ran s starts ends (b′ .starts) (b′ .ends) (record { refusal = a .refusal; count = a .count })

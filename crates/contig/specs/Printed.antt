@@ -6,7 +6,7 @@ use lib.Dec.{ltb}
 use lib.ListN.{length}
 use Rattle.intervals.specs.Interval.{Interval}
 use Rattle.report.specs.Text.{report, refusalLine, sizeLine}
-use Rattle.contig.specs.Run.{refusalOf, maskOf}
+use Rattle.contig.specs.Run.{contigRefusal, contigMask}
 
 -- The refusal of a number above 0, else the report of the mask.
 abbrev pub answered : ℕ → List Interval → List ℕ
@@ -14,4 +14,4 @@ answered zero mask = report mask
 answered (suc number) mask = refusalLine (suc number)
 
 unfoldable pub printed : List ℕ → List ℕ
-printed letters = cond (ltb 32768 (length letters)) sizeLine (answered (refusalOf letters) (maskOf letters))
+printed letters = cond (ltb 32768 (length letters)) sizeLine (answered (contigRefusal letters) (contigMask letters))

@@ -36,12 +36,12 @@ lent =
     }
 
 -- The refusal number of the letters s, 0 if they are accepted.
-unfoldable pub refusalOf : List ℕ → ℕ
-refusalOf s = refusal defaults s lent
+unfoldable pub contigRefusal : List ℕ → ℕ
+contigRefusal s = refusal defaults s lent
 
 -- The mask of the letters s, by the tables that the formulas give for k = 7 and w = 5,000.
-unfoldable pub maskOf : List ℕ → List Interval
-maskOf s = mask defaults s (lnTable 5000) (fTable 7 5000 (density 7 Uniform (codes s)))
+unfoldable pub contigMask : List ℕ → List Interval
+contigMask s = mask defaults s (lnTable 5000) (fTable 7 5000 (density 7 Uniform (codes s)))
 
 -- No interval for a refused request.
 abbrev pub unless : ℕ → List Interval → List Interval
@@ -50,6 +50,6 @@ unless (suc number) is = []
 
 -- The run on the letters s left its list in starts and ends.
 pub record Ran (s starts ends starts′ ends′ : List ℕ) (r : Outcome) : Type 0 where
-  pub number : r .refusal ≡ refusalOf s
-  pub list : Rows (unless (refusalOf s) (maskOf s)) starts ends starts′ ends′ (r .count)
-  pub shape : Canonical (length s) 7 (unless (refusalOf s) (maskOf s))
+  pub number : r .refusal ≡ contigRefusal s
+  pub list : Rows (unless (contigRefusal s) (contigMask s)) starts ends starts′ ends′ (r .count)
+  pub shape : Canonical (length s) 7 (unless (contigRefusal s) (contigMask s))

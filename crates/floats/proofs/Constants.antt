@@ -1,19 +1,31 @@
--- The floats that specs/Binary64.antt gives by their bits are the numbers that they are named after.
+-- The floats that specs/Binary64.antt gives by their bits are the numbers that it says they are.
 use mathlib.Core.Path.{_≡_, refl}
 use mathlib.Core.Bool.{false}
 use Prim.Native.Nat.{_^_}
 use lib.Ieee.{binary64, ofBits, ofInt, round}
-use Rattle.floats.specs.Binary64.{number, zero64, tiny, slack, sixteen, twoTo20}
+use Rattle.floats.specs.Binary64.{number, zero64, half64, one64, two64, tiny, slack, sixteen, twoTo20}
 
 pub zero64-is : zero64 ≡ number 0
 unfolding ofBits ofInt
 zero64-is = refl
 
-pub tiny-is : tiny ≡ round binary64 false 1 (10 ^ 9)
+half64-is : half64 ≡ round binary64 false 1 2
+unfolding ofBits round
+half64-is = refl
+
+one64-is : one64 ≡ number 1
+unfolding ofBits ofInt
+one64-is = refl
+
+two64-is : two64 ≡ number 2
+unfolding ofBits ofInt
+two64-is = refl
+
+tiny-is : tiny ≡ round binary64 false 1 (10 ^ 9)
 unfolding ofBits round
 tiny-is = refl
 
-pub slack-is : slack ≡ round binary64 false 1 (10 ^ 6)
+slack-is : slack ≡ round binary64 false 1 (10 ^ 6)
 unfolding ofBits round
 slack-is = refl
 

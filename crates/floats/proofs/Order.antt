@@ -80,7 +80,7 @@ le-left (inf true) y h = tt
 le-left (inf false) y h = tt
 le-left (fin s m e) y h = fin-self s m e
 
-lt-le : (x y : Float) → T (lt x y) → T (le x y)
+pub lt-le : (x y : Float) → T (lt x y) → T (le x y)
 unfolding le
 lt-le x y = go (lt x y) (eq x y)
   where
@@ -162,7 +162,7 @@ unfolding neg odd
 neg-odd d s zero k l = refl
 neg-odd d s (suc q) k l = refl
 
-neg-units : (f : Format) (s : Bool) (q k : ℕ) → neg (units f s q k) ≡ units f (not s) q k
+pub neg-units : (f : Format) (s : Bool) (q k : ℕ) → neg (units f s q k) ≡ units f (not s) q k
 unfolding neg units
 neg-units f s q k = go (ltb (q * 2 ^ k) (2 ^ (low f + suc (emax f))))
   where

@@ -1,4 +1,4 @@
--- The operations on 64-bit floats, every one rounded once.
+-- The paper, 'Tables and the program': the operations on 64-bit floats, 'every operation rounded once'.
 use lib.Ieee.{Float, binary64, add, sub, mul, div}
 
 infixl 65 _⊕_ _⊖_

@@ -1,4 +1,4 @@
--- The paper's 64-bit floats: their values in units of 2^-1074, its numbers 0, 1e-9, 1e-6, 16 and 1,048,576 as floats, its ranges, and the scans' test 'within 1e-9'.
+-- The paper, 'Records', 'Letters and places' and 'Step and scans': 64-bit floats in units of 2^-1074, the ranges of demand 3, the paper's numbers as floats, and the test 'within 1e-9'.
 use mathlib.Core.Path.{_≡_}
 use mathlib.Core.Bool.{Bool, _&&_}
 use Prim.Native.Nat.{ℕ, _*_, _^_, _≤_}
@@ -37,15 +37,23 @@ number n = ofInt binary64 (pos n)
 abbrev pub zero64 : Float
 zero64 = ofBits binary64 0
 
+-- 0.5
+abbrev pub half64 : Float
+half64 = ofBits binary64 0x3fe0_0000_0000_0000
+
 -- 1.0
 abbrev pub one64 : Float
 one64 = ofBits binary64 0x3ff0_0000_0000_0000
 
--- 1e-9
+-- 2.0
+abbrev pub two64 : Float
+two64 = ofBits binary64 0x4000_0000_0000_0000
+
+-- 1e-9, within which of the best a peak is noted
 abbrev pub tiny : Float
 tiny = ofBits binary64 0x3e11_2e0b_e826_d695
 
--- 1e-6
+-- 1e-6, the most by which a forward scan passes its candidate's score and goes on
 abbrev pub slack : Float
 slack = ofBits binary64 0x3eb0_c6f7_a0b5_ed8d
 

@@ -1,4 +1,4 @@
--- The paper's 'each float stands for its whole multiple of 2^-1074': what a finite float is worth, in units of its format's smallest positive value.
+-- The paper, 'Letters and places', 'each float stands for its whole multiple of 2^-1074': what a finite float is worth, in units of its format's smallest positive value.
 -- `posPart` and `negPart` say the same as two naturals of which one is 0, so that a fact on values is a linear fact on naturals. A NaN and an infinity are worth 0.
 use mathlib.Core.Bool.{Bool, false, cond}
 use Prim.Native.Nat.{ℕ, _+_, _*_, _/_, _^_, _≤_}

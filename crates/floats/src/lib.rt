@@ -1,4 +1,4 @@
-// Two operations on floats that the scans and the back check are written with.
+// Two operations on floats: the backward scan's test 'within 1e-9', and max_test's cast to 32 bits.
 
 ghost use mathlib.Core.Path.{_≡_};
 ghost use lib.Ieee.{toSigned};

@@ -1,4 +1,4 @@
--- The letters that a merge covers are those of either list.
+-- The letters that a merge covers are those of either list. `first-apart` is the step of such laws over a list: what holds of its tail holds with the first interval before it.
 use Prim.Native.Nat.{ℕ, max}
 use mathlib.Core.List.{List, [], _∷_, _++_}
 use mathlib.Core.Logic.{_⊎_, inl, inr, ⊎-elim, _↔_}
@@ -9,29 +9,25 @@ use Rattle.intervals.proofs.Order.{lt-or-le}
 use Rattle.intervals.proofs.Joining.{insert-here, insert-later, nonempty-some, nonempty-none, join-touch, join-gap}
 use Rattle.intervals.proofs.Shape.{Rising, rising-lower, both-rising}
 
+pub first-apart : {A B C D : Type 0} → B ↔ (C ⊎ D) → (A ⊎ B) ↔ ((A ⊎ C) ⊎ D)
+first-apart e = (
+  (λ h. ⊎-elim (λ c. inl (inl c)) (λ c. ⊎-elim (λ d. inl (inr d)) (λ d. inr d) (e .0 c)) h),
+  (λ h. ⊎-elim (λ c. ⊎-elim (λ d. inl d) (λ d. inr (e .1 (inl d))) c) (λ c. inr (e .1 (inr c))) h),
+)
+
 module _ (x : ℕ) where
   pub append-covers : (is js : List Interval) → Covers (is ++ js) x ↔ (Covers is x ⊎ Covers js x)
   append-covers [] js = ((λ h. inr h), (λ h. ⊎-elim (λ c. absurd c) (λ c. c) h))
-  append-covers (i ∷ is) js =
-      let ih = append-covers is js in (
-        (λ h. ⊎-elim (λ c. inl (inl c)) (λ c. ⊎-elim (λ d. inl (inr d)) (λ d. inr d) (ih .0 c)) h),
-        (λ h. ⊎-elim (λ c. ⊎-elim (λ d. inl d) (λ d. inr (ih .1 (inl d))) c) (λ c. inr (ih .1 (inr c))) h),
-      )
+  append-covers (i ∷ is) js = first-apart (append-covers is js)
 
   insert-covers : (i : Interval) (others : List Interval → List Interval) (is : List Interval)
       → ((js : List Interval) → Covers (others js) x ↔ (Covers is x ⊎ Covers js x))
       → (js : List Interval) → Covers (insert i others js) x ↔ (Covers (i ∷ is) x ⊎ Covers js x)
   unfolding insert
-  insert-covers i others is hf [] = (
-    (λ h. ⊎-elim (λ c. inl (inl c)) (λ c. ⊎-elim (λ d. inl (inr d)) (λ d. inr d) (hf [] .0 c)) h),
-    (λ h. ⊎-elim (λ c. ⊎-elim (λ d. inl d) (λ d. inr (hf [] .1 (inl d))) c) (λ c. absurd c) h),
-  )
+  insert-covers i others is hf [] = first-apart (hf [])
   insert-covers i others is hf (j ∷ js) =
       ⊎-elim
-      (λ lt. rw (insert-here i others j js lt) (
-        (λ h. ⊎-elim (λ c. inl (inl c)) (λ c. ⊎-elim (λ d. inl (inr d)) (λ d. inr d) (hf (j ∷ js) .0 c)) h),
-        (λ h. ⊎-elim (λ c. ⊎-elim (λ d. inl d) (λ d. inr (hf (j ∷ js) .1 (inl d))) c) (λ c. inr (hf (j ∷ js) .1 (inr c))) h),
-      ))
+      (λ lt. rw (insert-here i others j js lt) (first-apart (hf (j ∷ js))))
       (λ ge. rw (insert-later i others j js ge)
       (let ih = insert-covers i others is hf js in (
         (λ h. ⊎-elim (λ c. inr (inl c)) (λ c. ⊎-elim (λ d. inl d) (λ d. inr (inr d)) (ih .0 c)) h),

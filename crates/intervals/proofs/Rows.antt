@@ -6,8 +6,7 @@ use mathlib.Core.Logic.{⊎-elim}
 use native.Mathlib.Omega.{arith}
 use native.Mathlib.Numerals.{add-one}
 use lib.ListN.{length, take, drop, getD, set, length-append, List·getD-append, drop-of-length-le}
-use lib.Seq.{take-append-le, take-all, drop-cons, drop-drop, drop-set-lt}
-use lib.Seq.{getD-at, getD-set-same, getD-set-other}
+use lib.Seq.{take-append-le, take-all, drop-cons, drop-drop, drop-set-lt, getD-at, getD-set-same, getD-set-other}
 use Rattle.buffers.proofs.Lent.{as-long, part-kept}
 use Rattle.intervals.specs.Interval.{Interval, interval, Inside}
 use Rattle.intervals.specs.Rows.{row, rows, Room, Rows}

@@ -9,6 +9,7 @@ use borrow.Author.Tests.{le-leb, lt-leb}
 use Rattle.intervals.specs.Interval.{Interval, interval, Holds, Covers, Ascending, Canonical, EndsBelow}
 use Rattle.intervals.specs.Save.{kept, save}
 use Rattle.intervals.proofs.Order.{lt-or-le}
+use Rattle.intervals.proofs.Covered.{first-apart}
 
 kept-none : (ends : List ℕ) (s m : ℕ) → ((i : ℕ) → i < m → s ≤ getD ends i 0) → kept ends s m ≡ 0
 unfolding kept
@@ -70,11 +71,7 @@ save-ascending-covers n k lo s e [] x a b =
     ((λ h. ⊎-elim (λ c. inr c) (λ c. absurd c) h), (λ h. ⊎-elim (λ c. absurd c) (λ c. inl c) h))
 save-ascending-covers n k lo s e (i ∷ is) x a b =
     ⊎-elim
-    (λ gt. rw (save-past n k lo s e i is a gt)
-    (let ih = save-ascending-covers n k (i .end + 1) s e is x (a .3) (b .1) in (
-      (λ h. ⊎-elim (λ c. inl (inl c)) (λ c. ⊎-elim (λ d. inl (inr d)) (λ d. inr d) (ih .0 c)) h),
-      (λ h. ⊎-elim (λ c. ⊎-elim (λ d. inl d) (λ d. inr (ih .1 (inl d))) c) (λ c. inr (ih .1 (inr c))) h),
-    )))
+    (λ gt. rw (save-past n k lo s e i is a gt) (first-apart (save-ascending-covers n k (i .end + 1) s e is x (a .3) (b .1))))
     (λ le. rw (save-touch n k lo s e i is a le) (
       (λ h. ⊎-elim
           (λ c. ⊎-elim (λ lt. inl (inl (omega arith))) (λ ge. inr (omega arith)) (lt-or-le x s))

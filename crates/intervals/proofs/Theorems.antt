@@ -1,14 +1,14 @@
 -- Canonical lists are told by the letters they cover; what follows for merges and for reading backwards.
 use Prim.Native.Nat.{ℕ, _+_, _-_, _<_}
-use mathlib.Core.Path.{_≡_, refl, ap₂}
-use mathlib.Core.List.{List, [], _∷_}
+use mathlib.Core.Path.{_≡_}
+use mathlib.Core.List.{List, []}
 use mathlib.Core.Logic.{inl, inr, ⊎-elim, _↔_}
 use native.Mathlib.Omega.{arith}
-use Rattle.intervals.specs.Interval.{Interval, interval, Covers, Canonical, Inside}
-use Rattle.intervals.specs.Merge.{merge, flip, backwards}
+use Rattle.intervals.specs.Interval.{Interval, Covers, Canonical}
+use Rattle.intervals.specs.Merge.{merge, backwards}
 use Rattle.intervals.proofs.Shape.{covers-below, merge-canonical}
 use Rattle.intervals.proofs.Covered.{merge-covers}
-use Rattle.intervals.proofs.Backward.{backwards-snoc, backwards-covers, backwards-canonical}
+use Rattle.intervals.proofs.Backward.{backwards-covers, backwards-canonical}
 use Rattle.intervals.proofs.Unique.{unique}
 
 -- Two canonical lists that cover the same letters are equal.
@@ -16,14 +16,6 @@ pub canonical-unique : (n k : ℕ) (is js : List Interval) → 0 < k → Canonic
     → ((x : ℕ) → x < n → Covers is x ↔ Covers js x) → is ≡ js
 canonical-unique n k is js p a b w =
     unique n k 0 0 is js p a b (λ x c. w x (covers-below n k x 0 is a c) .0 c) (λ x c. w x (covers-below n k x 0 js b c) .1 c)
-
--- Reading backwards twice is the identity.
-pub backwards-twice : (n : ℕ) (is : List Interval) → Inside n is → backwards n (backwards n is) ≡ is
-unfolding backwards
-backwards-twice n [] h = refl
-backwards-twice n (i ∷ is) h =
-    let q : flip n (flip n i) ≡ i = ap₂ interval (omega arith) (omega arith) in
-    rw (backwards-snoc n (backwards n is) (flip n i), q, backwards-twice n is (h .2))
 
 -- Mirror: b merged with a read backwards is a merged with b read backwards, read backwards.
 pub merge-mirror : (n k : ℕ) (a b : List Interval) → 0 < k → Canonical n k a → Canonical n k b

@@ -1,4 +1,4 @@
--- Intervals of letters, the letters that a list of them covers, and the shape of a mask (the paper, "Records").
+-- The paper, 'Records' and 'Both strands': intervals of letters, the letters that a list of them covers, and the shape of a mask.
 use Prim.Native.Nat.{ℕ, _+_, _≤_, _<_}
 use mathlib.Core.List.{List, [], _∷_}
 use mathlib.Core.Logic.{_⊎_}

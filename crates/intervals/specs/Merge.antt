@@ -1,4 +1,4 @@
--- Two lists joined, as `merge_intervals` does, and a list read backwards (the paper, "Both strands").
+-- The paper, 'Both strands': two lists joined, as `merge_intervals` does, and a list read backwards.
 use Prim.Native.Nat.{ℕ, _-_, max}
 use mathlib.Core.Bool.{cond}
 use mathlib.Core.List.{List, [], _∷_, _++_}

@@ -1,4 +1,4 @@
--- What `merge_intervals` asks of its two lists, and what it has still to join when it stands within them.
+-- Terms of contracts: what `merge_intervals` asks of its two lists, and what it has still to join when it stands within them.
 use Prim.Native.Nat.{ℕ, _+_, _-_, _≤_}
 use mathlib.Core.Path.{_≡_}
 use mathlib.Core.List.{List, _∷_}

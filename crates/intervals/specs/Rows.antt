@@ -1,4 +1,4 @@
--- A list of intervals in two lent slices, one of starts and one of ends.
+-- Terms of contracts: a list of intervals in two lent slices, one of starts and one of ends.
 use Prim.Native.Nat.{ℕ, zero, suc, _≤_}
 use mathlib.Core.Path.{_≡_}
 use mathlib.Core.List.{List, [], _∷_, _++_}

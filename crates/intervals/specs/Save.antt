@@ -1,4 +1,4 @@
--- Saving an interval to a list, as `save_interval` does to any list (the paper, "Step and scans").
+-- The paper, 'Step and scans': saving an interval to a list, as `save_interval` does to any list.
 use Prim.Native.Nat.{ℕ, zero, suc, min, max}
 use mathlib.Core.Bool.{cond}
 use mathlib.Core.List.{List, [], _∷_, _++_, map}
@@ -6,7 +6,7 @@ use lib.Dec.{leb}
 use lib.ListN.{length, take, drop, getD}
 use Rattle.intervals.specs.Interval.{Interval, interval}
 
--- How many of the first m intervals stay: from the last one on, each whose end is s or more goes.
+-- How many of the first m intervals stay: from the last one back they go, up to the first whose end is below s.
 unfoldable pub kept : List ℕ → ℕ → ℕ → ℕ
 kept ends s zero = zero
 kept ends s (suc m) = cond (leb s (getD ends m 0)) (kept ends s m) (suc m)

@@ -1,4 +1,4 @@
--- Codes and reverse complements: lengths and entries, and that the reverse complement's reverse complement is the sequence. Assumes nothing.
+-- Codes and reverse complements: lengths and entries, and that the reverse complement's reverse complement is the sequence.
 use mathlib.Core.Path.{_≡_, refl, ap, ap₂, _∙_}
 use mathlib.Core.Bool.{Bool, true, false, cond}
 use mathlib.Core.List.{List, [], _∷_, map, reverse, reverseAux, reverse-reverse}

@@ -1,9 +1,9 @@
--- Queue entries read as places, one and a list of them. Assumes nothing.
+-- Queue entries read as places, one and a list of them.
 use mathlib.Core.Path.{_≡_, refl}
 use mathlib.Core.List.{List, [], _∷_}
 use Prim.Native.Nat.{ℕ, zero, suc, _/_, _%_, _<_}
 use native.Mathlib.Omega.{arith}
-use lib.ListN.{length, getD, drop, length-map}
+use lib.ListN.{length, getD, length-map}
 use borrow.Author.Tests.{eq-eqb, ne-eqb}
 use Rattle.letters.specs.Place.{ambiguous, plain}
 use Rattle.letters.specs.Entry.{decode, decoded}
@@ -25,9 +25,3 @@ unfolding decoded
 decoded-at [] i l = absurd (let b : ⊥ = omega arith in b)
 decoded-at (e ∷ q) zero l = refl
 decoded-at (e ∷ q) (suc i) l = decoded-at q i (omega arith)
-
-pub decoded-drop : (j : ℕ) (q : List ℕ) → drop j (decoded q) ≡ decoded (drop j q)
-unfolding decoded
-decoded-drop zero q = refl
-decoded-drop (suc j) [] = refl
-decoded-drop (suc j) (e ∷ q) = decoded-drop j q

@@ -1,4 +1,4 @@
--- GC content: a loop that counts letters, and that the reverse complement has the sequence's GC content. Assumes nothing.
+-- GC content: a loop that counts letters, and that the reverse complement has the sequence's GC content.
 use mathlib.Core.Path.{_≡_, refl, sym, ap, ap₂, _∙_}
 use mathlib.Core.Bool.{Bool, true, false, cond, _||_}
 use mathlib.Core.List.{List, [], _∷_, _++_, map, reverse, reverse-cons}

@@ -1,4 +1,4 @@
--- The places of a strand: their number, the list taken apart at one of them, and that every k-mer lies below 4 ^ k. Assumes nothing.
+-- The places of a strand: their number, the list taken apart at one of them, and that every k-mer lies below 4 ^ k.
 use mathlib.Core.Path.{_≡_, refl, ap, ap₂, _∙_}
 use mathlib.Core.Bool.{Bool, true, false, cond}
 use mathlib.Core.List.{List, _∷_}

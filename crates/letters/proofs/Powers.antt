@@ -1,4 +1,4 @@
--- Powers of four, the numbers of k-mers: their size and remainders by them. Assumes nothing.
+-- Powers of four, the numbers of k-mers: their size and remainders by them.
 use mathlib.Core.Path.{_≡_, refl, sym, ap, _∙_}
 use Prim.Native.Nat.{ℕ, zero, suc, _+_, _-_, _*_, _^_, _/_, _%_, _≤_, _<_}
 use native.Mathlib.Nat.{mod-lt, mod-eq-of-lt, mod-mod-of-dvd, mul-add-mod-self-left, div-add-mod', pow-suc, dvd-mul-right, mul-comm, mul-assoc, pow-le-pow-right}

@@ -1,4 +1,4 @@
--- The rolling k-mer against the places: what the state after m letters holds, and that its queue entry decodes to the place. Assumes nothing.
+-- The rolling k-mer against the places: what the state after m letters holds, and that its queue entry decodes to the place.
 use mathlib.Core.Path.{_≡_, refl, sym, ap, subst, _∙_}
 use mathlib.Core.Bool.{Bool, true, false, cond, _&&_}
 use mathlib.Core.List.{List}

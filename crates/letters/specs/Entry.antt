@@ -1,4 +1,4 @@
--- A place as a number of 32 bits in the queue: the k-mer shifted left by one, and the ambiguity bit lowest.
+-- The paper, 'Which form to use where', 'queue entries shift once more for the ambiguity bit': a place as a number of 32 bits in the queue, the ambiguity bit lowest.
 use Prim.Native.Nat.{ℕ, _/_, _%_}
 use mathlib.Core.Bool.{cond}
 use mathlib.Core.List.{List, map}

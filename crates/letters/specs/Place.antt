@@ -33,7 +33,7 @@ placesFrom k s p (suc m) = placeAt k s p ∷ placesFrom k s (suc p) m
 unfoldable pub places : ℕ → List ℕ → List Place
 places k s = placesFrom k s 0 (length s)
 
--- The k-mer of a plain place lies below m.
+-- A term of laws: the k-mer of a plain place lies below m.
 abbrev pub BelowAt : ℕ → Place → Type 0
 BelowAt m ambiguous = Unit {0}
 BelowAt m (plain x) = x < m

@@ -1,4 +1,4 @@
--- The paper, 'Letters and places', as the code rolls it on: the state after the first m letters, and its queue entry.
+-- Terms of contracts: the k-mer of the paper, 'Letters and places', rolled on letter by letter: the state after the first m letters, and its queue entry, which decodes to the newest place.
 use Prim.Native.Nat.{ℕ, zero, suc, _+_, _*_, _^_, _%_}
 use mathlib.Core.Bool.{cond}
 use mathlib.Core.List.{List}

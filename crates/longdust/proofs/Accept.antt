@@ -1,12 +1,13 @@
 -- The checks read one by one, and what a request has that no check refuses.
 use mathlib.Core.Path.{_≡_, refl}
-use mathlib.Core.Bool.{Bool, true, false, _||_}
+use mathlib.Core.Bool.{Bool, true, false}
 use mathlib.Core.List.{List, [], _∷_}
 use Prim.Native.Nat.{ℕ, _+_, _^_, _/_, _≤_, _<_}
 use native.Mathlib.Omega.{arith}
 use lib.Dec.{ltb}
 use lib.ListN.{length, drop}
 use borrow.Author.Tests.{ltb-false}
+use Rattle.scans.proofs.Test.{neither}
 use Rattle.longdust.specs.declared.LongdustOptions.{LongdustOptions}
 use Rattle.longdust.specs.declared.Lent.{Lent}
 use Rattle.longdust.specs.Checks.{Check, check, checks, first, refusal, kmerOutside, anyHigh, thresholdBad, gcBad, xdropBad, tooShort}
@@ -21,10 +22,6 @@ stop i b cs e = rw e
 passes : (i : ℕ) (b : Bool) (cs : List Check) → 0 < i → first (check i b ∷ cs) ≡ 0 → (b ≡ false) × (first cs ≡ 0)
 passes i true cs h e = absurd (let z : ⊥ = omega arith in z)
 passes i false cs h e = (refl, e)
-
-neither : (a b : Bool) → (a || b) ≡ false → (a ≡ false) × (b ≡ false)
-neither true b e = (e, absurd (let z : _≡_ {A = ℕ} 0 1 = cc in let y : ⊥ = omega arith in y))
-neither false b e = (refl, e)
 
 pub kmer-inside : (k : ℕ) → kmerOutside k ≡ false → (1 ≤ k) × (k ≤ 12)
 unfolding kmerOutside

@@ -14,8 +14,7 @@ use Rattle.intervals.specs.Rows.{rows, Rows}
 use Rattle.intervals.proofs.Rows.{part-rows, rows-count, rows-as}
 use Rattle.scans.specs.declared.Params.{Params}
 use Rattle.scans.specs.Setup.{Setup, setupOf}
-use Rattle.strand.specs.Range as ranges
-use Rattle.strand.specs.Range.{inRange}
+use Rattle.strand.specs.Range.{inRange, CheckedSetup}
 use Rattle.longdust.specs.declared.LongdustOptions.{LongdustOptions}
 use Rattle.longdust.specs.declared.Answer.{Answer}
 use Rattle.longdust.specs.Mask.{setup, maskOf, mask}
@@ -25,7 +24,7 @@ use Rattle.longdust.proofs.Masks.{mask-shape, mask-room, mask-evidence}
 use Rattle.longdust.proofs.Parts.{fronts, back, Returned, whole}
 
 accepted-by : (o : LongdustOptions) (s : List ℕ) (b b′ : Buffers) (r : Answer) → Bounds o → length s ≤ 2147483647
-    → ranges.Accepted (setup o (lnRead o b′) (fRead o b′)) → r .«in_range» ≡ inRange (setup o (lnRead o b′) (fRead o b′)) → Masked o s b b′ (r .count) → Accepted o s b b′ r
+    → CheckedSetup (setup o (lnRead o b′) (fRead o b′)) → r .«in_range» ≡ inRange (setup o (lnRead o b′) (fRead o b′)) → Masked o s b b′ (r .count) → Accepted o s b b′ r
 unfolding mask setup
 accepted-by o s b b′ r c h a flag m =
     let S = setup o (lnRead o b′) (fRead o b′) in

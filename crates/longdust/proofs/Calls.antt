@@ -1,4 +1,4 @@
--- From the run on an accepted request's codes to what a public call answers: the codes stand in the front of their buffer, and the tables may be new.
+-- From the run on an accepted request's codes to what a public call answers: the codes stand in the front of their buffer, and the tables may have been filled.
 use mathlib.Core.Path.{_≡_, sym, ap, _∙_, subst}
 use mathlib.Core.List.{List}
 use Prim.Native.Nat.{ℕ}

@@ -1,4 +1,4 @@
--- Made by tools/lift from the prover's `Reads` of `filled_tables::process` over a slice of `[u64; 2]`; not to be edited. Assumes nothing.
+-- Made by tools/lift from the prover's `Reads` of `filled_tables::process` over a slice of `[u64; 2]`; not to be edited.
 use Rattle.longdust.proofs.filled_tables.process
 use Rattle.longdust.proofs.FilledTablesProcessKinds as Kinds
 use base.Logic

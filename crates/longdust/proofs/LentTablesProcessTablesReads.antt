@@ -1,4 +1,4 @@
--- Made by tools/lift from the prover's `Reads` of `lent_tables::process_tables` over a slice of `[u64; 2]`; not to be edited. Assumes nothing.
+-- Made by tools/lift from the prover's `Reads` of `lent_tables::process_tables` over a slice of `[u64; 2]`; not to be edited.
 use Rattle.longdust.proofs.lent_tables.process_tables
 use Rattle.longdust.proofs.LentTablesProcessTablesKinds as Kinds
 use base.Logic

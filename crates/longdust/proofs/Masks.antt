@@ -17,7 +17,7 @@ use Rattle.intervals.proofs.Backward.{backwards-canonical, backwards-covers}
 use Rattle.intervals.proofs.Theorems.{merge-alone}
 use Rattle.scans.specs.Setup.{Setup}
 use Rattle.strand.specs.Step.{intervalsOf}
-use Rattle.strand.specs.Range.{inRange, Accepted}
+use Rattle.strand.specs.Range.{inRange, CheckedSetup}
 use Rattle.strand.proofs.Theorems.{strand-shape, strand-evidence}
 use Rattle.longdust.specs.Mask.{maskOf, Evident}
 
@@ -53,7 +53,7 @@ mask-merged S true s k = merge-alone (length s) (S .kmer) (intervalsOf S s) k (s
 mask-merged S false s k = refl
 
 -- Evidence: each masked letter is evident on a strand scanned.
-module _ (S : Setup) (s : List ℕ) (k : 0 < S .kmer) (a : Accepted S) (t : T (inRange S)) (l : length s < 2147483648) where
+module _ (S : Setup) (s : List ℕ) (k : 0 < S .kmer) (a : CheckedSetup S) (t : T (inRange S)) (l : length s < 2147483648) where
   pub mask-evidence : (b : Bool) (x : ℕ) → Covers (maskOf S b s) x → Evident S b s x
   unfolding maskOf
   mask-evidence true x c = inl (strand-evidence S s a t l x c)

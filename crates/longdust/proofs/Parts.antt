@@ -8,7 +8,7 @@ use lib.Seq.{length-take-le}
 use Rattle.buffers.specs.Free.{Free}
 use Rattle.buffers.proofs.Lent.{part-free, free-at}
 use Rattle.scans.specs.declared.Params.{Params}
-use Rattle.strand.specs.Held.{Lent}
+use Rattle.strand.specs.Held.{StrandLent}
 use Rattle.longdust.specs.declared.LongdustOptions.{LongdustOptions}
 use Rattle.longdust.specs.Call.{Buffers, lengths}
 use Rattle.longdust.specs.Inner.{Admitted, Exact}
@@ -76,7 +76,7 @@ module _ (o : LongdustOptions) (n m : ℕ) (b : Buffers) (a : Admitted o n (leng
 
   sizes : (p : Params) → p .kmer ≡ o .kmer → p .window ≡ o .«window_size» → (starts ends : List ℕ)
       → (n + 1) / (o .kmer + 1) ≤ length starts → (n + 1) / (o .kmer + 1) ≤ length ends
-      → Lent p n (length (take (o .«window_size» + 1) (b .ln))) (length (take (o .«window_size» + 2) (b .f))) (length (take (o .«window_size») (b .queue))) (length (take m (b .window-counts)))
+      → StrandLent p n (length (take (o .«window_size» + 1) (b .ln))) (length (take (o .«window_size» + 2) (b .f))) (length (take (o .«window_size») (b .queue))) (length (take m (b .window-counts)))
       (length (take m (b .scan-counts))) (length (take (o .«window_size») (b .candidates)))
       (length (take ((n + 1) / (o .kmer + 1)) starts)) (length (take ((n + 1) / (o .kmer + 1)) ends))
   sizes p k w starts ends fs fe =
@@ -85,22 +85,22 @@ module _ (o : LongdustOptions) (n m : ℕ) (b : Buffers) (a : Admitted o n (leng
       let R = (n + 1) / (o .kmer + 1) in
       let r : (n + 1) / (p .kmer + 1) ≡ R = ap (λ (z : ℕ). (n + 1) / (z + 1)) k in
       record {
-        kmer-some = omega (arith, c .kmer-low);
-        kmer-small = omega (arith, c .kmer-high);
-        letters-in = omega (arith, a .letters-high);
+        part =
+            record {
+              kmer-some = omega (arith, c .kmer-low);
+              kmer-small = omega (arith, c .kmer-high);
+              letters-in = omega (arith, a .letters-high);
+              f-long = omega (arith, length-take-le (o .«window_size» + 2) (b .f) (g .f));
+              counts-is = length-take-le m (b .scan-counts) scans-fit ∙ e ∙ ap (λ (z : ℕ). 4 ^ z) (omega arith);
+              starts-long = omega (arith, length-take-le R starts fs);
+              ends-long = omega (arith, length-take-le R ends fe);
+            };
         wide = omega (arith, c .window-low, c .kmer-low);
         small = omega (arith, c .window-high);
         ln-long = omega (arith, length-take-le (o .«window_size» + 1) (b .ln) (g .ln));
         ring-is = omega (arith, length-take-le (o .«window_size») (b .queue) (g .queue));
         window-counts-are = length-take-le m (b .window-counts) windows-fit ∙ e ∙ ap (λ (z : ℕ). 4 ^ z) (omega arith);
-        roomy =
-            record {
-              f-long = omega (arith, length-take-le (o .«window_size» + 2) (b .f) (g .f));
-              counts-is = length-take-le m (b .scan-counts) scans-fit ∙ e ∙ ap (λ (z : ℕ). 4 ^ z) (omega arith);
-              candidates-long = omega (arith, length-take-le (o .«window_size») (b .candidates) (g .candidates));
-            };
-        starts-long = omega (arith, length-take-le R starts fs);
-        ends-long = omega (arith, length-take-le R ends fe);
+        candidates-long = omega (arith, length-take-le (o .«window_size») (b .candidates) (g .candidates));
       }
 
   pub exact : (p : Params) → p .kmer ≡ o .kmer → p .window ≡ o .«window_size»

@@ -1,4 +1,4 @@
--- Made by tools/lift from the prover's `Reads` of `run::both_strands` over a slice of `[u64; 2]`; not to be edited. Assumes nothing.
+-- Made by tools/lift from the prover's `Reads` of `run::both_strands` over a slice of `[u64; 2]`; not to be edited.
 use Rattle.longdust.proofs.run.both_strands
 use Rattle.longdust.proofs.RunBothStrandsKinds as Kinds
 use base.Logic

@@ -1,4 +1,4 @@
--- Made by tools/lift from the prover's `Reads` of `run::mask_encoded` over a slice of `[u64; 2]`; not to be edited. Assumes nothing.
+-- Made by tools/lift from the prover's `Reads` of `run::mask_encoded` over a slice of `[u64; 2]`; not to be edited.
 use Rattle.longdust.proofs.run.mask_encoded
 use Rattle.longdust.proofs.RunMaskEncodedKinds as Kinds
 use base.Logic

@@ -11,7 +11,7 @@ use lib.Ieee.{Float, nan, inf, binary64, fits, lt}
 use Rattle.floats.specs.Binary64.{zero64}
 use Rattle.scans.specs.declared.Params.{Params}
 use Rattle.scans.specs.Setup.{Setup, setupOf, dropLimit, maxTest}
-use Rattle.strand.specs.Range.{Accepted}
+use Rattle.strand.specs.Range.{CheckedSetup}
 use Rattle.longdust.specs.declared.LongdustOptions.{LongdustOptions}
 use Rattle.longdust.specs.Checks.{thresholdBad}
 use Rattle.longdust.specs.Mask.{setup}
@@ -54,7 +54,7 @@ above-zero t e = go (lt zero64 t) (lt t (inf false)) e
     go false b e′ = absurd (let z : _≡_ {A = ℕ} 0 1 = cc in let y : ⊥ = omega arith in y)
 
 pub float-bits : (o : LongdustOptions) (ln f : List Float) → Bounds o → T (fits binary64 (o .«score_threshold»))
-    → ((i : ℕ) → T (fits binary64 (getD ln i nan))) → ((i : ℕ) → T (fits binary64 (getD f i nan))) → Accepted (setup o ln f)
+    → ((i : ℕ) → T (fits binary64 (getD ln i nan))) → ((i : ℕ) → T (fits binary64 (getD f i nan))) → CheckedSetup (setup o ln f)
 unfolding setup
 float-bits o ln f b t x y =
     record {

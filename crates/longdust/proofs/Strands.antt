@@ -18,13 +18,13 @@ use Rattle.intervals.proofs.Rows.{length-rows, rows-as}
 use Rattle.scans.specs.declared.Params.{Params}
 use Rattle.scans.specs.Setup.{Setup}
 use Rattle.strand.specs.Step.{intervalsOf}
-use Rattle.strand.specs.Held.{Lent}
+use Rattle.strand.specs.Held.{StrandLent}
 use Rattle.strand.proofs.Theorems.{strand-room}
 use Rattle.longdust.specs.Mask.{maskOf}
 use Rattle.longdust.proofs.Masks.{mask-room, mask-merged, otherIntervals, others-shape}
 
-pub lent-as : {p : Params} {n ln f q w s c st en n′ q′ w′ s′ c′ : ℕ} → Lent p n ln f q w s c st en
-    → n′ ≡ n → q′ ≡ q → w′ ≡ w → s′ ≡ s → c′ ≡ c → Lent p n′ ln f q′ w′ s′ c′ st en
+pub lent-as : {p : Params} {n ln f q w s c st en n′ q′ w′ s′ c′ : ℕ} → StrandLent p n ln f q w s c st en
+    → n′ ≡ n → q′ ≡ q → w′ ≡ w → s′ ≡ s → c′ ≡ c → StrandLent p n′ ln f q′ w′ s′ c′ st en
 lent-as k en eq ew es ec = rw (en, eq, ew, es, ec) k
 
 -- The reverse complement over a whole buffer.
@@ -41,12 +41,12 @@ pub other-some : (S : Setup) (b : Bool) (s t : List ℕ) (is : List Interval) �
 other-some S b s t is e r q = q ∙ rw (r, e)
 
 -- The first i entries of fs and fe hold the forward list, the first j of rs and re the other one.
-pub record Scanned (S : Setup) (b : Bool) (s fs fe rs re : List ℕ) (i j : ℕ) : Type 0 where
+pub record BothHeld (S : Setup) (b : Bool) (s fs fe rs re : List ℕ) (i j : ℕ) : Type 0 where
   pub some : 0 < S .kmer
   pub forward : rows i fs fe ≡ intervalsOf S s
   pub reverse : rows j rs re ≡ otherIntervals S b s
 
-module _ {S : Setup} {b : Bool} {s fs fe rs re : List ℕ} {i j : ℕ} (p : Scanned S b s fs fe rs re i j) where
+module _ {S : Setup} {b : Bool} {s fs fe rs re : List ℕ} {i j : ℕ} (p : BothHeld S b s fs fe rs re i j) where
   merged : merge (rows i fs fe) (backwards (length s) (rows j rs re)) ≡ maskOf S b s
   merged = rw (p .forward, p .reverse) (mask-merged S b s (p .some))
 

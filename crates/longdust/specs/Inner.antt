@@ -7,8 +7,8 @@ use lib.Ieee.{Float}
 use Rattle.letters.specs.Code.{codes}
 use Rattle.scans.specs.declared.Params.{Params}
 use Rattle.scans.specs.Setup.{setupOf}
-use Rattle.strand.specs.Range as ranges
-use Rattle.strand.specs.Held.{Lent as StrandLent}
+use Rattle.strand.specs.Range.{CheckedSetup}
+use Rattle.strand.specs.Held.{StrandLent}
 use Rattle.longdust.specs.declared.LongdustOptions.{LongdustOptions}
 use Rattle.longdust.specs.declared.Lent.{Lent}
 use Rattle.longdust.specs.declared.Answer.{Answer}
@@ -51,7 +51,7 @@ pub record Admitted (o : LongdustOptions) (n : ℕ) (b : Lent) : Type 0 where
 -- The numbers p make the setup of the options; every float that it reads is one of 64 bits.
 pub record Prepared (o : LongdustOptions) (ln f : List Float) (p : Params) : Type 0 where
   pub setup-is : setupOf p ln f ≡ setup o ln f
-  pub floats : ranges.Accepted (setup o ln f)
+  pub floats : CheckedSetup (setup o ln f)
 
 -- Both strands' buffers, at p's numbers and n letters.
 pub record Exact (p : Params) (n : ℕ) (b : Lent) : Type 0 where

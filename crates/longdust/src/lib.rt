@@ -41,7 +41,7 @@ impl LongdustOptions {
     }
 }
 
-// The refusal number is 0 for an accepted request.
+// The refusal number, 0 for an accepted request, the interval count and the flag.
 pub struct Answer {
     pub refusal: u32,
     pub count: usize,

@@ -137,7 +137,7 @@ pub fn both_strands(
     )
 }
 
-// The run of an accepted request on its codes, by filled tables: the flag, and the mask from the front of each buffer.
+// The run of an accepted request on its codes, by filled tables: the flag, and the mask. Both strands get the front of each buffer.
 pub fn mask_encoded(
     encoded: &[u8],
     options: LongdustOptions,

@@ -1,4 +1,4 @@
--- An answer of either call: its count is small, and it is what the exported call answers. Assumes nothing.
+-- An answer of either call: its count is small, and it is what the exported call answers.
 use Prim.Native.Nat.{ℕ, zero, suc, _+_, _/_, _≤_, _<_}
 use mathlib.Core.Path.{_≡_, refl, sym, subst, _∙_}
 use mathlib.Core.List.{List}

@@ -1,4 +1,4 @@
--- Made by tools/lift from the prover's `Reads` of `longdust_process_tables` over a slice of `[u64; 2]`; not to be edited. Assumes nothing.
+-- Made by tools/lift from the prover's `Reads` of `longdust_process_tables` over a slice of `[u64; 2]`; not to be edited.
 use Rattle.longdust_c.proofs.longdust_process_tables
 use Rattle.longdust_c.proofs.LongdustProcessTablesKinds as Kinds
 use base.Logic

@@ -1,4 +1,4 @@
--- The number that a call returns, from the machine's signed operations. Assumes nothing.
+-- The number that a call returns, from the machine's signed operations.
 use Prim.Native.Nat.{ℕ, zero, suc, _<_}
 use mathlib.Core.Path.{_≡_, sym, ap, subst, _∙_}
 use mathlib.Core.Logic.{_≢_}

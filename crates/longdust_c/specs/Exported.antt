@@ -1,4 +1,4 @@
--- The two calls on numbers: the options that the numbers stand for, and an answer as numbers.
+-- The terms of the exported calls' contracts: the options that their numbers stand for, and an answer as numbers.
 use Prim.Native.Nat.{ℕ, zero, suc}
 use mathlib.Core.Path.{_≡_}
 use mathlib.Core.Bool.{Bool, not, cond}

@@ -1,4 +1,4 @@
--- Made by tools/lift from the prover's `Reads` of `call::call` over a slice of `[u64; 2]`; not to be edited. Assumes nothing.
+-- Made by tools/lift from the prover's `Reads` of `call::call` over a slice of `[u64; 2]`; not to be edited.
 use Rattle.replay.proofs.call.call
 use Rattle.replay.proofs.CallCallKinds as Kinds
 use base.Logic

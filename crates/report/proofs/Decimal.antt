@@ -1,4 +1,4 @@
--- The fewest decimal digits of a number: there is one such count, it is `digitCount`, and a bound on the number bounds it. Assumes nothing.
+-- The fewest decimal digits of a number: there is one such count, it is `digitCount`, and a bound on the number bounds it.
 use Prim.Native.Nat.{ℕ, zero, suc, _-_, _/_, _^_, _≤_, _<_}
 use mathlib.Core.Path.{_≡_, refl, _∙_}
 use mathlib.Core.Logic.{⊎-elim}

@@ -1,4 +1,4 @@
--- Letters kept of bytes: a byte at a time, as `keep_letters` does, and piece by piece, as a program reads them. Assumes nothing.
+-- Letters kept of bytes: a byte at a time, as `keep_letters` does, and piece by piece, as a program reads them.
 use Prim.Native.Nat.{ℕ, zero, suc, _+_, _≤_, _<_}
 use mathlib.Core.Path.{_≡_, refl, sym, ap, _∙_}
 use mathlib.Core.Bool.{Bool, true, false, cond}
@@ -10,7 +10,7 @@ use lib.Dec.{eqb}
 use lib.ListN.{length, take, drop, getD, set, length-set, length-take, take-append-drop, drop-of-length-le}
 use lib.Seq.{drop-cons, drop-drop, drop-set-lt, length-take-le, take-all, take-append-le, take-suc-set}
 use borrow.Author.Tests.{eq-eqb, ne-eqb}
-use Rattle.report.specs.Letters.{lettersOf, kept, Kept}
+use Rattle.report.specs.Letters.{lettersOf, kept, KeptLetters}
 
 kept-10 : (size : ℕ) (ls : List ℕ) (b : ℕ) (bs : List ℕ) → b ≡ 10 → kept size ls (b ∷ bs) ≡ kept size ls bs
 unfolding kept lettersOf
@@ -60,7 +60,7 @@ module _ (bs d : List ℕ) (count : ℕ) (d′ : List ℕ) (at i : ℕ) (k : Kee
   whole : take (length d) (take at d′) ≡ take at d′
   whole = take-all (length d) (take at d′) (omega (arith, length-take-le at d′ (k .room), k .long))
 
-  done : kept (length d) (take count d) bs ≡ take at d′ → Kept bs d count d′ at
+  done : kept (length d) (take count d) bs ≡ take at d′ → KeptLetters bs d count d′ at
   done e =
       let l : length (take at d′) ≡ at = length-take-le at d′ (k .room) in
       record {
@@ -68,7 +68,7 @@ module _ (bs d : List ℕ) (count : ℕ) (d′ : List ℕ) (at i : ℕ) (k : Kee
         count-is = rw e (sym l);
       }
 
-  pub full : length d′ ≤ at → Kept bs d count d′ at
+  pub full : length d′ ≤ at → KeptLetters bs d count d′ at
   unfolding kept
   full h =
       done
@@ -76,7 +76,7 @@ module _ (bs d : List ℕ) (count : ℕ) (d′ : List ℕ) (at i : ℕ) (k : Kee
       ∙ take-append-le (length d) (take at d′) (lettersOf (drop i bs)) (omega (arith, length-take-le at d′ (k .room), k .long))
       ∙ whole)
 
-  pub ended : length bs ≤ i → Kept bs d count d′ at
+  pub ended : length bs ≤ i → KeptLetters bs d count d′ at
   unfolding kept lettersOf
   ended h =
       done
@@ -85,7 +85,7 @@ module _ (bs d : List ℕ) (count : ℕ) (d′ : List ℕ) (at i : ℕ) (k : Kee
       ∙ ap (λ (l : List ℕ). take (length d) l) (append-nil (take at d′))
       ∙ whole)
 
-pub kept-room : {bs d d′ : List ℕ} {count count′ : ℕ} → Kept bs d count d′ count′ → count′ ≤ length d
+pub kept-room : {bs d d′ : List ℕ} {count count′ : ℕ} → KeptLetters bs d count d′ count′ → count′ ≤ length d
 unfolding kept
 kept-room {bs} {d} {d′} {count} k = omega (arith, k .count-is, length-take (length d) (take count d ++ lettersOf bs))
 

@@ -1,4 +1,4 @@
--- The lines of a list of intervals: of two lists joined, of the first intervals, and how long they are. Assumes nothing.
+-- The lines of a list of intervals: of two lists joined, of the first intervals, and how long they are.
 use Prim.Native.Nat.{ℕ, _+_, _*_, _≤_, _<_}
 use mathlib.Core.Path.{_≡_, refl, sym, ap, _∙_}
 use mathlib.Core.List.{List, [], _∷_, _++_, append-assoc, append-nil}

@@ -1,4 +1,4 @@
--- Texts written one after the other into a lent text. Assumes nothing.
+-- Texts written one after the other into a lent text.
 use Prim.Native.Nat.{ℕ, _+_, _≤_, _<_}
 use mathlib.Core.Path.{_≡_, refl, sym, ap, ap₂, _∙_}
 use mathlib.Core.List.{List, [], _++_, append-assoc}

@@ -1,4 +1,4 @@
--- A text as its bytes.
+-- The paper, 'Tables and the program': a text that the program prints, as its bytes.
 use Prim.Native.Nat.{ℕ}
 use Prim.Native.Char.{code}
 use Prim.Native.String.{String, [], _∷_}

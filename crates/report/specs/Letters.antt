@@ -17,6 +17,6 @@ unfoldable pub kept : ℕ → List ℕ → List ℕ → List ℕ
 kept size ls bs = take size (ls ++ lettersOf bs)
 
 -- The buffer d, which held `count` letters, has become d′: the letters of bs joined them, and the other entries are as they were.
-pub record Kept (bs d : List ℕ) (count : ℕ) (d′ : List ℕ) (count′ : ℕ) : Type 0 where
+pub record KeptLetters (bs d : List ℕ) (count : ℕ) (d′ : List ℕ) (count′ : ℕ) : Type 0 where
   pub letters-are : d′ ≡ put (kept (length d) (take count d) bs) d
   pub count-is : count′ ≡ length (kept (length d) (take count d) bs)

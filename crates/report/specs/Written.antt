@@ -1,4 +1,4 @@
--- Room in a lent text, and what it holds after something was written into it from an index on.
+-- Terms of contracts: room in a lent text, and what it holds after something was written into it from an index on.
 use Prim.Native.Nat.{ℕ, _+_, _≤_}
 use mathlib.Core.Path.{_≡_}
 use mathlib.Core.List.{List, _++_}

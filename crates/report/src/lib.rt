@@ -4,14 +4,14 @@ ghost use Prim.Native.Nat.{_≤_};
 ghost use lib.ListN.{length};
 ghost use Rattle.intervals.specs.Interval.{interval};
 ghost use Rattle.intervals.specs.Rows.{rows, Room};
-ghost use Rattle.report.specs.Letters.{Kept};
+ghost use Rattle.report.specs.Letters.{KeptLetters};
 ghost use Rattle.report.specs.Text.{decimal, line, lines, numbered, countLine, report, refusalLine, sizeLine};
 ghost use Rattle.report.specs.Written.{Fits, Written};
 
 // Puts the bytes but 10 after the first `count` letters, as many as there is room for, and answers how many letters there are then.
 pub fn keep_letters(bytes: &[u8], letters: &mut [u8], count: usize) -> usize
     requires { ⌜ count ≤ length (now letters) ⌝ }
-    ensures { λ r. ⌜ Kept (now (bytes .entry)) (now (letters .entry)) count (now (letters .exit)) r ⌝ }
+    ensures { λ r. ⌜ KeptLetters (now (bytes .entry)) (now (letters .entry)) count (now (letters .exit)) r ⌝ }
 {
     let mut at = count;
     let mut i = 0;

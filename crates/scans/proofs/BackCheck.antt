@@ -1,4 +1,4 @@
--- The back check, a turn at a time, and how many turns it takes at most. Assumes nothing.
+-- The back check, a turn at a time, and how many turns it takes at most.
 use mathlib.Core.Path.{_≡_, refl, sym, ap, _∙_}
 use mathlib.Core.Bool.{true, false, cond}
 use mathlib.Core.List.{List}

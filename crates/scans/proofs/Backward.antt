@@ -1,4 +1,4 @@
--- The backward scan put together: what the slice holds can be tried, and its outcome is the definition's. Assumes nothing.
+-- The backward scan put together: what the slice holds can be tried, and its outcome is the definition's.
 use mathlib.Core.Path.{_≡_, sym, ap, ap₂, _∙_, subst}
 use mathlib.Core.Bool.{Bool, true, false, cond}
 use mathlib.Core.List.{List, [], _∷_}
@@ -9,7 +9,7 @@ use lib.Dec.{eqb}
 use Rattle.letters.specs.Place.{Place}
 use Rattle.scans.specs.declared.Params.{Params}
 use Rattle.scans.specs.declared.ForwardPosition.{ForwardPosition}
-use Rattle.scans.specs.declared.Scanned.{Scanned as Answer}
+use Rattle.scans.specs.declared.Scanned.{Scanned}
 use Rattle.scans.specs.Setup.{Setup}
 use Rattle.scans.specs.Counts.{cleared}
 use Rattle.scans.specs.Scans.{none, Outcome, Candidate, noCandidate, backwardStart, Backward, backwardFrom, withBest, tryFrom, tried, dustBackward}
@@ -33,7 +33,7 @@ below-at n [] j h l = absurd (let b : ⊥ = omega arith in b)
 below-at n (c ∷ cs) zero h l = h .0
 below-at n (c ∷ cs) (suc j) h l = below-at n cs j (h .1) (omega arith)
 
-to-tried : (S : Setup) (q : List Place) (b : Backward) (r : Answer) (counts : List ℕ) → Answers S q (tryFrom S q (toTry b) (length (toTry b)) 0 (b .counts)) r counts → Answers S q (tried S q b) r counts
+to-tried : (S : Setup) (q : List Place) (b : Backward) (r : Scanned) (counts : List ℕ) → Answers S q (tryFrom S q (toTry b) (length (toTry b)) 0 (b .counts)) r counts → Answers S q (tried S q b) r counts
 unfolding tried tryFrom
 to-tried S q b r counts t = go (eqb (b .found) 0) (withBest (b .best) (b .found) (b .candidates)) t
   where
@@ -55,7 +55,7 @@ all-held S q len n counts records h l some room =
     }
 
 -- The outcome of all tries is the definition's, but for counts that a search without a find leaves.
-pub answers-tried : (S : Setup) (q : List Place) (n : ℕ) (counts₁ : List ℕ) (cs : List Candidate) → ScansBackward S q counts₁ cs → length cs ≡ n → (r : Answer) (counts : List ℕ)
+pub answers-tried : (S : Setup) (q : List Place) (n : ℕ) (counts₁ : List ℕ) (cs : List Candidate) → ScansBackward S q counts₁ cs → length cs ≡ n → (r : Scanned) (counts : List ℕ)
     → ((before : List ℕ) → Answers S q (tryFrom S q cs n 0 before) r counts) → Answers S q (dustBackward S q) r counts
 unfolding dustBackward
 answers-tried S q n counts₁ cs h l r counts t =

@@ -1,4 +1,4 @@
--- The backward scan, a turn at a time, over a straight part of the ring. Assumes nothing.
+-- The backward scan, a turn at a time, over a straight part of the ring.
 use mathlib.Core.Path.{_≡_, refl, sym, ap, ap₂, _∙_, subst}
 use mathlib.Core.Bool.{Bool, true, false, cond, not, _&&_, _||_, true≢false}
 use mathlib.Core.List.{List, [], _∷_, _++_}
@@ -16,6 +16,7 @@ use Rattle.scans.specs.Setup.{Setup, fAt, kmers}
 use Rattle.scans.specs.Counts.{raise, Counted}
 use Rattle.scans.specs.Scans.{value, secondValue, Candidate, candidate, BackwardSums, backwardStart, isNoted, noted, isDropped, backwardJudged, Backward, backwardFrom}
 use Rattle.scans.specs.Parts.{Seam, Straight, backwardOf, withBestAt, withLast, pausedAt, Fresh, Ended, Backs, BackwardPart}
+use Rattle.scans.proofs.Test.{neither}
 use Rattle.scans.proofs.Counting.{cleared-counted}
 use Rattle.floats.proofs.Order.{lt-self, le-lt-trans}
 use Rattle.scans.proofs.Reading.{Read, Entered}
@@ -43,10 +44,6 @@ first-true false c e = e
 pub last-true : (b c : Bool) → b && c ≡ true → c ≡ true
 last-true true c e = e
 last-true false c e = absurd (true≢false (sym e))
-
-pub neither : (b c : Bool) → b || c ≡ false → (b ≡ false) × (c ≡ false)
-neither true c e = absurd (true≢false e)
-neither false c e = (refl, e)
 
 -- A score below the best is not above it.
 not-above : (best sl : Float) → le best sl ≡ false → lt best sl ≡ false

@@ -1,4 +1,4 @@
--- Made by tools/lift from the prover's `Reads` of `candidate_at` over a slice of `[u64; 2]`; not to be edited. Assumes nothing.
+-- Made by tools/lift from the prover's `Reads` of `candidate_at` over a slice of `[u64; 2]`; not to be edited.
 use Rattle.scans.proofs.candidate_at
 use Rattle.scans.proofs.CandidateAtKinds as Kinds
 use base.Logic

@@ -23,7 +23,7 @@ all-snoc n [] c h l = (l, tt)
 all-snoc n (d ∷ cs) c h l = (h .0, all-snoc n cs c (h .1) l)
 
 -- Noted are fewer than the entries, since the first entry read is never noted.
-pub record Scanned (n : ℕ) (b : Backward) : Type 0 where
+pub record NotedFit (n : ℕ) (b : Backward) : Type 0 where
   pub few : length (b .candidates) + 1 ≤ n
   pub all-below : AllBelow n (b .candidates)
   pub found-in : b .found ≤ n
@@ -54,11 +54,11 @@ first-not-noted sl = go (lt sl (backwardStart .last))
 
 module _ (S : Setup) (q : List Place) (n : ℕ) where
   -- How a scan goes on after its first entry, with i entries left.
-  abbrev LaterScanned : ℕ → Type 0
-  LaterScanned i = (l : ℕ) (a : BackwardSums) (counts : List ℕ) (cs : List Candidate) → length cs + (i + 1) ≤ n → AllBelow n cs → a .found ≤ n → Scanned n (backwardFrom S q i l a counts cs)
+  abbrev LaterFit : ℕ → Type 0
+  LaterFit i = (l : ℕ) (a : BackwardSums) (counts : List ℕ) (cs : List Candidate) → length cs + (i + 1) ≤ n → AllBelow n cs → a .found ≤ n → NotedFit n (backwardFrom S q i l a counts cs)
 
   entry-scanned : (i l : ℕ) (a : BackwardSums) (counts : List ℕ) (cs : List Candidate) → i < n → length cs + 1 ≤ n → AllBelow n cs → a .found ≤ n
-      → ((sl : Float) → (length (noted a sl i cs) + (i + 1) ≤ n) × AllBelow n (noted a sl i cs)) → LaterScanned i → Scanned n (backwardFrom S q (suc i) l a counts cs)
+      → ((sl : Float) → (length (noted a sl i cs) + (i + 1) ≤ n) × AllBelow n (noted a sl i cs)) → LaterFit i → NotedFit n (backwardFrom S q (suc i) l a counts cs)
   unfolding backwardFrom
   entry-scanned i l a counts cs hi hc ha hf hn later =
       let e : Place = getD q i ambiguous in
@@ -73,19 +73,19 @@ module _ (S : Setup) (q : List Place) (n : ℕ) where
       let rest : Backward = backwardFrom S q i (l + 1) a′ counts′ cs′ in
       let few = hn sl .0 in
       let hf′ = judged-in n a s sw sl i hf hi in
-      by-test (λ (b : Backward). Scanned n b) (lt (sub binary64 sw (fAt S l)) zero64) ends (cond (isDropped S a sl) dropped rest)
+      by-test (λ (b : Backward). NotedFit n b) (lt (sub binary64 sw (fAt S l)) zero64) ends (cond (isDropped S a sl) dropped rest)
       (λ _. record { few = hc; all-below = ha; found-in = hf })
-      (λ _. by-test (λ (b : Backward). Scanned n b) (isDropped S a sl) dropped rest
+      (λ _. by-test (λ (b : Backward). NotedFit n b) (isDropped S a sl) dropped rest
       (λ _. record { few = omega arith; all-below = hn sl .1; found-in = hf′ })
       (λ _. later (l + 1) a′ counts′ cs′ few (hn sl .1) hf′))
 
-  later-scanned : (i : ℕ) → LaterScanned i
+  later-scanned : (i : ℕ) → LaterFit i
   unfolding backwardFrom
   later-scanned zero l a counts cs hc ha hf = record { few = hc; all-below = ha; found-in = hf }
   later-scanned (suc i) l a counts cs hc ha hf =
       entry-scanned i l a counts cs (omega arith) (omega arith) ha hf (λ sl. (omega (arith, noted-few a sl i cs), noted-below n a sl i cs ha (omega arith))) (later-scanned i)
 
-first-scanned : (S : Setup) (q : List Place) (i : ℕ) → Scanned (suc i) (backwardFrom S q (suc i) 1 backwardStart (cleared S) [])
+first-scanned : (S : Setup) (q : List Place) (i : ℕ) → NotedFit (suc i) (backwardFrom S q (suc i) 1 backwardStart (cleared S) [])
 first-scanned S q i =
     entry-scanned S q (suc i) i 1 backwardStart (cleared S) [] (omega arith) (omega arith) tt (omega arith)
     (λ sl.
@@ -93,15 +93,15 @@ first-scanned S q i =
     (omega (arith, ap length none), subst (λ (z : List Candidate). AllBelow (suc i) z) (sym none) tt))
     (later-scanned S q (suc i) i)
 
-pub backward-scanned : (S : Setup) (q : List Place) → 0 < length q → Scanned (length q) (backwardFrom S q (length q) 1 backwardStart (cleared S) [])
+pub backward-scanned : (S : Setup) (q : List Place) → 0 < length q → NotedFit (length q) (backwardFrom S q (length q) 1 backwardStart (cleared S) [])
 backward-scanned S q some = go (length q) some
   where
-    go : (n : ℕ) → 0 < n → Scanned n (backwardFrom S q n 1 backwardStart (cleared S) [])
+    go : (n : ℕ) → 0 < n → NotedFit n (backwardFrom S q n 1 backwardStart (cleared S) [])
     go zero l = absurd (omega arith)
     go (suc i) l = first-scanned S q i
 
 -- With the best place.
-pub candidates-fit : (n : ℕ) (b : Backward) → Scanned n b → (length (withBest (b .best) (b .found) (b .candidates)) ≤ n) × AllBelow n (withBest (b .best) (b .found) (b .candidates))
+pub candidates-fit : (n : ℕ) (b : Backward) → NotedFit n b → (length (withBest (b .best) (b .found) (b .candidates)) ≤ n) × AllBelow n (withBest (b .best) (b .found) (b .candidates))
 candidates-fit n b h =
     let cs : List Candidate = b .candidates in
     let c : Candidate = candidate (b .found - 1) (b .best) in

@@ -1,4 +1,4 @@
--- The find that a quick scan and a carried scan tell together (`carries-ahead`), and where they tell none (`carries-off`). Assumes nothing.
+-- The find that a quick scan and a carried scan tell together (`carries-ahead`), and where they tell none (`carries-off`).
 use mathlib.Core.Path.{_≡_, refl, sym, ap, _∙_, subst}
 use mathlib.Core.Bool.{Bool, true, false, not, true≢false}
 use mathlib.Core.List.{List, [], _∷_, _++_}

@@ -1,4 +1,4 @@
--- Made by tools/lift from the prover's `Reads` of `dust_backward` over a slice of `[u64; 2]`; not to be edited. Assumes nothing.
+-- Made by tools/lift from the prover's `Reads` of `dust_backward` over a slice of `[u64; 2]`; not to be edited.
 use Rattle.scans.proofs.dust_backward
 use Rattle.scans.proofs.DustBackwardKinds as Kinds
 use base.Logic

@@ -4,24 +4,20 @@ use Prim.Native.Nat.{_*_, _^_}
 use mathlib.Core.Bool.{false}
 use mathlib.Core.List.{[], _∷_}
 use lib.IntN.{pos}
-use lib.Ieee.{Float, binary64, ofBits, ofFields, ofInt}
+use lib.Ieee.{ofBits, ofFields, ofInt}
 use Rattle.floats.specs.Value.{value, magnitude}
-use Rattle.floats.specs.Binary64.{number, zero64}
+use Rattle.floats.specs.Binary64.{number, zero64, half64}
 use Rattle.letters.specs.Code.{code, codes}
 use Rattle.letters.specs.Place.{packed, allPlain, placeAt, placesFrom, places}
 use Rattle.scans.specs.Setup.{Setup}
 use Rattle.scans.specs.Score.{lnSum, lnSums, score, stretch}
-
--- 0.5
-abbrev half : Float
-half = ofBits binary64 0x3fe0_0000_0000_0000
 
 abbrev setup : Setup
 setup =
     record {
       kmer = 2;
       window-size = 3;
-      threshold = half;
+      threshold = half64;
       min-start-cnt = 2;
       drop-limit = zero64;
       approx = false;

@@ -1,4 +1,4 @@
--- The forward scan, a turn at a time, over a straight part of the ring. Assumes nothing.
+-- The forward scan, a turn at a time, over a straight part of the ring.
 use mathlib.Core.Path.{_≡_, refl, sym, ap, _∙_, subst}
 use mathlib.Core.Bool.{Bool, true, false, cond, true≢false}
 use mathlib.Core.List.{List, [], _∷_}

@@ -1,4 +1,4 @@
--- max_test, a turn at a time. Assumes nothing.
+-- max_test, a turn at a time.
 use mathlib.Core.Path.{_≡_, sym, ap, _∙_, subst}
 use mathlib.Core.Bool.{true, false}
 use mathlib.Core.List.{List}

@@ -1,4 +1,4 @@
--- The quick backward scan, a turn at a time, over a straight part of the ring. Assumes nothing.
+-- The quick backward scan, a turn at a time, over a straight part of the ring.
 use mathlib.Core.Path.{_≡_, refl, sym, ap, ap₂, _∙_, subst}
 use mathlib.Core.Bool.{Bool, true, false, cond, not, _&&_, true≢false}
 use mathlib.Core.List.{List}

@@ -1,4 +1,4 @@
--- A backward scan reads the next older entry of a window in a ring: there is room to count it (`add-ready`), and its values, its scores and the counts after it are the definition's (`entered`). Assumes nothing.
+-- A backward scan reads the next older entry of a window in a ring: there is room to count it (`add-ready`), and its values, its scores and the counts after it are the definition's (`entered`).
 use mathlib.Core.Path.{_≡_, refl, sym, ap, ap₂, _∙_}
 use mathlib.Core.List.{List, [], _∷_}
 use Prim.Native.Nat.{ℕ, zero, suc, _+_, _-_, _/_, _%_, _^_, _<_, _≤_}

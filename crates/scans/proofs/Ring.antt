@@ -1,4 +1,4 @@
--- The queue in a ring: the index of its j-th entry, its length, the entry that joins and the one that leaves; and the same of the window's places. Assumes nothing.
+-- The queue in a ring: the index of its j-th entry, its length, the entry that joins and the one that leaves; and the same of the window's places.
 use mathlib.Core.Path.{_≡_, refl, sym, ap, _∙_}
 use mathlib.Core.Bool.{Bool, true, false, cond}
 use mathlib.Core.List.{List, [], _∷_, _++_, map-append}

@@ -1,4 +1,4 @@
--- Made by tools/lift from the prover's `Kinds` of `scan_backward` over a slice of `[u64; 2]`; not to be edited. Assumes nothing.
+-- Made by tools/lift from the prover's `Kinds` of `scan_backward` over a slice of `[u64; 2]`; not to be edited.
 use Rattle.scans.proofs.ForwardPosition as Rec·type
 use Rattle.scans.proofs.Params
 use Rattle.scans.proofs.Params.Laws

@@ -1,4 +1,4 @@
--- The search for candidates, a turn at a time: the scan goes on and leaves a peak or none, and when it is over the best place joins. Assumes nothing.
+-- The search for candidates, a turn at a time: the scan goes on and leaves a peak or none, and when it is over the best place joins.
 use mathlib.Core.Path.{_≡_, refl, sym, ap, ap₂, _∙_, subst}
 use mathlib.Core.Bool.{Bool, true, false, cond, _||_, true≢false}
 use mathlib.Core.List.{List, [], _∷_, _++_}
@@ -18,10 +18,10 @@ use Rattle.scans.specs.Counts.{cleared}
 use Rattle.scans.specs.Scans.{Candidate, candidate, noCandidate, BackwardSums, backwardStart, Backward, backwardFrom, withBest}
 use Rattle.scans.specs.Parts.{backwardOf, withPeak, resumed, BackwardPart}
 use Rattle.scans.specs.Search.{candidateOf, candidatesIn, FreshSearch, notingAt, restingAt, goneOn, finishedOf, toTry, withFresh, sought, Noted, Searches, NextCandidate, ScansBackward}
-use Rattle.scans.proofs.Test.{by-test}
+use Rattle.scans.proofs.Test.{by-test, neither}
 use Rattle.scans.proofs.Candidates.{AllBelow, backward-scanned, candidates-fit}
 use Rattle.scans.proofs.Slices.{candidates-length, candidates-push}
-use Rattle.scans.proofs.BackwardScan.{neither, backs-start}
+use Rattle.scans.proofs.BackwardScan.{backs-start}
 
 no-entries : (l : List Candidate) → length l ≡ 0 → l ≡ []
 no-entries [] e = refl

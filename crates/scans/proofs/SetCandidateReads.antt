@@ -1,4 +1,4 @@
--- Made by tools/lift from the prover's `Reads` of `set_candidate` over a slice of `[u64; 2]`; not to be edited. Assumes nothing.
+-- Made by tools/lift from the prover's `Reads` of `set_candidate` over a slice of `[u64; 2]`; not to be edited.
 use Rattle.scans.proofs.set_candidate
 use Rattle.scans.proofs.SetCandidateKinds as Kinds
 use base.Logic

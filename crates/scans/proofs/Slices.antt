@@ -1,4 +1,4 @@
--- The candidates that a slice of records holds: how many, which, and one more. Assumes nothing.
+-- The candidates that a slice of records holds: how many, which, and one more.
 use mathlib.Core.Path.{_≡_, refl, sym, ap, ap₂, _∙_}
 use mathlib.Core.List.{List, [], _∷_, _++_}
 use mathlib.Core.Logic.{_≢_, _⊎_, inl, inr}

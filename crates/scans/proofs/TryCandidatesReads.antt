@@ -1,4 +1,4 @@
--- Made by tools/lift from the prover's `Reads` of `try_candidates` over a slice of `[u64; 2]`; not to be edited. Assumes nothing.
+-- Made by tools/lift from the prover's `Reads` of `try_candidates` over a slice of `[u64; 2]`; not to be edited.
 use Rattle.scans.proofs.try_candidates
 use Rattle.scans.proofs.TryCandidatesKinds as Kinds
 use base.Logic

@@ -1,4 +1,4 @@
--- The candidates tried one after the other from cleared counts, a turn at a time. Assumes nothing.
+-- The candidates tried one after the other from cleared counts, a turn at a time.
 use mathlib.Core.Path.{_≡_, refl, sym, ap, _∙_, subst}
 use mathlib.Core.Bool.{true, false, cond}
 use mathlib.Core.List.{List}

@@ -1,4 +1,4 @@
--- What a queue entry is worth by its bits and its count: the tests of the code against the definitions' values. Assumes nothing.
+-- What a queue entry is worth by its bits and its count: the tests of the code against the definitions' values.
 use mathlib.Core.Path.{_≡_, refl, ap}
 use mathlib.Core.Bool.{Bool, true, false, cond}
 use mathlib.Core.List.{List, [], _∷_}

@@ -1,4 +1,4 @@
--- The entries of a queue walked a turn at a time, each taking its part in the scan counts away: to clear them, or to take older entries out. Assumes nothing.
+-- The entries of a queue walked a turn at a time, each taking its part in the scan counts away: to clear them, or to take older entries out.
 use mathlib.Core.Path.{_≡_, refl, sym, ap, _∙_, subst}
 use mathlib.Core.List.{List, [], _∷_}
 use Prim.Native.Nat.{ℕ, _+_, _-_, _/_, _^_, _<_, _≤_}

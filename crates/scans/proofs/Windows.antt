@@ -1,4 +1,4 @@
--- What a window in a ring gives a scan: its entries by their index, as places, and that their k-mers and counts lie in range. Assumes nothing.
+-- What a window in a ring gives a scan: its entries by their index, as places, and that their k-mers and counts lie in range.
 use mathlib.Core.Path.{_≡_, subst}
 use mathlib.Core.List.{List}
 use Prim.Native.Nat.{ℕ, _/_, _<_}

@@ -1,5 +1,5 @@
 -- A fast form of the forward scan of the paper, 'Step and scans': the last find's, carried on letter by letter, equals the forward scan over its places that no limit stops.
--- And the scan counts that a scan leaves.
+-- The terms of its contracts, with those of the scan counts that a scan leaves.
 use mathlib.Core.Path.{_≡_}
 use mathlib.Core.Bool.{true, false, cond}
 use mathlib.Core.List.{List}
@@ -67,7 +67,7 @@ pub record CarriesOn (S : Setup) (l : ℕ) (e : Place) (c c′ : Carry) (counts 
   pub carry-is : c′ ≡ carriedOn S l counts e c
   pub counts-are : counts′ ≡ raise counts e
 
--- Entries `from` to `to - 1` were walked: what the counts were to the places from `from` on, they are now to those from `to` on.
+-- Entries `from` to `to - 1` were walked: what the counts were to the places from `from` on, they then are to those from `to` on.
 pub record Walked (P : List ℕ → List Place → Type 0) (ring : List ℕ) (head from to : ℕ) (counts counts′ : List ℕ) : Type 0 where
   pub left : (len : ℕ) → to ≤ len → len ≤ length ring → P counts (drop from (window ring head len)) → P counts′ (drop to (window ring head len))
 

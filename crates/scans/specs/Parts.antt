@@ -1,4 +1,4 @@
--- The scans of the paper, 'Step and scans', over the straight parts of the ring, which one after the other equal the scan over the window: what their loops ask and answer, and the code's states as the definitions' records.
+-- The scans of the paper, 'Step and scans', over the straight parts of the ring, which one after the other equal the scan over the window: the terms of their contracts, with the code's states as the definitions' records.
 use mathlib.Core.Path.{_≡_}
 use mathlib.Core.Bool.{Bool, true, false, cond}
 use mathlib.Core.List.{List, [], _∷_, _++_}
@@ -55,6 +55,7 @@ pub record ForwardPart (S : Setup) (limit : Float) (ring : List ℕ) (head start
       ≡ cond (b .done) (record { sums = forwardOf b; counts = counts′ }) (forwardFrom S limit (drop to (window ring head len)) (to + 1 - start) to (forwardOf b) counts′)
   pub few : b .done ≡ false → Within counts′ to
 
+-- The whole forward scan is a; the code answers r.
 pub record Finds (a : Forward) (r : ForwardState) (counts : List ℕ) : Type 0 where
   pub sums-are : forwardOf r ≡ a .sums
   pub counts-are : counts ≡ a .counts

@@ -153,10 +153,11 @@ backwardFrom S q (suc i) l a counts cs =
     cond (lt (sw ⊖ fAt S l) zero64) (record { best = a .best; found = a .found; counts = counts′; candidates = cs })
     (cond (isDropped S a sl) (record { best = a′ .best; found = a′ .found; counts = counts′; candidates = cs′ }) later)
 
--- The best place joins the candidates if it is older than all noted, that is, older than the last.
+-- What stands past the end of a list.
 abbrev pub noCandidate : Candidate
 noCandidate = candidate 0 nan
 
+-- The best place joins the candidates if it is older than all noted, that is, older than the last.
 abbrev pub withBest : Float → ℕ → List Candidate → List Candidate
 withBest best found cs =
     cond (eqb (length cs) 0 || ltb found (getD cs (length cs - 1) noCandidate .place + 1)) (cs ++ candidate (found - 1) best ∷ []) cs

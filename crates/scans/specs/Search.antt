@@ -1,4 +1,4 @@
--- The candidates of the paper, 'Step and scans': noted by the backward scan one after the other into what is lent for them, then tried one after the other.
+-- The candidates of the paper, 'Step and scans', as the code notes them in the lent slice and then tries them, one after the other: the terms of its contracts.
 use mathlib.Core.Path.{_≡_}
 use mathlib.Core.Bool.{Bool, true, false, cond, _||_}
 use mathlib.Core.List.{List, [], _∷_, _++_}

@@ -18,13 +18,13 @@ ghost use Rattle.scans.specs.Quick.{QuickGoes, QuickPart, ScansQuick};
 ghost use Rattle.scans.specs.Parts.{Seam, Straight, Queued, Ringed, Within, forwardOf, ForwardPart, Finds, backwardOf, AddsEntry, withBestAt, withLast, pausedAt, stoppedAt, Fresh, Backs, BackwardPart};
 ghost use Rattle.scans.specs.Search.{noPosition, candidatesIn, FreshSearch, notingAt, goneOn, finishedOf, Searches, NextCandidate, ScansBackward, Holds, FreshTrial, NextTrial};
 
-// How many places long a fall below the best may last before the backward scan stops; `Off` is the whole window.
+// The backward scan stops where its score lies more than this many thresholds below the best; `Off` stands for as many as the window has places.
 pub enum Xdrop {
     Off,
     Length(u32),
 }
 
-// The numbers that a run goes by: `least` is min_start_cnt, `limit` is xdrop times the threshold, `test` is max_test.
+// The numbers that a run goes by: `least` is min_start_cnt, `limit` the drop limit, `test` max_test.
 pub struct Params {
     pub kmer: usize,
     pub window: usize,
@@ -444,7 +444,7 @@ impl Carry {
     }
 }
 
-// A place from which a forward scan is tried, with the backward scan's best score when it was noted.
+// A candidate, with the Rust's names: a place from which a forward scan is tried, with the backward scan's best score when it was noted.
 #[repr(C)]
 pub struct ForwardPosition {
     pub pos: u32,
@@ -466,7 +466,7 @@ struct BackwardState {
 }
 
 impl BackwardState {
-    // A scan that has read no entry; `low` is one past the first to read, or what it is to be after the last.
+    // A scan that has read no entry; `low` is one past the first to read. A quick scan sets it only where it stops, and begins with 0.
     fn new(low: usize) -> Self
         ensures { λ r. ⌜ Fresh low r ⌝ }
     {
@@ -527,7 +527,7 @@ impl BackwardState {
         self
     }
 
-    // Whether the score falls from a peak above 0 that is as high as the best.
+    // Whether the score falls from a peak above 0 and within 1e-9 of the best.
     fn leaves_peak(self, sl: f64) -> bool
         ensures { λ r. ⌜ r ≡ isNoted (backwardOf self) sl ⌝ }
     {
@@ -1037,7 +1037,8 @@ fn scan_quickly(
 }
 
 // After a quick scan: the carried scan with the newest entry, on where that tells a find.
-// It does if the quick scan met no near tie, its best place is `last`, where the carried scan started, and the newest entry is the best of that scan.
+// It does if the quick scan met no near tie, its best place is `last`, where the carried scan started,
+// no score of that scan is above the limit of a forward scan from there, and the newest entry is its best.
 fn carry_ahead(
     p: Params,
     carry: Carry,

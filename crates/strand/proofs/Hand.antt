@@ -38,15 +38,10 @@ close-none (negsuc s) end saved h = refl
 abbrev Whole32 : ℤ → Type 0
 Whole32 z = T (nonNeg z) × Fits w32 (natAbs z)
 
-start-whole : (start end : ℤ) → ltZ start (pos 0) ≡ false → Closing start end → Whole32 start
-start-whole (pos s) (pos e) h c = (tt, record { fits = c .0 })
-start-whole (pos s) (negsuc e) h c = absurd c
-start-whole (negsuc s) end h c = absurd (subst (λ (b : Bool). T b) h tt)
-
-end-whole : (start end : ℤ) → ltZ start (pos 0) ≡ false → Closing start end → Whole32 end
-end-whole (pos s) (pos e) h c = (tt, record { fits = c .1 })
-end-whole (pos s) (negsuc e) h c = absurd c
-end-whole (negsuc s) end h c = absurd (subst (λ (b : Bool). T b) h tt)
+both-whole : (start end : ℤ) → ltZ start (pos 0) ≡ false → Closing start end → Whole32 start × Whole32 end
+both-whole (pos s) (pos e) h c = ((tt, record { fits = c .0 }), (tt, record { fits = c .1 }))
+both-whole (pos s) (negsuc e) h c = absurd c
+both-whole (negsuc s) end h c = absurd (subst (λ (b : Bool). T b) h tt)
 
 save-is : (start end : ℤ) (saved : List Interval) → ltZ start (pos 0) ≡ false → Closing start end
     → save saved (natAbs start) (natAbs end) ≡ saveFrom saved start end
@@ -56,10 +51,10 @@ save-is (negsuc s) end saved h c = absurd (subst (λ (b : Bool). T b) h tt)
 
 module _ {start end : ℤ} (fs : SFits w64 start) (fe : SFits w64 end) (h : ltZ start (pos 0) ≡ false) (c : Closing start end) where
   pub cast-start : Whole32 (toZ w64 (ofZ w64 start))
-  cast-start = subst (λ (z : ℤ). Whole32 z) (sym (toZ-ofZ fs)) (start-whole start end h c)
+  cast-start = subst (λ (z : ℤ). Whole32 z) (sym (toZ-ofZ fs)) (both-whole start end h c .0)
 
   pub cast-end : Whole32 (toZ w64 (ofZ w64 end))
-  cast-end = subst (λ (z : ℤ). Whole32 z) (sym (toZ-ofZ fe)) (end-whole start end h c)
+  cast-end = subst (λ (z : ℤ). Whole32 z) (sym (toZ-ofZ fe)) (both-whole start end h c .1)
 
   pub save-back : (saved : List Interval) → save saved (natAbs (toZ w64 (ofZ w64 start))) (natAbs (toZ w64 (ofZ w64 end))) ≡ saveFrom saved start end
   save-back saved = ap₂ (λ (x y : ℤ). save saved (natAbs x) (natAbs y)) (toZ-ofZ fs) (toZ-ofZ fe) ∙ save-is start end saved h c

@@ -1,4 +1,4 @@
--- Made by tools/lift from the prover's `Reads` of `inner_process` over a slice of `[u64; 2]`; not to be edited. Assumes nothing.
+-- Made by tools/lift from the prover's `Reads` of `inner_process` over a slice of `[u64; 2]`; not to be edited.
 use Rattle.strand.proofs.inner_process
 use Rattle.strand.proofs.InnerProcessKinds as Kinds
 use base.Logic

@@ -21,7 +21,7 @@ use Rattle.scans.specs.Counts.{count, raise, lower}
 use Rattle.scans.specs.Window.{queue, ringIndex, window, countedValue, Windowed}
 use Rattle.scans.proofs.Counting.{Counted, hit-self, count-le, raise-counted, lower-counted}
 use Rattle.scans.proofs.Ring.{ring-index-at, queue-length, queue-join, queue-leave, window-join, window-leave, window-length}
-use Rattle.scans.proofs.Values.{decode-below}
+use Rattle.scans.proofs.Values.{decode-below, decoded-below}
 use Rattle.scans.proofs.Windows.{long}
 use Rattle.strand.specs.Step.{sumWithout, sumWith, countsWithout, lastWithout, withoutOldest, leave, join}
 use Rattle.strand.specs.declared.Window.{Window}
@@ -44,11 +44,6 @@ pub more-plain : (ln : List Float) (counts : List ℕ) (sum : Float) {v : Float}
 more-plain ln counts sum h v-is = rw (v-is, h)
 
 -- ---- The places of a queue.
-decoded-below : (m : ℕ) (l : List ℕ) → ((j : ℕ) → j < length l → getD l j 0 / 2 < m) → Below m (decoded l)
-unfolding decoded
-decoded-below m [] h = tt
-decoded-below m (e ∷ l) h = (decode-below m e (h 0 (omega arith)), decoded-below m l (λ j k. h (suc j) (omega arith)))
-
 queue-less : (ring : List ℕ) (head n len : ℕ) → n ≤ len → queue ring head n ≡ take n (queue ring head len)
 unfolding queue
 queue-less ring head n len h = sym (take-take n len (drop head ring ++ take head ring) h)

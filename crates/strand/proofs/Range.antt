@@ -1,20 +1,21 @@
--- Where the flag of an accepted setup says yes, T and the table entries lie in the ranges that the evidence asks for.
+-- Where the flag of a checked setup says yes, T and the table entries lie in the ranges that the evidence asks for.
 use mathlib.Core.Path.{_≡_, subst}
 use Prim.Native.Nat.{ℕ, zero, suc, _≤_, _<_}
 use native.Mathlib.Omega.{arith}
 use mathlib.Core.Logic.{⊎-elim}
-use mathlib.Core.Bool.{Bool, true, false, _&&_, _||_}
+use mathlib.Core.Bool.{Bool, _&&_}
 use mathlib.Core.List.{List}
 use lib.ListN.{getD}
 use lib.Dec.{T}
-use lib.Ieee.{Float, nan, lt, le, eq}
+use lib.Ieee.{Float, nan, le}
 use lib.Ieee.Fits.{and-l, and-r}
 use Rattle.floats.specs.Binary64.{zero64, sixteen, twoTo20}
+use Rattle.floats.proofs.Order.{lt-le}
 use Rattle.floats.proofs.Range.{ranged-16, ranged-20}
 use Rattle.intervals.proofs.Order.{lt-or-le}
 use Rattle.scans.specs.Setup.{Setup, lnAt, fAt}
 use Rattle.scans.proofs.Gain.{InRange}
-use Rattle.strand.specs.Range.{between, tableInRange, inRange, Accepted}
+use Rattle.strand.specs.Range.{between, tableInRange, inRange, CheckedSetup}
 
 table-at : (high : Float) (table : List Float) (w : ℕ) → T (tableInRange high table w) → (c : ℕ) → 0 < c → c ≤ w → T (between high (getD table c nan))
 unfolding tableInRange
@@ -24,15 +25,7 @@ table-at high table (suc w) t c a b =
     ⊎-elim (λ (l : c < suc w). table-at high table w (and-l (tableInRange high table w) last t) c a (omega arith))
     (λ (l : suc w ≤ c). let e : suc w ≡ c = omega arith in subst (λ (z : ℕ). T (between high (getD table z nan))) e (and-r (tableInRange high table w) last t)) (lt-or-le c (suc w))
 
-lt-le : (x y : Float) → T (lt x y) → T (le x y)
-unfolding le
-lt-le x y = go (lt x y) (eq x y)
-  where
-    go : (a b : Bool) → T a → T (a || b)
-    go true b t = tt
-    go false b t = absurd t
-
-pub in-range : (S : Setup) → Accepted S → T (inRange S) → InRange S
+pub in-range : (S : Setup) → CheckedSetup S → T (inRange S) → InRange S
 unfolding inRange
 in-range S a t =
     let w : ℕ = S .window-size in

@@ -29,8 +29,8 @@ use Rattle.strand.specs.declared.Going.{Going}
 use Rattle.strand.specs.declared.Look.{Look}
 use Rattle.strand.specs.declared.Look.the-variants.{Pass, Extension, Scan}
 use Rattle.strand.specs.Kept.{Kept, Sought, Passes, Clearing, extendedOf, answeredBy, Like}
-use Rattle.strand.specs.Held.{heldBy, Entered, lookBy, Looks, lastBy, Seeks, Found, Closing, Saving, Settled, unread, noInterval, readOn, Skims, Stops, Lent, Ran}
-use Rattle.strand.specs.Running.{Lasting, StartOk, Shaped, Before, begun, Answer, Due}
+use Rattle.strand.specs.Held.{heldBy, Entered, lookBy, Looks, lastBy, Seeks, Found, Closing, Saving, Settled, unread, noInterval, readOn, Skims, Stops, PartLent, StrandLent, Ran}
+use Rattle.strand.specs.Running.{StartOk, Shaped, Before, begun, ScanAnswer, Due}
 use Rattle.strand.proofs.Shape.{ShapedAt, shaped-more, saved-room, begin-shaped, step-shaped}
 use Rattle.strand.proofs.Keeping.{kept-unread}
 use Rattle.strand.proofs.Like.{ended, like-refl, like-start, like-end, like-saved}
@@ -61,20 +61,11 @@ saving {k} {i} {o} {starts} {ends} n some small l in-starts in-ends h =
 pub cleared-is : {counts : List ℕ} {n m : ℕ} → n ≡ m → counts ≡ replicate n 0 → counts ≡ replicate m 0
 cleared-is e h = h ∙ ap (λ (n : ℕ). replicate n 0) e
 
--- What the parts of the run ask of the slices that they are lent.
-pub lasting : {p : Params} {n n-ln n-f n-ring n-window-counts n-counts n-candidates n-starts n-ends n-counts′ n-starts′ n-ends′ : ℕ}
-    → Lent p n n-ln n-f n-ring n-window-counts n-counts n-candidates n-starts n-ends → n-counts′ ≡ 4 ^ p .kmer → n-starts′ ≡ n-starts → n-ends′ ≡ n-ends
-    → Lasting p n n-f n-counts′ n-starts′ n-ends′
-lasting l c s e =
-    record {
-      kmer-some = l .kmer-some;
-      kmer-small = l .kmer-small;
-      letters-in = l .letters-in;
-      f-long = l .roomy .f-long;
-      counts-is = c;
-      starts-long = rw s (l .starts-long);
-      ends-long = rw e (l .ends-long);
-    }
+-- What a part of the run asks of the slices, which are as long as they were.
+pub part-lent : {p : Params} {n n-ln n-f n-ring n-window-counts n-counts n-candidates n-starts n-ends n-counts′ n-starts′ n-ends′ : ℕ}
+    → StrandLent p n n-ln n-f n-ring n-window-counts n-counts n-candidates n-starts n-ends → n-counts′ ≡ 4 ^ p .kmer → n-starts′ ≡ n-starts → n-ends′ ≡ n-ends
+    → PartLent p n n-f n-counts′ n-starts′ n-ends′
+part-lent l c s e = rw (c ∙ sym (l .part .counts-is), s, e) (l .part)
 
 -- ---- No letter yet.
 begun-is : (S : Setup) (ring counts starts ends : List ℕ) → counts ≡ cleared S → heldBy (unread .window) noInterval ring counts (rows 0 starts ends) ≡ begin S
@@ -87,14 +78,14 @@ begun-kept S ring counts h = rw h kept-unread
 
 module _ {p : Params} {codes : List ℕ} {ln f : List Float} {ring window-counts counts starts ends : List ℕ} where
   pub inv-start : {n-f n-window-counts n-counts n-candidates n-starts n-ends : ℕ} {g : Going}
-      → Lent p (length codes) (length ln) n-f (length ring) n-window-counts n-counts n-candidates n-starts n-ends
+      → StrandLent p (length codes) (length ln) n-f (length ring) n-window-counts n-counts n-candidates n-starts n-ends
       → (g ≡ begun) × (window-counts ≡ replicate n-window-counts 0) × (counts ≡ replicate n-counts 0)
       → Before p codes ln f (g .at) (g .hand) ring window-counts counts starts ends
   unfolding run queue decoded
   inv-start l (e, hw, hc) =
       let S = setupOf p ln f in
       let window-clear = cleared-is (l .window-counts-are) hw in
-      let clear = cleared-is (l .roomy .counts-is) hc in
+      let clear = cleared-is (l .part .counts-is) hc in
       let b = begun-is S ring counts starts ends clear in
       rw e
       (record {
@@ -218,7 +209,7 @@ module _ {p : Params} {codes : List ℕ} {ln f : List Float} {at : Reading} {o :
     pub scan-clearing : length counts₁ ≡ 4 ^ p .kmer → Clearing (r .window) (window ring (r .window .head) (r .window .len)) counts₁
     scan-clearing c = clearing kept-still (entered .windowed) refl c
 
-    answer-seeks : {a : Scanned} {counts′ : List ℕ} → Answer p ln f (r .window) ring a counts′
+    answer-seeks : {a : Scanned} {counts′ : List ℕ} → ScanAnswer p ln f (r .window) ring a counts′
         → (saved : List Interval) → Seeks (setupOf p ln f) (window ring (r .window .head) (r .window .len)) (r .window)
         (lookBy (setupOf p ln f) (r .i) (heldBy (r .window) o ring counts saved) (decode (r .entry))) (answeredBy (r .window) (a .found) (a .carry)) counts′
     answer-seeks h saved =

@@ -32,14 +32,14 @@ lt-back-or fx fy fz h = rw (toZ-ofZ fx, toZ-ofZ fy, toZ-ofZ fz) at h
 pub zero-fits : SFits w64 (pos 0)
 zero-fits = sfits-lit tt
 
-by-test : (a b : ℕ) (t : Bool) → a < 2 ^ 63 → b < 2 ^ 63 → mag (cond t (negsuc (b - suc a)) (pos (a - b))) < 2 ^ 63
-by-test a b true h k = omega arith
-by-test a b false h k = omega arith
+diff-small : (a b : ℕ) (t : Bool) → a < 2 ^ 63 → b < 2 ^ 63 → mag (cond t (negsuc (b - suc a)) (pos (a - b))) < 2 ^ 63
+diff-small a b true h k = omega arith
+diff-small a b false h k = omega arith
 
 -- A difference of two numbers that are not below 0.
 pub diff-fits : (a b : ℕ) → a < 2 ^ 63 → b < 2 ^ 63 → SFits w64 (pos a -ℤ pos b)
 diff-fits a zero h k = record { sfits = omega arith }
-diff-fits a (suc b) h k = record { sfits = by-test a (suc b) (ltb a (suc b)) h k }
+diff-fits a (suc b) h k = record { sfits = diff-small a (suc b) (ltb a (suc b)) h k }
 
 -- ---- Tests.
 pub at-bits : (z : ℤ) (i : ℕ) → SFits w64 z → i < 2147483648 → eqb i (ofZ w64 z) ≡ isAt z i

@@ -12,7 +12,7 @@ use Rattle.intervals.proofs.Shape.{canonical-room}
 use Rattle.scans.specs.Setup.{Setup}
 use Rattle.scans.specs.Score.{Evidence}
 use Rattle.strand.specs.Step.{intervalsOf}
-use Rattle.strand.specs.Range.{inRange, Accepted}
+use Rattle.strand.specs.Range.{inRange, CheckedSetup}
 use Rattle.strand.proofs.Shape.{places-canonical}
 use Rattle.strand.proofs.Evidence.{places-evidence}
 use Rattle.strand.proofs.Range.{in-range}
@@ -27,7 +27,7 @@ pub strand-room : (S : Setup) (codes : List ℕ) → length (intervalsOf S codes
 strand-room S codes = canonical-room (length codes) (S .kmer) (intervalsOf S codes) (strand-shape S codes)
 
 -- Every letter that the list covers lies in the letters of a stretch of at most w places whose exact score is at least -(n + w + 4) / 2^32.
-pub strand-evidence : (S : Setup) (codes : List ℕ) → Accepted S → T (inRange S) → length codes < 2147483648
+pub strand-evidence : (S : Setup) (codes : List ℕ) → CheckedSetup S → T (inRange S) → length codes < 2147483648
     → (x : ℕ) → Covers (intervalsOf S codes) x → Evidence S (places (S .kmer) codes) x
 unfolding intervalsOf
 strand-evidence S codes a t l x c =

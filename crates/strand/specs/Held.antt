@@ -20,7 +20,7 @@ use Rattle.scans.specs.declared.Params.{Params}
 use Rattle.scans.specs.Setup.{Setup, setupOf}
 use Rattle.scans.specs.Counts.{count, raise}
 use Rattle.scans.specs.Scans.{Find, none, at, Outcome, extends, dustBackward}
-use Rattle.scans.specs.Window.{window, findOf, Windowed, Roomy}
+use Rattle.scans.specs.Window.{window, findOf, Windowed}
 use Rattle.scans.specs.Carry.{noCarry}
 use Rattle.strand.specs.Step.{Run, leave, join, isAt, search, st2, startAfter, whole, saveFrom, savedAfter, look, runFrom, run}
 use Rattle.strand.specs.declared.Window.{Window}
@@ -223,19 +223,25 @@ pub record Skimmed (p : Params) (codes : List ℕ) (ln f : List Float) (from r :
   pub stops : r .i < length codes → Stops p codes ln f from r ring counts ring′ window-counts′ counts′
 
 -- ---- The run over a strand of n letters.
--- The numbers lie in their ranges, and the lent slices have the sizes that the paper lists.
-pub record Lent (p : Params) (n n-ln n-f n-ring n-window-counts n-counts n-candidates n-starts n-ends : ℕ) : Type 0 where
+-- What a part of the run asks: the numbers lie in their ranges, and the slices that it is lent have the sizes that the paper lists.
+pub record PartLent (p : Params) (n n-f n-counts n-starts n-ends : ℕ) : Type 0 where
   pub kmer-some : 0 < p .kmer
   pub kmer-small : p .kmer ≤ 12
   pub letters-in : n < 2147483648
+  pub f-long : p .window < n-f
+  pub counts-is : n-counts ≡ 4 ^ p .kmer
+  pub starts-long : (n + 1) / (p .kmer + 1) ≤ n-starts
+  pub ends-long : (n + 1) / (p .kmer + 1) ≤ n-ends
+
+-- What the whole run asks.
+pub record StrandLent (p : Params) (n n-ln n-f n-ring n-window-counts n-counts n-candidates n-starts n-ends : ℕ) : Type 0 where
+  pub part : PartLent p n n-f n-counts n-starts n-ends
   pub wide : 1 < p .window
   pub small : p .window ≤ 65535
   pub ln-long : p .window < n-ln
   pub ring-is : n-ring ≡ p .window
   pub window-counts-are : n-window-counts ≡ 4 ^ p .kmer
-  pub roomy : Roomy p n-f n-counts n-candidates
-  pub starts-long : (n + 1) / (p .kmer + 1) ≤ n-starts
-  pub ends-long : (n + 1) / (p .kmer + 1) ≤ n-ends
+  pub candidates-long : p .window ≤ n-candidates
 
 -- The run over all letters, and its last interval can be saved.
 pub record Ran (p : Params) (codes : List ℕ) (ln f : List Float) (o : Open) (starts ends : List ℕ) : Type 0 where

@@ -21,7 +21,7 @@ inRange S =
     le (S .threshold) sixteen && (tableInRange sixteen (S .ln) (S .window-size) && tableInRange twoTo20 (S .f) (S .window-size))
 
 -- What the checks and the lent slices give of a setup: w in 1..65,535, T above 0, and every float that is read one of 64 bits.
-pub record Accepted (S : Setup) : Type 0 where
+pub record CheckedSetup (S : Setup) : Type 0 where
   pub window-small : S .window-size ≤ 65535
   pub window-some : 0 < S .window-size
   pub t-fits : T (fits binary64 (S .threshold))

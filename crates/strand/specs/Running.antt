@@ -1,6 +1,6 @@
--- Where the run over a strand stands between its parts: before a letter, at a letter whose backward scan is due, and at the end.
+-- Where the run over a strand stands between its parts, before a letter, at a letter whose backward scan is due and at the end: the terms of their contracts.
 use mathlib.Core.Path.{_≡_}
-use Prim.Native.Nat.{ℕ, _+_, _-_, _/_, _^_, _<_, _≤_}
+use Prim.Native.Nat.{ℕ, _+_, _-_, _^_, _<_, _≤_}
 use mathlib.Core.List.{List}
 use lib.ListN.{length, drop, replicate}
 use lib.IntN.{ℤ, pos, negsuc}
@@ -21,16 +21,6 @@ use Rattle.strand.specs.declared.Reading.{Reading}
 use Rattle.strand.specs.declared.Going.{Going}
 use Rattle.strand.specs.Kept.{answeredBy, Like}
 use Rattle.strand.specs.Held.{heldBy, lastBy, Found, Saving, unread, noInterval, readOn, Read, Ran}
-
--- The numbers lie in their ranges, and the slices that the run changes have the sizes that the paper lists.
-pub record Lasting (p : Params) (n n-f n-counts n-starts n-ends : ℕ) : Type 0 where
-  pub kmer-some : 0 < p .kmer
-  pub kmer-small : p .kmer ≤ 12
-  pub letters-in : n < 2147483648
-  pub f-long : p .window < n-f
-  pub counts-is : n-counts ≡ 4 ^ p .kmer
-  pub starts-long : (n + 1) / (p .kmer + 1) ≤ n-starts
-  pub ends-long : (n + 1) / (p .kmer + 1) ≤ n-ends
 
 -- After i letters: what is saved is canonical and ends before end, and start, if it is not negative, lies k letters or more before end.
 abbrev pub StartOk : ℕ → ℤ → ℕ → Type 0
@@ -57,15 +47,15 @@ begun = record { at = unread; hand = noInterval; last = 0 }
 
 -- ---- At a letter whose backward scan is due, from cleared counts.
 -- What is known of the answer r to such a scan, which leaves the scan counts counts′.
-abbrev pub Answer : Params → (ln f : List Float) → Window → List ℕ → Scanned → List ℕ → Type 0
-Answer p ln f w ring r counts′ =
+abbrev pub ScanAnswer : Params → (ln f : List Float) → Window → List ℕ → Scanned → List ℕ → Type 0
+ScanAnswer p ln f w ring r counts′ =
     Answers (setupOf p ln f) (window ring (w .head) (w .len)) (dustBackward (setupOf p ln f) (window ring (w .head) (w .len))) r counts′
 
 -- The letter after it, with the window that the answer leaves.
 abbrev pub readAfter : Reading → Scanned → Reading
 readAfter at r = readOn at (lastBy (answeredBy (at .window) (r .found) (r .carry) .window) (findOf (r .found)))
 
-pub record Answered (k : ℕ) (g : Going) (r : Scanned) (g′ : Going) (starts ends starts′ ends′ : List ℕ) : Type 0 where
+pub record ScanAnswered (k : ℕ) (g : Going) (r : Scanned) (g′ : Going) (starts ends starts′ ends′ : List ℕ) : Type 0 where
   pub at-is : g′ .at ≡ readAfter (g .at) r
   pub found : Found k (g .at .i) (g .at .window .len) (g .hand) (g′ .hand) (findOf (r .found)) (rows (g .hand .count) starts ends) (rows (g′ .hand .count) starts′ ends′)
 
@@ -76,9 +66,9 @@ pub record Due (p : Params) (codes : List ℕ) (ln f : List Float) (g : Going) (
   pub clear : counts ≡ replicate (4 ^ p .kmer) 0
   pub carried : Carried (setupOf p ln f) (drop (g .last) (window ring (g .at .window .head) (g .at .window .len - 1))) (g .at .window .carry)
   pub saving : Saving (g .hand) starts ends
-  pub within : (r : Scanned) (counts′ : List ℕ) → Answer p ln f (g .at .window) ring r counts′ → r .found ≤ g .at .window .len
-  pub leads : (r : Scanned) (g′ : Going) (counts′ starts′ ends′ : List ℕ) → Answer p ln f (g .at .window) ring r counts′
-      → Answered (p .kmer) g r g′ starts ends starts′ ends′ → Before p codes ln f (g′ .at) (g′ .hand) ring window-counts counts′ starts′ ends′
+  pub within : (r : Scanned) (counts′ : List ℕ) → ScanAnswer p ln f (g .at .window) ring r counts′ → r .found ≤ g .at .window .len
+  pub leads : (r : Scanned) (g′ : Going) (counts′ starts′ ends′ : List ℕ) → ScanAnswer p ln f (g .at .window) ring r counts′
+      → ScanAnswered (p .kmer) g r g′ starts ends starts′ ends′ → Before p codes ln f (g′ .at) (g′ .hand) ring window-counts counts′ starts′ ends′
 
 -- ---- The next letter whose backward scan is due, or the end.
 pub record Reached (p : Params) (codes : List ℕ) (ln f : List Float) (i : ℕ) (g : Going) (ring window-counts counts starts ends : List ℕ) : Type 0 where

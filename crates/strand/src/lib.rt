@@ -17,10 +17,10 @@ ghost use Rattle.scans.specs.Window.{findOf, window, Windowed};
 ghost use Rattle.scans.specs.Parts.{Queued};
 ghost use Rattle.strand.specs.Step.{whole, lastWithout, isAt, st2, startAfter, saveFrom, savedAfter, intervalsOf};
 ghost use Rattle.strand.specs.Held.{heldBy, sumLess, sumMore, Left, Joined, triedBy, Extended};
-ghost use Rattle.strand.specs.Held.{lastBy, Found, Saving, unread, noInterval, readOn, Lent};
+ghost use Rattle.strand.specs.Held.{lastBy, Found, Saving, unread, noInterval, readOn, PartLent, StrandLent};
 ghost use Rattle.strand.specs.Held.{isSearched, Looks, Read, Skimmed};
 ghost use Rattle.strand.specs.Kept.{Passing, Passes, Clearing, extendedOf, answeredBy};
-ghost use Rattle.strand.specs.Running.{Lasting, Before, Reached, Answered, begun};
+ghost use Rattle.strand.specs.Running.{Before, Reached, ScanAnswered, begun};
 
 // ---- The window.
 
@@ -327,6 +327,7 @@ enum Look {
     Scan,
 }
 
+// The window and the interval in hand.
 struct State {
     window: Window,
     hand: Open,
@@ -536,7 +537,7 @@ impl Going {
     ) -> Self
         requires { ⌜ (self .at .i < 2147483648) × (self .at .window .len < 65536) × (r .found ≤ self .at .window .len) × (p .kmer ≤ 12) ⌝ }
         requires { ⌜ Saving (self .hand) (now starts) (now ends) ⌝ }
-        ensures { λ g. ⌜ Answered (p .kmer) self r g (now (starts .entry)) (now (ends .entry)) (now (starts .exit)) (now (ends .exit)) ⌝ }
+        ensures { λ g. ⌜ ScanAnswered (p .kmer) self r g (now (starts .entry)) (now (ends .entry)) (now (starts .exit)) (now (ends .exit)) ⌝ }
     {
         let at = self.at;
         let window = at.window;
@@ -581,7 +582,7 @@ fn until_scan(
     starts: &mut [u32],
     ends: &mut [u32],
 ) -> Going
-    requires { ⌜ Lasting p (length (now codes)) (length (now f)) (length (now «scan_counts»)) (length (now starts)) (length (now ends)) ⌝ }
+    requires { ⌜ PartLent p (length (now codes)) (length (now f)) (length (now «scan_counts»)) (length (now starts)) (length (now ends)) ⌝ }
     requires { ⌜ Before p (now codes) (now ln) (now f) (from .at) (from .hand) (now queue) (now «window_counts») (now «scan_counts») (now starts) (now ends) ⌝ }
     ensures { λ r. ⌜ Reached p (now (codes .entry)) (now (ln .entry)) (now (f .entry)) (from .at .i) r
         (now (queue .exit)) (now («window_counts» .exit)) (now («scan_counts» .exit)) (now (starts .exit)) (now (ends .exit)) ⌝ }
@@ -638,7 +639,7 @@ pub fn inner_process(
     starts: &mut [u32],
     ends: &mut [u32],
 ) -> usize
-    requires { ⌜ Lent p (length (now codes)) (length (now ln)) (length (now f)) (length (now queue))
+    requires { ⌜ StrandLent p (length (now codes)) (length (now ln)) (length (now f)) (length (now queue))
         (length (now «window_counts»)) (length (now «scan_counts»)) (length (now candidates))
         (length (now starts)) (length (now ends)) ⌝ }
     ensures { λ r. ⌜ rows r (now (starts .exit)) (now (ends .exit))

@@ -1,11 +1,10 @@
--- The constants of the definitions are the paper's decimals, each rounded once. Assumes nothing.
+-- The constants that the definitions give by their bits are the numbers that they say they are, each rounded once.
 use mathlib.Core.Path.{_≡_, refl}
 use mathlib.Core.Bool.{false}
 use Prim.Native.Nat.{ℕ, _^_}
 use lib.Ieee.{Float, binary64, round, ofBits, ofInt}
-use Rattle.floats.specs.Binary64.{number, one64}
-use Rattle.tables.specs.Arithmetic.{half, two64}
-use Rattle.tables.specs.Ln.{n21, ln2, root2}
+use Rattle.floats.specs.Binary64.{number}
+use Rattle.tables.specs.Ln.{twentyOne, ln2, root2}
 use Rattle.tables.specs.Exp.{invE}
 use Rattle.tables.specs.F.{epsilon, twelve, nineteen, thirty, pi, euler}
 
@@ -13,21 +12,9 @@ use Rattle.tables.specs.F.{epsilon, twelve, nineteen, thirty, pi, euler}
 abbrev decimal : ℕ → ℕ → Float
 decimal n d = round binary64 false n (10 ^ d)
 
-half-is : half ≡ decimal 5 1
-unfolding ofBits round
-half-is = refl
-
-one-is : one64 ≡ number 1
+twentyOne-is : twentyOne ≡ number 21
 unfolding ofBits ofInt
-one-is = refl
-
-two-is : two64 ≡ number 2
-unfolding ofBits ofInt
-two-is = refl
-
-n21-is : n21 ≡ number 21
-unfolding ofBits ofInt
-n21-is = refl
+twentyOne-is = refl
 
 ln2-is : ln2 ≡ decimal 6931471805599453 16
 unfolding ofBits round

@@ -1,4 +1,4 @@
--- The density records that the code makes, and the numbers of k-mers in the classes: what the code multiplies and shifts stays below 2^64. Assumes nothing.
+-- The density records that the code makes, and the numbers of k-mers in the classes: what the code multiplies and shifts stays below 2^64.
 use mathlib.Core.Path.{_≡_, sym, ap, _∙_}
 use mathlib.Core.List.{List}
 use Prim.Native.Nat.{ℕ, zero, suc, _+_, _-_, _*_, _/_, _%_, _^_, _≤_, _<_}

@@ -1,4 +1,4 @@
--- Closed cases of the formulas; the bits are those of a Rust program with the same formulas. Assumes nothing.
+-- Closed cases of the formulas; the bits are those of a Rust program with the same formulas.
 use mathlib.Core.Path.{_≡_, refl}
 use mathlib.Core.Bool.{true}
 use mathlib.Core.List.{[], _∷_}
@@ -7,7 +7,7 @@ use Rattle.buffers.specs.Fill.{tabulate, tabulateFrom}
 use Rattle.floats.specs.Binary64.{number, zero64, one64}
 use Rattle.letters.specs.Gc.{acgtCount, gcOf}
 use Rattle.tables.specs.declared.GcOption.the-variants.{Auto}
-use Rattle.tables.specs.Arithmetic.{countdown}
+use Rattle.tables.specs.Countdown.{countdown}
 use Rattle.tables.specs.Ln.{lnStep, lnSeries, lnParts, lnScaled, lnOf}
 use Rattle.tables.specs.Exp.{times, powi, expStep, expSeries, expFrom, expNeg}
 use Rattle.tables.specs.Density.{thirteen, uniform, byGc, density}

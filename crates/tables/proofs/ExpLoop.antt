@@ -1,4 +1,4 @@
--- The loop that takes 1 off v, at most 30 times: its turn and its end. Assumes nothing.
+-- The loop that takes 1 off v, at most 30 times: its turn and its end.
 use mathlib.Core.Path.{_≡_, refl}
 use mathlib.Core.Bool.{Bool, true, false, _&&_}
 use Prim.Native.Nat.{ℕ, zero, suc, _+_, _-_, _<_}

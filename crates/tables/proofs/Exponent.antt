@@ -1,13 +1,14 @@
--- A difference of two exponents as a whole number, `minus`, and its float where it is below 0. Assumes nothing.
+-- A difference of two exponents as a whole number, `minus`, and its float where it is below 0.
 use mathlib.Core.Path.{_≡_, refl, sym, ap, _∙_}
-use mathlib.Core.Bool.{Bool, true, false, cond}
-use Prim.Native.Nat.{ℕ, zero, suc, _+_, _-_, _*_, _^_, _≤_, _<_}
+use mathlib.Core.Bool.{Bool, true, false}
+use Prim.Native.Nat.{ℕ, zero, suc, _+_, _-_, _≤_, _<_}
 use native.Mathlib.Omega.{arith}
 use native.Mathlib.Nat.{add-suc, add-zero}
-use lib.Dec.{leb, ltb}
+use lib.Dec.{leb}
 use lib.IntN.{ℤ, pos, negsuc, sucℤ, _+ℤ_, +ℤ-idr, +ℤ-sucℤ}
-use lib.Ieee.{inf, Format, neg, round, units, odd, minus, low, prec, emax, ofInt, binary64}
+use lib.Ieee.{Format, neg, round, minus, ofInt, binary64}
 use borrow.Author.Tests.{le-leb, lt-leb, leb-true, leb-false}
+use Rattle.floats.proofs.Order.{neg-units}
 
 pub minus-le : (a b : ℕ) → b ≤ a → minus a b ≡ pos (a - b)
 minus-le a b h = rw (le-leb b a h)
@@ -61,22 +62,9 @@ minus-same a b c d e =
     sym (minus-both a b d) ∙ ap (λ (n : ℕ). minus n (b + d)) e ∙ ap (λ (n : ℕ). minus (c + b) n) (let k : b + d ≡ d + b = omega arith in k) ∙ minus-both c d b
 
 -- ---- the float of a negative number
-neg-odd : (d q k l : ℕ) → neg (odd d false q k l) ≡ odd d true q k l
-unfolding neg odd
-neg-odd d zero k l = refl
-neg-odd d (suc q) k l = refl
-
-neg-units : (f : Format) (q k : ℕ) → neg (units f false q k) ≡ units f true q k
-unfolding neg units
-neg-units f q k = go (ltb (q * 2 ^ k) (2 ^ (low f + suc (emax f))))
-  where
-    go : (t : Bool) → neg (cond t (odd (suc (prec f)) false q k (low f)) (inf false)) ≡ cond t (odd (suc (prec f)) true q k (low f)) (inf true)
-    go true = neg-odd (suc (prec f)) q k (low f)
-    go false = refl
-
 neg-round : (f : Format) (n d : ℕ) → neg (round f false n d) ≡ round f true n d
 unfolding round
-neg-round f n d = neg-units f _ _
+neg-round f n d = neg-units f false _ _
 
 pub of-minus : (a b : ℕ) → a < b → neg (ofInt binary64 (pos (b - a))) ≡ ofInt binary64 (minus a b)
 unfolding ofInt

@@ -1,4 +1,4 @@
--- The fields of a positive finite float's bits, and the pattern of a significand with 53 digits. Assumes nothing.
+-- The fields of a positive finite float's bits, and the pattern of a significand with 53 digits.
 -- 4503599627370496 is 2^52, 9223372036854775808 is 2^63, and 4602678819172646912 is 1022 times 2^52, the exponent of 1 less the significand's leading digit.
 use mathlib.Core.Path.{_≡_, refl, sym, ap, ap₂, _∙_, subst}
 use mathlib.Core.Bool.{Bool, true, false, not, cond}

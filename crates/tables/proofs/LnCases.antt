@@ -1,4 +1,4 @@
--- What the tests x > 0, x < 1/0 and x == 0 say of x, and ln of x where no digits are read. Assumes nothing.
+-- What the tests x > 0, x < 1/0 and x == 0 say of x, and ln of x where no digits are read.
 use mathlib.Core.Path.{_≡_, refl, _∙_}
 use mathlib.Core.Bool.{Bool, true, false, not, _&&_, _||_, Bool·beq}
 use Prim.Native.Nat.{ℕ, zero, suc, _*_, _<_}
@@ -32,11 +32,11 @@ unfolding ofBits div
 not-a-number = refl
 
 -- ---- the cases
-pub number : (x : Float) → lt zero64 x ≡ true → T (not (isNan x))
+pub positive-number : (x : Float) → lt zero64 x ≡ true → T (not (isNan x))
 unfolding ofBits lt isNan
-number nan h = clash (lt zero64 nan) h refl
-number (inf s) h = tt
-number (fin s m e) h = tt
+positive-number nan h = clash (lt zero64 nan) h refl
+positive-number (inf s) h = tt
+positive-number (fin s m e) h = tt
 
 pub ln-infinite : (x : Float) → lt zero64 x ≡ true → lt x (inf false) ≡ false → x ≡ lnOf x
 unfolding ofBits lt lnOf

@@ -1,4 +1,4 @@
--- ln of a positive float by its digits: shifting them up to 53 digits scales them to 1 <= m < 2. Assumes nothing.
+-- ln of a positive float by its digits: shifting them up to 53 digits scales them to 1 <= m < 2.
 use mathlib.Core.Path.{_≡_, refl, sym, ap, ap₂, _∙_, subst}
 use mathlib.Core.Bool.{false}
 use Prim.Native.Nat.{ℕ, zero, suc, _+_, _-_, _*_, _/_, _%_, _^_, _≤_, _<_}

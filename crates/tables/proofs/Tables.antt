@@ -1,4 +1,4 @@
--- The two tables' lengths, a buffer that holds the ln table, and the classes: they fit their record, and a sequence and its reverse complement have the same. Assumes nothing.
+-- The two tables' lengths, a buffer that holds the ln table, and the classes: they fit their record, and a sequence and its reverse complement have the same.
 use mathlib.Core.Path.{_≡_, refl, sym, ap, _∙_}
 use mathlib.Core.List.{List}
 use Prim.Native.Nat.{ℕ, _+_, _≤_}

@@ -1,13 +1,13 @@
--- The turns and ends of the loops over the terms of a class and over the classes, and f's first entry. Assumes nothing.
+-- The turns and ends of the loops over the terms of a class and over the classes, and f's first entry.
 use mathlib.Core.Path.{_≡_, refl}
 use mathlib.Core.Bool.{true, false}
 use Prim.Native.Nat.{ℕ, zero, suc, _+_, _^_}
 use native.Mathlib.Numerals.{add-one}
 use lib.ListN.{getD}
 use lib.Ieee.{Float, nan, le}
+use Rattle.floats.specs.Arithmetic.{_⊕_, _⊗_, _⊘_}
 use Rattle.floats.specs.Binary64.{number, zero64}
 use Rattle.tables.specs.declared.Density.{Density}
-use Rattle.floats.specs.Arithmetic.{_⊕_, _⊗_, _⊘_}
 use Rattle.tables.specs.Ln.{lnOf}
 use Rattle.tables.specs.F.{epsilon, termsFrom, fClass, classesFrom, fOf}
 

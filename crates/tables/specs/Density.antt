@@ -4,13 +4,12 @@ use mathlib.Core.List.{List}
 use lib.ListN.{replicate}
 use lib.Ieee.{Float}
 use Rattle.buffers.specs.Fill.{put, tabulate}
-use Rattle.floats.specs.Binary64.{number, zero64, one64}
+use Rattle.floats.specs.Arithmetic.{_⊖_, _⊗_, _⊘_}
+use Rattle.floats.specs.Binary64.{number, zero64, half64, one64}
 use Rattle.letters.specs.Gc.{gcOf}
 use Rattle.tables.specs.declared.Density.{Density}
 use Rattle.tables.specs.declared.GcOption.{GcOption}
 use Rattle.tables.specs.declared.GcOption.the-variants.{Uniform, Fixed, Auto}
-use Rattle.floats.specs.Arithmetic.{_⊖_, _⊗_, _⊘_}
-use Rattle.tables.specs.Arithmetic.{half}
 use Rattle.tables.specs.Exp.{powi}
 
 -- Thirteen numbers: f 0 .. f (n - 1), the others 0.
@@ -23,7 +22,7 @@ uniform k = record { ratio = thirteen (λ i. one64) 1; count = thirteen (λ i. n
 
 -- How much more often than 1 in 4^k a k-mer with i letters C or G is expected.
 unfoldable pub ratioAt : ℕ → Float → ℕ → Float
-ratioAt k gc i = powi (gc ⊘ half) i ⊗ powi ((one64 ⊖ gc) ⊘ half) (k - i)
+ratioAt k gc i = powi (gc ⊘ half64) i ⊗ powi ((one64 ⊖ gc) ⊘ half64) (k - i)
 
 -- k over i
 unfoldable pub binomial : ℕ → ℕ → ℕ

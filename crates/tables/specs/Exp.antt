@@ -2,9 +2,9 @@
 use Prim.Native.Nat.{ℕ, zero, suc, _+_}
 use mathlib.Core.Bool.{cond}
 use lib.Ieee.{Float, binary64, le, ofBits}
-use Rattle.floats.specs.Binary64.{number, one64}
 use Rattle.floats.specs.Arithmetic.{_⊖_, _⊗_, _⊘_}
-use Rattle.tables.specs.Arithmetic.{countdown}
+use Rattle.floats.specs.Binary64.{number, one64}
+use Rattle.tables.specs.Countdown.{countdown}
 
 -- 0.36787944117144233
 abbrev pub invE : Float

@@ -3,10 +3,9 @@ use Prim.Native.Nat.{ℕ, zero, suc, _^_}
 use mathlib.Core.Bool.{cond}
 use lib.ListN.{getD}
 use lib.Ieee.{Float, nan, binary64, le, lt, ofBits}
-use Rattle.floats.specs.Binary64.{number, zero64, one64}
-use Rattle.tables.specs.declared.Density.{Density}
 use Rattle.floats.specs.Arithmetic.{_⊕_, _⊖_, _⊗_, _⊘_}
-use Rattle.tables.specs.Arithmetic.{half, two64}
+use Rattle.floats.specs.Binary64.{number, zero64, half64, one64, two64}
+use Rattle.tables.specs.declared.Density.{Density}
 use Rattle.tables.specs.Ln.{lnOf}
 use Rattle.tables.specs.Exp.{expNeg}
 
@@ -48,12 +47,12 @@ unfoldable pub terms : Float → Float
 terms lambda = termsFrom 9999 2 lambda zero64 zero64 lambda
 
 unfoldable pub stirlingsApprox : Float → Float
-stirlingsApprox lambda = lambda ⊗ (lnOf lambda ⊖ one64) ⊕ half ⊗ lnOf (two64 ⊗ pi ⊗ euler ⊗ lambda)
+stirlingsApprox lambda = lambda ⊗ (lnOf lambda ⊖ one64) ⊕ half64 ⊗ lnOf (two64 ⊗ pi ⊗ euler ⊗ lambda)
 
 unfoldable pub fLarge : Float → Float
 fLarge lambda =
     stirlingsApprox lambda
-    ⊖ one64 ⊘ (twelve ⊗ lambda) ⊗ (one64 ⊕ half ⊘ lambda ⊕ nineteen ⊘ (thirty ⊗ lambda ⊗ lambda))
+    ⊖ one64 ⊘ (twelve ⊗ lambda) ⊗ (one64 ⊕ half64 ⊘ lambda ⊕ nineteen ⊘ (thirty ⊗ lambda ⊗ lambda))
 
 -- The expected score of one k-mer that is expected lambda times.
 unfoldable pub fClass : Float → Float

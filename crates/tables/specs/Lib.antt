@@ -1,4 +1,4 @@
-pub mod Arithmetic
+pub mod Countdown
 pub mod Ln
 pub mod Exp
 pub mod Density

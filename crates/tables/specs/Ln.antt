@@ -3,13 +3,13 @@ use Prim.Native.Nat.{ℕ, zero, suc, _+_, _-_, _*_}
 use mathlib.Core.Bool.{true, false, cond}
 use lib.IntN.{ℤ, pos, _+ℤ_}
 use lib.Ieee.{Float, nan, inf, fin, binary64, lt, ofBits, ofInt, minus, size}
-use Rattle.floats.specs.Binary64.{number, one64}
 use Rattle.floats.specs.Arithmetic.{_⊕_, _⊖_, _⊗_, _⊘_}
-use Rattle.tables.specs.Arithmetic.{two64, countdown}
+use Rattle.floats.specs.Binary64.{number, one64, two64}
+use Rattle.tables.specs.Countdown.{countdown}
 
 -- 21.0
-abbrev pub n21 : Float
-n21 = ofBits binary64 0x4035_0000_0000_0000
+abbrev pub twentyOne : Float
+twentyOne = ofBits binary64 0x4035_0000_0000_0000
 
 -- 0.6931471805599453
 abbrev pub ln2 : Float
@@ -25,7 +25,7 @@ lnStep q j h = h ⊗ q ⊕ one64 ⊘ number (2 * j + 1)
 
 -- h = 1/21; for d = 19, 17 .. 1
 unfoldable pub lnSeries : Float → Float
-lnSeries q = countdown (lnStep q) 10 (one64 ⊘ n21)
+lnSeries q = countdown (lnStep q) 10 (one64 ⊘ twentyOne)
 
 -- e times 0.6931471805599453 + (2z) times h
 unfoldable pub lnParts : Float → ℤ → Float

@@ -24,7 +24,7 @@ fn ln_at(ln: &[f64], w: usize, n: u32) -> f64
     }
 }
 
-// The terms of n = 2 .. 10000, up to the first that no longer counts.
+// The terms of n = 2 .. 10000, up to the first that is too small to count.
 fn terms(lambda: f64, ln: &[f64], w: usize) -> f64
     requires { ⌜ take (w + 1) (now ln) ≡ lnTable w ⌝ }
     ensures { λ r. ⌜ r ≡ terms lambda ⌝ }

@@ -1,4 +1,4 @@
-// exp of a number below 0, and whole powers.
+// exp(-v), and whole powers.
 
 ghost use mathlib.Core.Path.{_≡_};
 ghost use Rattle.tables.specs.Exp.{times, powi, expSeries, expNeg};

@@ -15,7 +15,7 @@ mod logarithm;
 
 pub use background::classes;
 
-// The share of C and G among the letters, from which each k-mer's expected number follows.
+// The GC choice: the share of C and G among the letters, from which each k-mer's expected number follows.
 pub enum GcOption {
     Uniform,
     Fixed(f64),

@@ -51,7 +51,7 @@ fn ln_scaled(m: f64, a: u32, b: u32) -> f64
     }
 }
 
-// ln of q * 2^k of the smallest positive floats.
+// ln of q * 2^k times the smallest float above 0, which is 2^-1074.
 fn ln_digits(q: u64, k: u32) -> f64
     requires { ⌜ (0 < q) × (q < 2 ^ 53) × (k < 2046) ⌝ }
     ensures { λ r. ⌜ r ≡ lnOf (odd 53 false q k 1074) ⌝ }

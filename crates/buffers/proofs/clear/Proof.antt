@@ -1,4 +1,4 @@
--- `buffers::clear` meets its contract: after i turns the first i counts are 0 and the others as they were. Assumes nothing.
+-- `buffers::clear` meets its contract: after i turns the first i counts are 0 and the others as they were.
 use mathlib.Core.Path.{_≡_, _∙_}
 use mathlib.Core.List.{_++_}
 use Prim.Native.Nat.{_≤_, _-_}

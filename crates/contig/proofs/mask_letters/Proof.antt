@@ -1,4 +1,4 @@
--- `mask_letters` meets its contract: what the filling call says of new buffers. Assumes nothing.
+-- `mask_letters` meets its contract: what the filling call says of such buffers.
 use borrow.Author.Needs.{needs}
 use Rattle.contig.proofs.Run.{ran}
 use Rattle.contig.proofs.mask_letters.Statement.{statement}
@@ -12,50 +12,8 @@ no-candidates-requires c κs = search needs
 default-requires : tie.Need-default-requires
 default-requires c κs = search needs
 
-slice-aggregate-process : tie.Need-slice-aggregate-process
-slice-aggregate-process c = search needs
-
-slice-aggregate-process-2 : tie.Need-slice-aggregate-process-2
-slice-aggregate-process-2 c = search needs
-
-slice-aggregate-process-3 : tie.Need-slice-aggregate-process-3
-slice-aggregate-process-3 c = search needs
-
-slice-aggregate-process-4 : tie.Need-slice-aggregate-process-4
-slice-aggregate-process-4 c = search needs
-
-slice-aggregate-process-5 : tie.Need-slice-aggregate-process-5
-slice-aggregate-process-5 c = search needs
-
-slice-aggregate-process-6 : tie.Need-slice-aggregate-process-6
-slice-aggregate-process-6 c = search needs
-
-slice-aggregate-process-7 : tie.Need-slice-aggregate-process-7
-slice-aggregate-process-7 c = search needs
-
-slice-aggregate-process-8 : tie.Need-slice-aggregate-process-8
-slice-aggregate-process-8 c = search needs
-
-slice-aggregate-process-9 : tie.Need-slice-aggregate-process-9
-slice-aggregate-process-9 c = search needs
-
-slice-aggregate-process-10 : tie.Need-slice-aggregate-process-10
-slice-aggregate-process-10 c = search needs
-
-slice-aggregate-process-11 : tie.Need-slice-aggregate-process-11
-slice-aggregate-process-11 c = search needs
-
-slice-aggregate-process-12 : tie.Need-slice-aggregate-process-12
-slice-aggregate-process-12 c = search needs
-
 process-requires : tie.Need-process-requires
 process-requires c κs = search needs
-
-same-length : tie.Need-same-length
-same-length c = search needs
-
-same-length-2 : tie.Need-same-length-2
-same-length-2 c = search needs
 
 returns : tie.Need-returns
 returns c =
@@ -70,19 +28,19 @@ mask-letters-spec =
     (tie.spec
     no-candidates-requires
     default-requires
-    slice-aggregate-process
-    slice-aggregate-process-2
-    slice-aggregate-process-3
-    slice-aggregate-process-4
-    slice-aggregate-process-5
-    slice-aggregate-process-6
-    slice-aggregate-process-7
-    slice-aggregate-process-8
-    slice-aggregate-process-9
-    slice-aggregate-process-10
-    slice-aggregate-process-11
-    slice-aggregate-process-12
+    (λ c. search needs)
+    (λ c. search needs)
+    (λ c. search needs)
+    (λ c. search needs)
+    (λ c. search needs)
+    (λ c. search needs)
+    (λ c. search needs)
+    (λ c. search needs)
+    (λ c. search needs)
+    (λ c. search needs)
+    (λ c. search needs)
+    (λ c. search needs)
     process-requires
-    same-length
-    same-length-2
+    (λ c. search needs)
+    (λ c. search needs)
     returns)

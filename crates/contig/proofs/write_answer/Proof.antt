@@ -1,4 +1,4 @@
--- `write_answer` meets its contract: the three cases of what is printed. Assumes nothing.
+-- `write_answer` meets its contract: the three cases of what is printed.
 use Prim.Native.Nat.{ℕ}
 use mathlib.Core.Path.{_∙_}
 use native.Mathlib.Omega.{arith}

@@ -2,8 +2,7 @@
 use mathlib.Core.Path.{_∙_}
 use native.Mathlib.Omega.{arith}
 use borrow.Author.Needs.{needs}
-use Rattle.intervals.proofs.MergeSteps.{Merging, merging-start, still-mergeable, merging-touch, merging-gap, merging-room}
-use Rattle.intervals.proofs.MergeSteps.{merging-last-room, merging-end}
+use Rattle.intervals.proofs.MergeSteps.{Merging, merging-start, still-mergeable, merging-touch, merging-gap, merging-room, merging-last-room, merging-end}
 use Rattle.intervals.proofs.merge_intervals.Statement.{statement}
 use Rattle.intervals.proofs.merge_intervals.Tie as tie
 

@@ -34,12 +34,6 @@ larger-requires c κs = search needs
 put-interval-requires : tie.Need-put-interval-requires
 put-interval-requires c κs = search needs
 
-same-length : tie.Need-same-length
-same-length c = search needs
-
-same-length-2 : tie.Need-same-length-2
-same-length-2 c = search needs
-
 returns : tie.Need-returns
 returns c =
     let K = c .before .before .before .before .before .before .before .before .before .before .before .before in
@@ -58,12 +52,6 @@ put-interval-requires-2 c κs =
     let l = save-length (A .count) (A .starts .now) (A .ends .now) (A .start) (A .end) (K .kept-count .result) (K .kept-count .ensures) in
     omega arith
 
-same-length-3 : tie.Need-same-length-3
-same-length-3 c = search needs
-
-same-length-4 : tie.Need-same-length-4
-same-length-4 c = search needs
-
 returns-2 : tie.Need-returns-2
 returns-2 c =
     let K = c .before .before .before .before .before .before .before .before in
@@ -78,4 +66,4 @@ save-interval-spec =
     tie.close
     (tie.spec
     kept-count-requires mul-smaller slice-read-smaller smaller-requires mul-larger slice-read-larger larger-requires
-    put-interval-requires same-length same-length-2 returns put-interval-requires-2 same-length-3 same-length-4 returns-2)
+    put-interval-requires (λ c. search needs) (λ c. search needs) returns put-interval-requires-2 (λ c. search needs) (λ c. search needs) returns-2)

@@ -1,4 +1,4 @@
--- `letters::complement` meets its contract. Assumes nothing.
+-- `letters::complement` meets its contract.
 use borrow.Author.Needs.{needs}
 use borrow.Author.Tests.{lt-ltb, le-ltb}
 use Rattle.letters.specs.Code.{complement}

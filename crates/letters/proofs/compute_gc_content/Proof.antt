@@ -1,4 +1,4 @@
--- `letters::compute_gc_content` meets its contract: the loop tallies the codes below 4, and those that are C or G. Assumes nothing.
+-- `letters::compute_gc_content` meets its contract: the loop tallies the codes below 4, and those that are C or G.
 use Prim.Native.Nat.{_-_, _≤_}
 use native.Mathlib.Omega.{arith}
 use borrow.Author.Needs.{needs}

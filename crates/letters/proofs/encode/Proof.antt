@@ -1,4 +1,4 @@
--- `letters::encode` meets its contract: each arm computes, and in the last the byte is none of the eight letters. Assumes nothing.
+-- `letters::encode` meets its contract: each arm computes, and in the last the byte is none of the eight letters.
 use mathlib.Core.Path.{_≡_, refl}
 use mathlib.Core.Logic.{_⊎_, inl, inr}
 use Prim.Native.Nat.{ℕ}

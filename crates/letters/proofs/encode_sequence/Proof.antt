@@ -1,4 +1,4 @@
--- `letters::encode_sequence` meets its contract: after i turns the buffer is `part (codes sequence) encoded₀ i`. Assumes nothing.
+-- `letters::encode_sequence` meets its contract: after i turns the buffer is `part (codes sequence) encoded₀ i`.
 use mathlib.Core.Path.{_≡_, sym, _∙_}
 use Prim.Native.Nat.{_-_, _≤_}
 use native.Mathlib.Omega.{arith}

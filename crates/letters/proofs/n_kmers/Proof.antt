@@ -1,4 +1,4 @@
--- `letters::n_kmers` meets its contract. Assumes nothing.
+-- `letters::n_kmers` meets its contract.
 use native.Mathlib.Omega.{arith}
 use borrow.Author.Needs.{needs}
 use Rattle.letters.proofs.Powers.{four-two, four-small}

@@ -1,4 +1,4 @@
--- `letters::reverse_complement_encoded_sequence` meets its contract: after i turns the buffer is `part (reverseComplement encoded) reversed₀ i`. Assumes nothing.
+-- `letters::reverse_complement_encoded_sequence` meets its contract: after i turns the buffer is `part (reverseComplement encoded) reversed₀ i`.
 use mathlib.Core.Path.{_≡_, sym, _∙_}
 use Prim.Native.Nat.{_-_, _≤_}
 use native.Mathlib.Omega.{arith}

@@ -1,4 +1,4 @@
--- `count_or_refusal` meets its contract. Assumes nothing.
+-- `count_or_refusal` meets its contract.
 use native.Mathlib.Omega.{arith}
 use borrow.Author.Needs.{needs}
 use Rattle.longdust_c.proofs.Numbers.{counted, negation-fits, negated}

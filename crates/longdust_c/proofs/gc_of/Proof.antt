@@ -1,4 +1,4 @@
--- `gc_of` meets its contract: each return is a case of the definition. Assumes nothing.
+-- `gc_of` meets its contract: each return is a case of the definition.
 use borrow.Author.Tests.{eq-eqb, ne-eqb}
 use lib.Ieee.{ofBits, div}
 use Rattle.longdust_c.proofs.gc_of.Statement.{statement}

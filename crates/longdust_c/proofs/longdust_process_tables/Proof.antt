@@ -1,4 +1,4 @@
--- `longdust_process_tables` meets its contract: its answer is that of the call of crate longdust. Assumes nothing.
+-- `longdust_process_tables` meets its contract: its answer is that of the call of crate longdust.
 use borrow.Author.Needs.{needs}
 use Rattle.longdust_c.proofs.Answers.{count-small, exported}
 use Rattle.longdust_c.proofs.longdust_process_tables.Statement.{statement}
@@ -21,42 +21,6 @@ flag-of-requires c κs = search needs
 count-or-refusal-requires : tie.Need-count-or-refusal-requires
 count-or-refusal-requires c κs = count-small (c .before .before .before .before .before .before .before .before .before .before .before .before .before .before .before .before .before .before .before .before .before .before .before .before .process-tables .ensures)
 
-same-length : tie.Need-same-length
-same-length c = call c .process-tables .kept .1 .1 .1 .1 .0
-
-same-length-2 : tie.Need-same-length-2
-same-length-2 c = call c .process-tables .kept .1 .1 .1 .1 .1 .0
-
-same-length-3 : tie.Need-same-length-3
-same-length-3 c = call c .process-tables .kept .1 .1 .1 .1 .1 .1 .0
-
-same-length-4 : tie.Need-same-length-4
-same-length-4 c = call c .process-tables .kept .1 .1 .1 .1 .1 .1 .1 .0
-
-same-length-5 : tie.Need-same-length-5
-same-length-5 c = call c .process-tables .kept .1 .1 .1 .1 .1 .1 .1 .1 .0
-
-same-length-6 : tie.Need-same-length-6
-same-length-6 c = call c .process-tables .kept .1 .1 .1 .1 .1 .1 .1 .1 .1 .0
-
-same-length-7 : tie.Need-same-length-7
-same-length-7 c = call c .process-tables .kept .1 .1 .1 .1 .1 .1 .1 .1 .1 .1 .0
-
-same-length-8 : tie.Need-same-length-8
-same-length-8 c = call c .process-tables .kept .1 .1 .1 .1 .1 .1 .1 .1 .1 .1 .1 .0
-
-same-length-9 : tie.Need-same-length-9
-same-length-9 c = call c .process-tables .kept .1 .1 .1 .1 .1 .1 .1 .1 .1 .1 .1 .1 .0
-
-same-length-10 : tie.Need-same-length-10
-same-length-10 c = call c .process-tables .kept .1 .1 .1 .1 .1 .1 .1 .1 .1 .1 .1 .1 .1 .0
-
-same-length-11 : tie.Need-same-length-11
-same-length-11 c = call c .process-tables .kept .1 .1 .1 .1 .1 .1 .1 .1 .1 .1 .1 .1 .1 .1 .0
-
-same-length-12 : tie.Need-same-length-12
-same-length-12 c = call c .process-tables .kept .1 .1 .1 .1 .1 .1 .1 .1 .1 .1 .1 .1 .1 .1 .1 .0
-
 returns : tie.Need-returns
 returns c =
     exported
@@ -74,16 +38,16 @@ longdust-process-tables-spec =
     process-tables-requires
     flag-of-requires
     count-or-refusal-requires
-    same-length
-    same-length-2
-    same-length-3
-    same-length-4
-    same-length-5
-    same-length-6
-    same-length-7
-    same-length-8
-    same-length-9
-    same-length-10
-    same-length-11
-    same-length-12
+    (λ c. call c .process-tables .kept .1 .1 .1 .1 .0)
+    (λ c. call c .process-tables .kept .1 .1 .1 .1 .1 .0)
+    (λ c. call c .process-tables .kept .1 .1 .1 .1 .1 .1 .0)
+    (λ c. call c .process-tables .kept .1 .1 .1 .1 .1 .1 .1 .0)
+    (λ c. call c .process-tables .kept .1 .1 .1 .1 .1 .1 .1 .1 .0)
+    (λ c. call c .process-tables .kept .1 .1 .1 .1 .1 .1 .1 .1 .1 .0)
+    (λ c. call c .process-tables .kept .1 .1 .1 .1 .1 .1 .1 .1 .1 .1 .0)
+    (λ c. call c .process-tables .kept .1 .1 .1 .1 .1 .1 .1 .1 .1 .1 .1 .0)
+    (λ c. call c .process-tables .kept .1 .1 .1 .1 .1 .1 .1 .1 .1 .1 .1 .1 .0)
+    (λ c. call c .process-tables .kept .1 .1 .1 .1 .1 .1 .1 .1 .1 .1 .1 .1 .1 .0)
+    (λ c. call c .process-tables .kept .1 .1 .1 .1 .1 .1 .1 .1 .1 .1 .1 .1 .1 .1 .0)
+    (λ c. call c .process-tables .kept .1 .1 .1 .1 .1 .1 .1 .1 .1 .1 .1 .1 .1 .1 .1 .0)
     returns)

@@ -1,4 +1,4 @@
--- `options_of` meets its contract: the GC and the xdrop are those of its callees. Assumes nothing.
+-- `options_of` meets its contract: the GC and the xdrop are those of its callees.
 use borrow.Author.Needs.{needs}
 use Rattle.longdust_c.proofs.options_of.Statement.{statement}
 use Rattle.longdust_c.proofs.options_of.Tie as tie

@@ -1,4 +1,4 @@
--- `xdrop_of` meets its contract: each return is a case of the definition. Assumes nothing.
+-- `xdrop_of` meets its contract: each return is a case of the definition.
 use borrow.Author.Tests.{eq-eqb, ne-eqb}
 use Rattle.longdust_c.proofs.xdrop_of.Statement.{statement}
 use Rattle.longdust_c.proofs.xdrop_of.Tie as tie

@@ -1,4 +1,4 @@
--- `replay::replay` is safe: no more records are the same than were answered. Assumes nothing.
+-- `replay::replay` is safe: no more records are the same than were answered.
 use Prim.Native.Nat.{_-_, _≤_}
 use borrow.Author.Needs.{needs}
 use Rattle.replay.proofs.replay.Statement.{statement}

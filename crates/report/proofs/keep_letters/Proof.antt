@@ -1,4 +1,4 @@
--- `keep_letters` meets its contract. The invariant: the letters kept so far, and that what is left of the bytes joins them. Assumes nothing.
+-- `keep_letters` meets its contract. The invariant: the letters kept so far, and that what is left of the bytes joins them.
 use Prim.Native.Nat.{_-_}
 use native.Mathlib.Omega.{arith}
 use borrow.Author.Needs.{needs}

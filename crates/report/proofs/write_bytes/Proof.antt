@@ -1,4 +1,4 @@
--- `write_bytes` meets its contract. The invariant: the first i bytes are copied. Assumes nothing.
+-- `write_bytes` meets its contract. The invariant: the first i bytes are copied.
 use Prim.Native.Nat.{_-_}
 use borrow.Author.Needs.{needs}
 use lib.ListN.{length}

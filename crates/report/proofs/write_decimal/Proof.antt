@@ -1,4 +1,4 @@
--- `write_decimal` meets its contract: the digits that are copied are `decimal n`. Assumes nothing.
+-- `write_decimal` meets its contract: the digits that are copied are `decimal n`.
 use mathlib.Core.Path.{_≡_, _∙_}
 use borrow.Author.Needs.{needs}
 use lib.ListN.{take}

@@ -1,4 +1,4 @@
--- `write_line` meets its contract: two texts are written one after the other. Assumes nothing.
+-- `write_line` meets its contract: two texts are written one after the other.
 use borrow.Author.Needs.{needs}
 use Rattle.report.proofs.Writing.{fits-first, fits-next, next}
 use Rattle.report.proofs.write_line.Statement.{statement}

@@ -1,4 +1,4 @@
--- `write_lines` meets its contract. The invariant: the lines of the first i intervals are written. Assumes nothing.
+-- `write_lines` meets its contract. The invariant: the lines of the first i intervals are written.
 use Prim.Native.Nat.{_-_}
 use borrow.Author.Needs.{needs}
 use Rattle.report.proofs.Lines.{Listing, list-none, list-fits, list-next, listed}

@@ -1,4 +1,4 @@
--- `write_numbered` meets its contract: three texts are written one after the other. Assumes nothing.
+-- `write_numbered` meets its contract: three texts are written one after the other.
 use borrow.Author.Needs.{needs}
 use mathlib.Core.List.{_++_}
 use Rattle.report.specs.Ascii.{ascii}

@@ -1,4 +1,4 @@
--- `write_report` meets its contract: the lines and the count are written one after the other. Assumes nothing.
+-- `write_report` meets its contract: the lines and the count are written one after the other.
 use mathlib.Core.Path.{sym}
 use mathlib.Core.List.{_++_}
 use borrow.Author.Needs.{needs}

@@ -1,6 +1,5 @@
--- `scans::candidate_at` meets its contract: a walk of its MIR, by hand. The place of `c[i]` is i * 16 past the slice's pointer; the slice is looked into, the record is taken out of the row, read, and put back.
--- The code has no check of the bound: it is the contract's to ask. That i * 16 does not wrap follows from the slice's room.
--- Assumes nothing.
+-- `candidate_at` meets its contract: a walk of its MIR. The place of `candidates[i]` is i * 16 past the slice's pointer; the slice is looked into, the record is taken out of the row, read, and put back.
+-- The code has no check of the bound, which the contract asks for; that i * 16 does not wrap follows from the slice's room.
 use mathlib.Core.Path.{refl, sym}
 use Prim.Native.Nat.{ℕ, _<_, _*_, _^_}
 use native.Mathlib.Omega.{arith}
@@ -82,14 +81,14 @@ module _ {M : Type 1} (𝓤 : URA M) (H : Heap 𝓤) (A : Atoms 𝓤) (W : Given
         qed W ((‵ (flft κ q) ⊛ ‵ ftrue) ∷ ‵ (owns (ShrSlice (named 0) κ T.the-row ∷ usize ∷ []) x at) ∷ []) ∵ enter ! C Λ code.function (sliceVal (b, o) (length ys) ∷ vint w64 i ∷ []) _ $
         alloc1 ! (λ l₀. alloc1 ! (λ l₁. alloc1 ! (λ l₂. alloc1 ! (λ l₃. alloc1 ! (λ l₄. alloc1 ! (λ l₅. alloc0 ! $ params1 ! $
         pass1 ! (init ! 8 refl (tt, (tt, (record { fits = gn .0 }, tt)))) $ pass1 ! (init ! 6 refl (tt, record { fits = gi })) $ pass0 ! $
-        -- [_5; …; _4; …; _3; …; _2; …; _1; …; room for _0; …; the token; what c and i own]
+        -- [_5; …; _4; …; _3; …; _2; …; _1; …; room for _0; …; the token; what the parameters own]
         assigns ! (bin ! (load ! (from ! (stop !)) (look ! 6 refl)) (lit ! tt) (record { fits = far gn l })) (from ! (stop !)) (init ! 4 refl (tt, record { fits = far gn l })) $
         assigns ! (bin ! (load ! (from ! (fld ! refl (stop !))) (look-in ! 8 (sub ! 0 refl (whole !)))) (load ! (from ! (stop !)) (look ! 4 refl)) tt) (from ! (stop !)) (init ! 2 refl (tt, tt)) $
         rewrite ! 2 (λ (p : ℕ). ‵ (fat fullShare tyPtr l₄ 0 (vptr b p))) (sym (place-is 16 o i)) refl $
         move ! (13 ∷ []) $ fsplit ! $ fsplit ! $ move ! (1 ∷ []) $ fsplit ! $ move ! (16 ∷ []) $ split ! $ move ! (3 ∷ 0 ∷ []) $
         looks-slice ! tt T.the-row (Is T.the-row) (shows 𝓤 H A T.the-row) (LL.vals T.the-type T′.the-laws) (LL.tells T.the-type T′.the-laws) (LL.copy T.the-type T′.the-copy 𝓤 H A W) ys b o (λ q′.
         elem-out ! T.the-row (Is T.the-row) (shows 𝓤 H A T.the-row) (LL.vals T.the-type T′.the-laws) (LL.tells T.the-type T′.the-laws) q′ ys i noPosition b o l (λ g.
-        -- [c[i]; what it owns; the others; what shuts; the fractured borrow; true; res; c's fact; i's; _5; …; _4; …; _3; …; _2; …; _1; …; _0; …]
+        -- [candidates[i]; what it owns; the others; what shuts; the fractured borrow; true; res; the slice's fact; i's; _5; …; _4; …; _3; …; _2; …; _1; …; _0; …]
         assigns ! (of-opd ! (load ! (from ! (hop ! (look ! 11 refl) (stop !))) (look-raw ! 0 refl))) (from ! (stop !)) (init ! 9 refl (LL.lawful T.the-type T′.the-laws 𝓤 H A W .typed elem _ g .0)) $
         assigns ! (of-opd ! (load ! (from ! (stop !)) (look ! 9 refl))) (from ! (stop !)) (init ! 19 refl (LL.lawful T.the-type T′.the-laws 𝓤 H A W .typed elem _ g .0)) $
         elem-back ! T.the-row q′ ys i noPosition (mach ∷ []) b o l $ shuts-slice ! tt T.the-row q′ ys b o $

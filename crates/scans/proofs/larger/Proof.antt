@@ -2,11 +2,9 @@ use borrow.Author.Tests.{lt-ltb, le-ltb}
 use Rattle.scans.proofs.larger.Statement.{statement}
 use Rattle.scans.proofs.larger.Tie as tie
 
--- src/lib.rt:514:9
 returns : tie.Need-returns
 returns c = rw (lt-ltb _ _ (c .if1 .taken))
 
--- src/lib.rt:510:1
 returns-2 : tie.Need-returns-2
 returns-2 c = rw (le-ltb _ _ (c .if1 .left))
 

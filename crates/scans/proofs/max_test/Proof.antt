@@ -11,68 +11,53 @@ Inv-loop ln f window threshold s₀ i₀ s i = Testing ln f window threshold s i
 abbrev μ-loop : tie.MeasureT-loop
 μ-loop ln f window threshold s₀ i₀ s i = window + 1 - i
 
--- src/lib.rt:45:5
 loop-holds : tie.Need-loop-holds Inv-loop μ-loop
 loop-holds c = testing-start _ _ _ _
 
--- src/lib.rt:46:18
 cast-at : tie.Need-cast-at Inv-loop μ-loop
 cast-at c = search needs
 
--- src/lib.rt:47:18
 mul-s : tie.Need-mul-s Inv-loop μ-loop
 mul-s c = search needs
 
--- src/lib.rt:47:18
 shared-slice-read-s : tie.Need-shared-slice-read-s Inv-loop μ-loop
 shared-slice-read-s c = search needs
 
--- src/lib.rt:48:16
 mul-if1 : tie.Need-mul-if1 Inv-loop μ-loop
 mul-if1 c = search needs
 
--- src/lib.rt:48:16
 shared-slice-read-if1 : tie.Need-shared-slice-read-if1 Inv-loop μ-loop
 shared-slice-read-if1 c = search needs
 
--- src/lib.rt:49:36
 int-to-float-to-i32 : tie.Need-int-to-float-to-i32 Inv-loop μ-loop
 int-to-float-to-i32 c = search needs
 
--- src/lib.rt:49:48
 mul-to-i32 : tie.Need-mul-to-i32 Inv-loop μ-loop
 mul-to-i32 c = search needs
 
--- src/lib.rt:49:48
 shared-slice-read-to-i32 : tie.Need-shared-slice-read-to-i32 Inv-loop μ-loop
 shared-slice-read-to-i32 c = search needs
 
--- src/lib.rt:49:13
 to-i32-requires : tie.Need-to-i32-requires Inv-loop μ-loop
 to-i32-requires c κs = search needs
 
--- src/lib.rt:49:13
 returns : tie.Need-returns Inv-loop μ-loop
 returns c =
     let d = c .before .before .before in
     let a = d .before .before .before .before in
     testing-found _ _ _ _ _ _ (a .loop .inv) (d .before .before .before .loop-test .taken) _ (c .to-i32 .ensures) (d .if1 .taken)
 
--- src/lib.rt:51:9
 add-i : tie.Need-add-i Inv-loop μ-loop
 add-i c = search needs
 
--- src/lib.rt:45:5
 loop-less : tie.Need-loop-less Inv-loop μ-loop
 loop-less c = search needs
 
--- src/lib.rt:45:5
 loop-again : tie.Need-loop-again Inv-loop μ-loop
 loop-again c =
     let a = c .before .before .before .before in
     testing-turn _ _ _ _ _ _ (a .loop .inv) (c .before .before .before .loop-test .taken) (c .if1 .left)
 
--- src/lib.rt:39:1
 returns-2 : tie.Need-returns-2 Inv-loop μ-loop
 returns-2 c = testing-end _ _ _ _ _ _ (c .before .loop .inv) (omega arith)
 

@@ -3,15 +3,12 @@ use borrow.Author.Needs.{needs}
 use Rattle.scans.proofs.ring_index.Statement.{statement}
 use Rattle.scans.proofs.ring_index.Tie as tie
 
--- src/lib.rt:61:13
 add-i : tie.Need-add-i
 add-i c = search needs
 
--- src/lib.rt:63:9
 returns : tie.Need-returns
 returns c = rw (lt-ltb _ _ (c .if1 .taken))
 
--- src/lib.rt:57:1
 returns-2 : tie.Need-returns-2
 returns-2 c = rw (le-ltb _ _ (c .if1 .left))
 

@@ -1,5 +1,5 @@
--- `scans::set_candidate` meets its contract: a walk of its MIR, by hand. The place of `c[i]` is i * 16 past the slice's pointer; the borrow is opened, the element is taken out of the row and stored to, and the borrow is closed at the list with the record at i.
--- Assumes nothing.
+-- `set_candidate` meets its contract: a walk of its MIR. The place of `candidates[i]` is i * 16 past the slice's pointer; the borrow is opened, the element is taken out of the row and stored to,
+-- and the borrow is closed at the list with the record at i.
 use mathlib.Core.Path.{refl, sym, ap, subst}
 use Prim.Native.Nat.{ℕ, _<_, _*_, _^_}
 use native.Mathlib.Omega.{arith}
@@ -100,7 +100,7 @@ module _ {M : Type 1} (𝓤 : URA M) (H : Heap 𝓤) (A : Atoms 𝓤) (W : Given
         rewrite ! 0 (λ (m : ℕ). ‵ (fat fullShare tyPtr l₅ 0 (vptr b m))) (sym (place-is 16 o i)) refl $
         move ! (13 ∷ []) $ fsplit ! $ fsplit ! $ move ! (1 ∷ []) $ fsplit ! $ move ! (16 ∷ []) $ split ! $ move ! (2 ∷ 3 ∷ 0 ∷ []) $
         opens-slice ! tt T.the-row ys b o $ elem-out ! T.the-row (Is T.the-row) (shows 𝓤 H A T.the-row) (LL.vals T.the-type T′.the-laws) (LL.tells T.the-type T′.the-laws) fullShare ys i noPosition b o l (λ _.
-        -- [c[i]; what it owns; the others; the open borrow; obs; auth; true; c's fact; the plain ones'; _5; …; _4; …; _3; …; _2; …; _1; …; _0; …]
+        -- [candidates[i]; what it owns; the others; the open borrow; obs; auth; true; the slice's fact; the plain ones'; _5; …; _4; …; _3; …; _2; …; _1; …; _0; …]
         assigns ! (of-opd ! (load ! (from ! (stop !)) (look ! 13 refl))) (from ! (hop ! (look ! 9 refl) (stop !))) (store-raw ! 0 refl (LL.lawful T.the-type T′.the-laws 𝓤 H A W .typed y _ g .0)) $
         move ! (1 ∷ []) $ drop ! $ owned ! T.the-row (Is T.the-row) (LL.makes T.the-type T′.the-plain 𝓤 H A) y _ g $ move ! (1 ∷ 0 ∷ []) $ elem-put ! T.the-row fullShare ys i y (mach ∷ []) b o l $
         closes-slice ! tt T.the-row ys zs (length-set ys i y) b o $

@@ -3,35 +3,27 @@ use borrow.Author.Needs.{needs}
 use Rattle.scans.proofs.window_value.Statement.{statement}
 use Rattle.scans.proofs.window_value.Tie as tie
 
--- src/lib.rt:105:9
 returns : tie.Need-returns
 returns c = rw (odd-ambiguous _ (c .if1 .taken))
 
--- src/lib.rt:107:16
 cast-kmer : tie.Need-cast-kmer
 cast-kmer c = search needs
 
--- src/lib.rt:108:8
 mul-result : tie.Need-mul-result
 mul-result c = search needs
 
--- src/lib.rt:108:8
 shared-slice-read-result : tie.Need-shared-slice-read-result
 shared-slice-read-result c = search needs
 
--- src/lib.rt:108:8
 cast-result : tie.Need-cast-result
 cast-result c = search needs
 
--- src/lib.rt:108:5
 mul-result-2 : tie.Need-mul-result-2
 mul-result-2 c = search needs
 
--- src/lib.rt:108:5
 shared-slice-read-result-2 : tie.Need-shared-slice-read-result-2
 shared-slice-read-result-2 c = search needs
 
--- src/lib.rt:100:1
 returns-2 : tie.Need-returns-2
 returns-2 c = rw (even-plain _ (c .before .before .if1 .left))
 

@@ -9,7 +9,7 @@ use Rattle.scans.specs.declared.Params.{Params}
 use Rattle.strand.specs.declared.Going.{Going}
 use Rattle.strand.specs.declared.Reading.{Reading}
 use Rattle.strand.specs.Running.{Before}
-use Rattle.strand.proofs.Running.{lasting, inv-start, last-saved}
+use Rattle.strand.proofs.Running.{part-lent, inv-start, last-saved}
 use Rattle.strand.proofs.inner_process.Statement.{statement}
 use Rattle.strand.proofs.inner_process.Proof.Tie as tie
 mod Lts
@@ -60,36 +60,18 @@ loop-holds : tie.Need-loop-holds Inv-loop μ-loop
 loop-holds c =
     let b = c .before .before .before .before in
     let l = b .before .before .before .before .before .before .before .before .before .before .before .pre in
-    record { inv = inv-start l (b .begin .ensures); counts-are = b .begin .kept .1 .0 ∙ l .roomy .counts-is; same-candidates = refl; same-starts = refl; same-ends = refl }
+    record { inv = inv-start l (b .begin .ensures); counts-are = b .begin .kept .1 .0 ∙ l .part .counts-is; same-candidates = refl; same-starts = refl; same-ends = refl }
 
 until-scan-requires : tie.Need-until-scan-requires Inv-loop μ-loop
 until-scan-requires c κs =
     let g = c .before .before .before .before .before in
     let h = g .loop .inv in
-    (lasting (start g .pre) (h .counts-are) (h .same-starts) (h .same-ends), h .inv)
+    (part-lent (start g .pre) (h .counts-are) (h .same-starts) (h .same-ends), h .inv)
 
 close-requires : tie.Need-close-requires Inv-loop μ-loop
 close-requires c κs =
     let t = c .before .before in
     reached (t .before) .until-scan .ensures .ended (t .if1 .taken) .saving
-
-same-length : tie.Need-same-length Inv-loop μ-loop
-same-length c = ended c .until-scan .kept .1 .1 .1 .1 .1 .0 ∙ looping (ended c) .loop .inv .inv .read .windowed .ring-is ∙ sym (start (looping (ended c)) .pre .ring-is)
-
-same-length-2 : tie.Need-same-length-2 Inv-loop μ-loop
-same-length-2 c = ended c .until-scan .kept .1 .1 .1 .1 .1 .1 .0 ∙ looping (ended c) .loop .inv .inv .read .windowed .counts-long ∙ sym (start (looping (ended c)) .pre .window-counts-are)
-
-same-length-3 : tie.Need-same-length-3 Inv-loop μ-loop
-same-length-3 c = ended c .until-scan .kept .1 .1 .1 .1 .1 .1 .1 .0 ∙ looping (ended c) .loop .inv .counts-are ∙ sym (start (looping (ended c)) .pre .roomy .counts-is)
-
-same-length-4 : tie.Need-same-length-4 Inv-loop μ-loop
-same-length-4 c = looping (ended c) .loop .inv .same-candidates
-
-same-length-5 : tie.Need-same-length-5 Inv-loop μ-loop
-same-length-5 c = closed c .close .kept .1 .0 ∙ ended c .until-scan .kept .1 .1 .1 .1 .1 .1 .1 .1 .0 ∙ looping (ended c) .loop .inv .same-starts
-
-same-length-6 : tie.Need-same-length-6 Inv-loop μ-loop
-same-length-6 c = closed c .close .kept .1 .1 .0 ∙ ended c .until-scan .kept .1 .1 .1 .1 .1 .1 .1 .1 .1 .0 ∙ looping (ended c) .loop .inv .same-ends
 
 returns : tie.Need-returns Inv-loop μ-loop
 returns c = last-saved (ended c .until-scan .ensures .ended (closed c .before .before .before .if1 .taken)) (closed c .close .ensures)
@@ -99,17 +81,17 @@ dust-backward-requires c κs =
     let x = c .before .before .before .before in
     let u = reached (x .before) in
     let g = looping u in
-    let l = start g .pre .roomy in
+    let l = start g .pre in
     let d = u .until-scan .ensures .due (x .if1 .left) in
     let counts-are = u .until-scan .kept .1 .1 .1 .1 .1 .1 .1 .0 ∙ g .loop .inv .counts-are in
-    (d .windowed, (record { f-long = l .f-long; counts-is = counts-are; candidates-long = omega (arith, g .loop .inv .same-candidates, l .candidates-long) }, ((d .some, d .clear), d .carried)))
+    (d .windowed, (record { f-long = l .part .f-long; counts-is = counts-are; candidates-long = omega (arith, g .loop .inv .same-candidates, l .candidates-long) }, ((d .some, d .clear), d .carried)))
 
 answered-requires : tie.Need-answered-requires Inv-loop μ-loop
 answered-requires c κs =
     let b = c .before .before .before .before .before in
     let x = scanning b in
     let u = reached (x .before) in
-    let l = start (looping u) .pre in
+    let l = start (looping u) .pre .part in
     let d = u .until-scan .ensures .due (x .if1 .left) in
     ((omega (arith, x .if1 .left, l .letters-in), omega (arith, d .windowed .len-in, d .windowed .small), d .within _ _ (b .dust-backward .ensures), l .kmer-small), d .saving)
 
@@ -138,5 +120,10 @@ pub inner-process-spec : {M : Type 1} → statement M
 inner-process-spec =
     tie.close
     (tie.spec Inv-loop μ-loop begin-requires loop-holds until-scan-requires close-requires
-    same-length same-length-2 same-length-3 same-length-4 same-length-5 same-length-6 returns
+    (λ c. ended c .until-scan .kept .1 .1 .1 .1 .1 .0 ∙ looping (ended c) .loop .inv .inv .read .windowed .ring-is ∙ sym (start (looping (ended c)) .pre .ring-is))
+    (λ c. ended c .until-scan .kept .1 .1 .1 .1 .1 .1 .0 ∙ looping (ended c) .loop .inv .inv .read .windowed .counts-long ∙ sym (start (looping (ended c)) .pre .window-counts-are))
+    (λ c. ended c .until-scan .kept .1 .1 .1 .1 .1 .1 .1 .0 ∙ looping (ended c) .loop .inv .counts-are ∙ sym (start (looping (ended c)) .pre .part .counts-is))
+    (λ c. looping (ended c) .loop .inv .same-candidates)
+    (λ c. closed c .close .kept .1 .0 ∙ ended c .until-scan .kept .1 .1 .1 .1 .1 .1 .1 .1 .0 ∙ looping (ended c) .loop .inv .same-starts)
+    (λ c. closed c .close .kept .1 .1 .0 ∙ ended c .until-scan .kept .1 .1 .1 .1 .1 .1 .1 .1 .1 .0 ∙ looping (ended c) .loop .inv .same-ends) returns
     dust-backward-requires answered-requires loop-less loop-again)

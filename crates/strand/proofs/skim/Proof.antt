@@ -126,15 +126,6 @@ same-window c = c .join .kept .1 .1 .1 .0 ∙ roomed c .make-room .kept .1 .1 .1
 same-ring : (c : tie.After-join Inv-loop μ-loop) → length (c .join .last .1 .1 .0) ≡ length (start-of (rolling c) .args .queue .now)
 same-ring c = c .join .kept .1 .1 .0 ∙ looped (rolling c) .loop .inv .same-queue
 
-same-length : tie.Need-same-length Inv-loop μ-loop
-same-length c = same-ring (joined (c .before))
-
-same-length-2 : tie.Need-same-length-2 Inv-loop μ-loop
-same-length-2 c = same-window (joined (c .before))
-
-same-length-3 : tie.Need-same-length-3 Inv-loop μ-loop
-same-length-3 c = same-scan (joined (c .before))
-
 returns : tie.Need-returns Inv-loop μ-loop
 returns c =
     let s = c .before in
@@ -185,15 +176,6 @@ loop-again c =
       same-scan-counts = x .kept .1 .1 .1 .1 .1 .0 ∙ same-scan j;
     }
 
-same-length-4 : tie.Need-same-length-4 Inv-loop μ-loop
-same-length-4 c = c .before .loop .inv .same-queue
-
-same-length-5 : tie.Need-same-length-5 Inv-loop μ-loop
-same-length-5 c = c .before .loop .inv .same-window-counts
-
-same-length-6 : tie.Need-same-length-6 Inv-loop μ-loop
-same-length-6 c = c .before .loop .inv .same-scan-counts
-
 returns-2 : tie.Need-returns-2 Inv-loop μ-loop
 returns-2 c = skimmed-all (c .before .loop .inv .skims) (c .loop-test .left)
 
@@ -210,15 +192,15 @@ skim-spec =
     make-room-requires
     join-requires
     is-searched-requires
-    same-length
-    same-length-2
-    same-length-3
+    (λ c. same-ring (joined (c .before)))
+    (λ c. same-window (joined (c .before)))
+    (λ c. same-scan (joined (c .before)))
     returns
     passed-requires
     add-i
     loop-less
     loop-again
-    same-length-4
-    same-length-5
-    same-length-6
+    (λ c. c .before .loop .inv .same-queue)
+    (λ c. c .before .loop .inv .same-window-counts)
+    (λ c. c .before .loop .inv .same-scan-counts)
     returns-2)

@@ -98,21 +98,6 @@ same-scan c = c .skim .kept .1 .1 .1 .1 .1 .1 .1 .0 ∙ looped c .loop .inv .sam
 abbrev all : tie.Then1 Inv-loop μ-loop → tie.After-skim Inv-loop μ-loop
 all c = c .before .before .before .before .before .before .before .before
 
-same-length : tie.Need-same-length Inv-loop μ-loop
-same-length c = same-ring (all c)
-
-same-length-2 : tie.Need-same-length-2 Inv-loop μ-loop
-same-length-2 c = same-window (all c)
-
-same-length-3 : tie.Need-same-length-3 Inv-loop μ-loop
-same-length-3 c = same-scan (all c)
-
-same-length-4 : tie.Need-same-length-4 Inv-loop μ-loop
-same-length-4 c = looped (all c) .loop .inv .same-starts
-
-same-length-5 : tie.Need-same-length-5 Inv-loop μ-loop
-same-length-5 c = looped (all c) .loop .inv .same-ends
-
 returns : tie.Need-returns Inv-loop μ-loop
 returns c =
     let g = looped (all c) in
@@ -157,21 +142,6 @@ cleared c = c .before .before
 
 abbrev due-at : tie.After-cleared Inv-loop μ-loop → tie.After-look Inv-loop μ-loop
 due-at c = scanning (c .before .before .before)
-
-same-length-6 : tie.Need-same-length-6 Inv-loop μ-loop
-same-length-6 c = same-ring (skimmed (stopped (due-at (cleared c))))
-
-same-length-7 : tie.Need-same-length-7 Inv-loop μ-loop
-same-length-7 c = same-window (skimmed (stopped (due-at (cleared c))))
-
-same-length-8 : tie.Need-same-length-8 Inv-loop μ-loop
-same-length-8 c = cleared c .cleared .kept .1 .1 .0 ∙ same-looked (due-at (cleared c))
-
-same-length-9 : tie.Need-same-length-9 Inv-loop μ-loop
-same-length-9 c = looped (skimmed (stopped (due-at (cleared c)))) .loop .inv .same-starts
-
-same-length-10 : tie.Need-same-length-10 Inv-loop μ-loop
-same-length-10 c = looped (skimmed (stopped (due-at (cleared c)))) .loop .inv .same-ends
 
 returns-2 : tie.Need-returns-2 Inv-loop μ-loop
 returns-2 c =
@@ -298,20 +268,20 @@ until-scan-spec =
     μ-loop
     loop-holds
     skim-requires
-    same-length
-    same-length-2
-    same-length-3
-    same-length-4
-    same-length-5
+    (λ c. same-ring (all c))
+    (λ c. same-window (all c))
+    (λ c. same-scan (all c))
+    (λ c. looped (all c) .loop .inv .same-starts)
+    (λ c. looped (all c) .loop .inv .same-ends)
     returns
     look-requires
     enum-told
     cleared-requires
-    same-length-6
-    same-length-7
-    same-length-8
-    same-length-9
-    same-length-10
+    (λ c. same-ring (skimmed (stopped (due-at (cleared c)))))
+    (λ c. same-window (skimmed (stopped (due-at (cleared c)))))
+    (λ c. cleared c .cleared .kept .1 .1 .0 ∙ same-looked (due-at (cleared c)))
+    (λ c. looped (skimmed (stopped (due-at (cleared c)))) .loop .inv .same-starts)
+    (λ c. looped (skimmed (stopped (due-at (cleared c)))) .loop .inv .same-ends)
     returns-2
     enum-told-2
     found-requires

@@ -1,4 +1,4 @@
--- `fill_f`: after l turns the first l entries are stored. Assumes nothing.
+-- `fill_f`: after l turns the first l entries are stored.
 use mathlib.Core.Path.{_≡_}
 use Prim.Native.Nat.{_+_, _-_, _≤_}
 use native.Mathlib.Omega.{arith}

@@ -1,4 +1,4 @@
--- `fill_ln`: after n turns the first n entries are stored. Assumes nothing.
+-- `fill_ln`: after n turns the first n entries are stored.
 use mathlib.Core.Path.{_≡_}
 use Prim.Native.Nat.{ℕ, _+_, _-_, _≤_}
 use native.Mathlib.Omega.{arith}

@@ -1,4 +1,4 @@
--- `fill_tables`: the ln table is filled first, and f read from it. Assumes nothing.
+-- `fill_tables`: the ln table is filled first, and f read from it.
 use mathlib.Core.Path.{ap, _∙_}
 use Rattle.buffers.specs.Fill.{put}
 use Rattle.tables.specs.declared.Density.{Density}

@@ -1,4 +1,4 @@
--- `read_letters` meets its contract. The invariant: the letters read so far have room. Assumes nothing.
+-- `read_letters` meets its contract. The invariant: the letters read so far have room.
 use Prim.Native.Nat.{_≤_}
 use mathlib.Core.Path.{_≡_}
 use borrow.Author.Needs.{needs}

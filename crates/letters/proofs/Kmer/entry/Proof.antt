@@ -1,4 +1,4 @@
--- `letters::Kmer::entry` meets its contract. Assumes nothing.
+-- `letters::Kmer::entry` meets its contract.
 use borrow.Author.Needs.{needs}
 use Rattle.letters.proofs.Rolling.{entry-bits}
 use Rattle.letters.proofs.Kmer.entry.Statement.{statement}

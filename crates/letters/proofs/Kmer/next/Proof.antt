@@ -1,4 +1,4 @@
--- `letters::Kmer::next` meets its contract. Assumes nothing.
+-- `letters::Kmer::next` meets its contract.
 use native.Mathlib.Omega.{arith}
 use borrow.Author.Needs.{needs}
 use Rattle.letters.proofs.Powers.{four-pos, four-small}

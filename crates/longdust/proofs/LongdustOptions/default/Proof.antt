@@ -1,4 +1,4 @@
--- `LongdustOptions::default`: field by field. Assumes nothing.
+-- `LongdustOptions::default`: field by field.
 use mathlib.Core.Path.{refl}
 use Rattle.longdust.specs.Options.{defaults}
 use Rattle.longdust.proofs.LongdustOptions.default.Statement.{statement}

@@ -1,4 +1,4 @@
--- `any_high`: the or of the bytes read, with the bytes left, tells. Assumes nothing.
+-- `any_high`: the or of the bytes read, with the bytes left, tells.
 use mathlib.Core.Path.{_≡_, refl, sym, _∙_}
 use mathlib.Core.Bool.{_||_}
 use Prim.Native.Nat.{_≤_, _<_, _-_}

@@ -1,4 +1,4 @@
--- `check`: after each test that is passed, the refusal is that of the checks left. Assumes nothing.
+-- `check`: after each test that is passed, the refusal is that of the checks left.
 use mathlib.Core.Path.{_≡_, sym, _∙_}
 use Prim.Native.Nat.{ℕ}
 use native.Mathlib.Omega.{arith}

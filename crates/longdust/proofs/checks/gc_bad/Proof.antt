@@ -1,4 +1,4 @@
--- `gc_bad`: case by case. Assumes nothing.
+-- `gc_bad`: case by case.
 use mathlib.Core.Path.{sym, ap}
 use Rattle.longdust.specs.Checks.{gcBad}
 use borrow.Author.Needs.{needs}

@@ -1,4 +1,4 @@
--- `kmer_outside`: the formula. Assumes nothing.
+-- `kmer_outside`: the formula.
 use mathlib.Core.Path.{refl}
 use Rattle.longdust.specs.Checks.{kmerOutside}
 use Rattle.longdust.proofs.checks.kmer_outside.Statement.{statement}

@@ -1,4 +1,4 @@
--- `threshold_bad`: the formula; 1.0 / 0.0 computes to infinity. Assumes nothing.
+-- `threshold_bad`: the formula; 1.0 / 0.0 computes to infinity.
 use mathlib.Core.Path.{refl}
 use lib.Ieee.{div, ofBits}
 use Rattle.longdust.specs.Checks.{thresholdBad}

@@ -1,4 +1,4 @@
--- `too_short`: size by size. Assumes nothing.
+-- `too_short`: size by size.
 use borrow.Author.Needs.{needs}
 use Rattle.longdust.specs.Checks.{tooShort}
 use Rattle.longdust.proofs.checks.too_short.Statement.{statement}

@@ -1,4 +1,4 @@
--- `xdrop_bad`: case by case. Assumes nothing.
+-- `xdrop_bad`: case by case.
 use mathlib.Core.Path.{sym, ap}
 use Rattle.longdust.specs.Checks.{xdropBad}
 use borrow.Author.Needs.{needs}

@@ -1,4 +1,4 @@
--- `process`: a refusal touches nothing; an accepted request is encoded, its tables are filled, and run. Assumes nothing.
+-- `process`: a refusal touches nothing; an accepted request is encoded, its tables are filled, and run.
 use mathlib.Core.Path.{_≡_, refl, sym, ap, _∙_}
 use Prim.Native.Nat.{ℕ, _≤_}
 use native.Mathlib.Omega.{arith}
@@ -89,9 +89,6 @@ encode-sequence-requires c κs = admit (c .before) .enough .codes
 slice-reshare-prefix-fill-tables : tie.Need-slice-reshare-prefix-fill-tables
 slice-reshare-prefix-fill-tables c = part-fits (c .before .before .before .before)
 
-slice-aggregate-fill-tables : tie.Need-slice-aggregate-fill-tables
-slice-aggregate-fill-tables c = sym (part-long (c .before .before .before .before .before))
-
 fill-tables-requires : tie.Need-fill-tables-requires
 fill-tables-requires c κs =
     let a = admit (at-if (c .before .before .before .before .before)) in
@@ -100,57 +97,12 @@ fill-tables-requires c κs =
 slice-reshare-prefix-mask-encoded : tie.Need-slice-reshare-prefix-mask-encoded
 slice-reshare-prefix-mask-encoded c = part-fits (at-encode (c .before .before .before .before))
 
-slice-aggregate-mask-encoded : tie.Need-slice-aggregate-mask-encoded
-slice-aggregate-mask-encoded c = sym (part-long (at-encode (c .before .before .before .before .before)))
-
 mask-encoded-requires : tie.Need-mask-encoded-requires
 mask-encoded-requires c κs =
     let t = c .before .before .before .before .before .before .before .before .before .before .before .before .before .before .before .before .before .before in
     let e = at-encode t in
     let i = at-if e in
     admitted-as _ _ (entry (start i)) (admit i) (t .fill-tables .last .0) (t .fill-tables .last .1 .0) (part e) (t .fill-tables .kept .0) (t .fill-tables .kept .1 .0) (part-long e)
-
-same-length : tie.Need-same-length
-same-length c = at-fill (done c) .fill-tables .kept .0
-
-same-length-2 : tie.Need-same-length-2
-same-length-2 c = at-fill (done c) .fill-tables .kept .1 .0
-
-same-length-3 : tie.Need-same-length-3
-same-length-3 c = done c .mask-encoded .kept .1 .1 .1 .1 .0
-
-same-length-4 : tie.Need-same-length-4
-same-length-4 c = done c .mask-encoded .kept .1 .1 .1 .1 .1 .0
-
-same-length-5 : tie.Need-same-length-5
-same-length-5 c = done c .mask-encoded .kept .1 .1 .1 .1 .1 .1 .0
-
-same-length-6 : tie.Need-same-length-6
-same-length-6 c = done c .mask-encoded .kept .1 .1 .1 .1 .1 .1 .1 .0
-
-same-length-7 : tie.Need-same-length-7
-same-length-7 c = at-encode (at-fill (done c)) .encode-sequence .kept .1 .0
-
-same-length-8 : tie.Need-same-length-8
-same-length-8 c = done c .mask-encoded .kept .1 .1 .1 .1 .1 .1 .1 .1 .0
-
-same-length-9 : tie.Need-same-length-9
-same-length-9 c = done c .mask-encoded .kept .1 .1 .1 .1 .1 .1 .1 .1 .1 .0
-
-same-length-10 : tie.Need-same-length-10
-same-length-10 c = done c .mask-encoded .kept .1 .1 .1 .1 .1 .1 .1 .1 .1 .1 .0
-
-same-length-11 : tie.Need-same-length-11
-same-length-11 c = done c .mask-encoded .kept .1 .1 .1 .1 .1 .1 .1 .1 .1 .1 .1 .0
-
-same-length-12 : tie.Need-same-length-12
-same-length-12 c = done c .mask-encoded .kept .1 .1 .1 .1 .1 .1 .1 .1 .1 .1 .1 .1 .0
-
-same-length-13 : tie.Need-same-length-13
-same-length-13 c = done c .mask-encoded .kept .1 .1 .1 .1 .1 .1 .1 .1 .1 .1 .1 .1 .1 .0
-
-same-length-14 : tie.Need-same-length-14
-same-length-14 c = done c .mask-encoded .kept .1 .1 .1 .1 .1 .1 .1 .1 .1 .1 .1 .1 .1 .1 .0
 
 returns-2 : tie.Need-returns-2
 returns-2 c =
@@ -176,23 +128,23 @@ process-spec =
     returns
     encode-sequence-requires
     slice-reshare-prefix-fill-tables
-    slice-aggregate-fill-tables
+    (λ c. sym (part-long (c .before .before .before .before .before)))
     fill-tables-requires
     slice-reshare-prefix-mask-encoded
-    slice-aggregate-mask-encoded
+    (λ c. sym (part-long (at-encode (c .before .before .before .before .before))))
     mask-encoded-requires
-    same-length
-    same-length-2
-    same-length-3
-    same-length-4
-    same-length-5
-    same-length-6
-    same-length-7
-    same-length-8
-    same-length-9
-    same-length-10
-    same-length-11
-    same-length-12
-    same-length-13
-    same-length-14
+    (λ c. at-fill (done c) .fill-tables .kept .0)
+    (λ c. at-fill (done c) .fill-tables .kept .1 .0)
+    (λ c. done c .mask-encoded .kept .1 .1 .1 .1 .0)
+    (λ c. done c .mask-encoded .kept .1 .1 .1 .1 .1 .0)
+    (λ c. done c .mask-encoded .kept .1 .1 .1 .1 .1 .1 .0)
+    (λ c. done c .mask-encoded .kept .1 .1 .1 .1 .1 .1 .1 .0)
+    (λ c. at-encode (at-fill (done c)) .encode-sequence .kept .1 .0)
+    (λ c. done c .mask-encoded .kept .1 .1 .1 .1 .1 .1 .1 .1 .0)
+    (λ c. done c .mask-encoded .kept .1 .1 .1 .1 .1 .1 .1 .1 .1 .0)
+    (λ c. done c .mask-encoded .kept .1 .1 .1 .1 .1 .1 .1 .1 .1 .1 .0)
+    (λ c. done c .mask-encoded .kept .1 .1 .1 .1 .1 .1 .1 .1 .1 .1 .1 .0)
+    (λ c. done c .mask-encoded .kept .1 .1 .1 .1 .1 .1 .1 .1 .1 .1 .1 .1 .0)
+    (λ c. done c .mask-encoded .kept .1 .1 .1 .1 .1 .1 .1 .1 .1 .1 .1 .1 .1 .0)
+    (λ c. done c .mask-encoded .kept .1 .1 .1 .1 .1 .1 .1 .1 .1 .1 .1 .1 .1 .1 .0)
     returns-2)

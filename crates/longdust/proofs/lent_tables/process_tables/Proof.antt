@@ -1,4 +1,4 @@
--- `process_tables`: a refusal touches nothing; an accepted request is encoded and run. Assumes nothing.
+-- `process_tables`: a refusal touches nothing; an accepted request is encoded and run.
 use mathlib.Core.Path.{_≡_, refl, sym, _∙_}
 use Prim.Native.Nat.{ℕ, _≤_}
 use native.Mathlib.Omega.{arith}
@@ -83,50 +83,11 @@ encode-sequence-requires c κs = admit (c .before) .enough .codes
 slice-reshare-prefix-mask-encoded : tie.Need-slice-reshare-prefix-mask-encoded
 slice-reshare-prefix-mask-encoded c = part-fits (c .before .before)
 
-slice-aggregate-mask-encoded : tie.Need-slice-aggregate-mask-encoded
-slice-aggregate-mask-encoded c = sym (part-long (c .before .before .before))
-
 mask-encoded-requires : tie.Need-mask-encoded-requires
 mask-encoded-requires c κs =
     let e = c .before .before .before .before .before .before .before .before .before .before .before .before .before .before in
     let i = at-if e in
     admitted-as _ _ (entry (start i)) (admit i) (start i .args .ln .now) (start i .args .f .now) (part e) refl refl (part-long e)
-
-same-length : tie.Need-same-length
-same-length c = done c .mask-encoded .kept .1 .1 .1 .1 .0
-
-same-length-2 : tie.Need-same-length-2
-same-length-2 c = done c .mask-encoded .kept .1 .1 .1 .1 .1 .0
-
-same-length-3 : tie.Need-same-length-3
-same-length-3 c = done c .mask-encoded .kept .1 .1 .1 .1 .1 .1 .0
-
-same-length-4 : tie.Need-same-length-4
-same-length-4 c = done c .mask-encoded .kept .1 .1 .1 .1 .1 .1 .1 .0
-
-same-length-5 : tie.Need-same-length-5
-same-length-5 c = at-encode (done c) .encode-sequence .kept .1 .0
-
-same-length-6 : tie.Need-same-length-6
-same-length-6 c = done c .mask-encoded .kept .1 .1 .1 .1 .1 .1 .1 .1 .0
-
-same-length-7 : tie.Need-same-length-7
-same-length-7 c = done c .mask-encoded .kept .1 .1 .1 .1 .1 .1 .1 .1 .1 .0
-
-same-length-8 : tie.Need-same-length-8
-same-length-8 c = done c .mask-encoded .kept .1 .1 .1 .1 .1 .1 .1 .1 .1 .1 .0
-
-same-length-9 : tie.Need-same-length-9
-same-length-9 c = done c .mask-encoded .kept .1 .1 .1 .1 .1 .1 .1 .1 .1 .1 .1 .0
-
-same-length-10 : tie.Need-same-length-10
-same-length-10 c = done c .mask-encoded .kept .1 .1 .1 .1 .1 .1 .1 .1 .1 .1 .1 .1 .0
-
-same-length-11 : tie.Need-same-length-11
-same-length-11 c = done c .mask-encoded .kept .1 .1 .1 .1 .1 .1 .1 .1 .1 .1 .1 .1 .1 .0
-
-same-length-12 : tie.Need-same-length-12
-same-length-12 c = done c .mask-encoded .kept .1 .1 .1 .1 .1 .1 .1 .1 .1 .1 .1 .1 .1 .1 .0
 
 returns-2 : tie.Need-returns-2
 returns-2 c =
@@ -147,18 +108,18 @@ process-tables-spec =
     returns
     encode-sequence-requires
     slice-reshare-prefix-mask-encoded
-    slice-aggregate-mask-encoded
+    (λ c. sym (part-long (c .before .before .before)))
     mask-encoded-requires
-    same-length
-    same-length-2
-    same-length-3
-    same-length-4
-    same-length-5
-    same-length-6
-    same-length-7
-    same-length-8
-    same-length-9
-    same-length-10
-    same-length-11
-    same-length-12
+    (λ c. done c .mask-encoded .kept .1 .1 .1 .1 .0)
+    (λ c. done c .mask-encoded .kept .1 .1 .1 .1 .1 .0)
+    (λ c. done c .mask-encoded .kept .1 .1 .1 .1 .1 .1 .0)
+    (λ c. done c .mask-encoded .kept .1 .1 .1 .1 .1 .1 .1 .0)
+    (λ c. at-encode (done c) .encode-sequence .kept .1 .0)
+    (λ c. done c .mask-encoded .kept .1 .1 .1 .1 .1 .1 .1 .1 .0)
+    (λ c. done c .mask-encoded .kept .1 .1 .1 .1 .1 .1 .1 .1 .1 .0)
+    (λ c. done c .mask-encoded .kept .1 .1 .1 .1 .1 .1 .1 .1 .1 .1 .0)
+    (λ c. done c .mask-encoded .kept .1 .1 .1 .1 .1 .1 .1 .1 .1 .1 .1 .0)
+    (λ c. done c .mask-encoded .kept .1 .1 .1 .1 .1 .1 .1 .1 .1 .1 .1 .1 .0)
+    (λ c. done c .mask-encoded .kept .1 .1 .1 .1 .1 .1 .1 .1 .1 .1 .1 .1 .1 .0)
+    (λ c. done c .mask-encoded .kept .1 .1 .1 .1 .1 .1 .1 .1 .1 .1 .1 .1 .1 .1 .0)
     returns-2)

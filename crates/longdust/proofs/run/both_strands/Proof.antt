@@ -1,10 +1,10 @@
--- `both_strands`: the forward list, merged with the other strand's where that is scanned. Assumes nothing.
+-- `both_strands`: the forward list, merged with the other strand's where that is scanned.
 use mathlib.Core.Path.{_≡_, refl, _∙_}
 use native.Mathlib.Omega.{arith}
 use borrow.Author.Needs.{needs}
 use Rattle.letters.specs.Code.{reverseComplement}
 use Rattle.scans.specs.Setup.{Setup, setupOf}
-use Rattle.longdust.proofs.Strands.{lent-as, reversed-whole, other-none, other-some, Scanned, mergeable, merged-room, merged-rows}
+use Rattle.longdust.proofs.Strands.{lent-as, reversed-whole, other-none, other-some, BothHeld, mergeable, merged-room, merged-rows}
 use Rattle.longdust.proofs.run.both_strands.Statement.{statement}
 use Rattle.longdust.proofs.run.both_strands.Proof.Tie as tie
 mod Lts
@@ -21,11 +21,11 @@ abbrev only : tie.Then1 → tie.After-inner-process
 only c = c .before .before .before .before .before .before .before .before .before .before .before .before
 
 scanned-only : (c : tie.Then1)
-    → Scanned (by (start (only c))) (start (only c) .args .forward-only) (start (only c) .args .encoded .now)
+    → BothHeld (by (start (only c))) (start (only c) .args .forward-only) (start (only c) .args .encoded .now)
     (only c .inner-process .last .1 .1 .1 .1 .1 .1 .1 .1 .0) (only c .inner-process .last .1 .1 .1 .1 .1 .1 .1 .1 .1 .0)
     (start (only c) .args .reverse-starts .now) (start (only c) .args .reverse-ends .now) (only c .inner-process .result) 0
 scanned-only c =
-    record { some = start (only c) .pre .forward .kmer-some; forward = only c .inner-process .ensures; reverse = other-none _ _ _ _ _ (c .if1 .taken) }
+    record { some = start (only c) .pre .forward .part .kmer-some; forward = only c .inner-process .ensures; reverse = other-none _ _ _ _ _ (c .if1 .taken) }
 
 abbrev only-merged : tie.After-slice-known17 → tie.After-merge-intervals
 only-merged c = c .before .before .before .before
@@ -50,13 +50,13 @@ abbrev first : tie.After-inner-process2 → tie.After-inner-process
 first c = forward (written c)
 
 scanned : (c : tie.After-inner-process2)
-    → Scanned (by (start (first c))) (start (first c) .args .forward-only) (start (first c) .args .encoded .now)
+    → BothHeld (by (start (first c))) (start (first c) .args .forward-only) (start (first c) .args .encoded .now)
     (first c .inner-process .last .1 .1 .1 .1 .1 .1 .1 .1 .0) (first c .inner-process .last .1 .1 .1 .1 .1 .1 .1 .1 .1 .0)
     (c .inner-process2 .last .1 .1 .1 .1 .1 .1 .1 .1 .0) (c .inner-process2 .last .1 .1 .1 .1 .1 .1 .1 .1 .1 .0)
     (first c .inner-process .result) (c .inner-process2 .result)
 scanned c =
     record {
-      some = start (first c) .pre .forward .kmer-some;
+      some = start (first c) .pre .forward .part .kmer-some;
       forward = first c .inner-process .ensures;
       reverse = other-some _ _ _ _ _ (written c .before .before .if1 .left) (reversed (written c)) (c .inner-process2 .ensures);
     }
@@ -68,7 +68,7 @@ abbrev done : tie.After-slice-known25 → tie.After-inner-process2
 done c = merged c .before .before .before .before .before .before .before .before .before .before .before .before .before .before .before .before .before .before
 
 cast-n : tie.Need-cast-n
-cast-n c = omega (arith, c .before .before .before .before .before .before .before .before .before .before .before .before .before .pre .forward .letters-in)
+cast-n c = omega (arith, c .before .before .before .before .before .before .before .before .before .before .before .before .before .pre .forward .part .letters-in)
 
 inner-process-requires : tie.Need-inner-process-requires
 inner-process-requires c κs = c .before .before .before .before .before .before .before .before .before .before .before .before .before .before .before .before .before .before .before .pre .forward
@@ -79,40 +79,10 @@ merge-intervals-requires c κs =
     let k = only t .inner-process .kept in
     let s = start (only t) in
     let e = s .pre in (
-      mergeable (scanned-only t) _ refl (omega (arith, e .forward .starts-long, k .1 .1 .1 .1 .1 .1 .1 .1 .0)) (omega (arith, e .forward .ends-long, k .1 .1 .1 .1 .1 .1 .1 .1 .1 .0)) (e .reverse .starts-long)
-          (e .reverse .ends-long),
+      mergeable (scanned-only t) _ refl (omega (arith, e .forward .part .starts-long, k .1 .1 .1 .1 .1 .1 .1 .1 .0)) (omega (arith, e .forward .part .ends-long, k .1 .1 .1 .1 .1 .1 .1 .1 .1 .0)) (e .reverse .part .starts-long)
+          (e .reverse .part .ends-long),
       merged-room (scanned-only t) _ refl (s .args .starts .now) (s .args .ends .now) (e .starts) (e .ends),
     )
-
-same-length : tie.Need-same-length
-same-length c = only (only-end c) .inner-process .kept .1 .1 .1 .1 .0
-
-same-length-2 : tie.Need-same-length-2
-same-length-2 c = only (only-end c) .inner-process .kept .1 .1 .1 .1 .1 .0
-
-same-length-3 : tie.Need-same-length-3
-same-length-3 c = only (only-end c) .inner-process .kept .1 .1 .1 .1 .1 .1 .0
-
-same-length-4 : tie.Need-same-length-4
-same-length-4 c = only (only-end c) .inner-process .kept .1 .1 .1 .1 .1 .1 .1 .0
-
-same-length-5 : tie.Need-same-length-5
-same-length-5 c = only (only-end c) .inner-process .kept .1 .1 .1 .1 .1 .1 .1 .1 .0
-
-same-length-6 : tie.Need-same-length-6
-same-length-6 c = only (only-end c) .inner-process .kept .1 .1 .1 .1 .1 .1 .1 .1 .1 .0
-
-same-length-7 : tie.Need-same-length-7
-same-length-7 c = refl
-
-same-length-8 : tie.Need-same-length-8
-same-length-8 c = refl
-
-same-length-9 : tie.Need-same-length-9
-same-length-9 c = only-merged c .merge-intervals .kept .1 .1 .1 .1 .1 .1 .1 .0
-
-same-length-10 : tie.Need-same-length-10
-same-length-10 c = only-merged c .merge-intervals .kept .1 .1 .1 .1 .1 .1 .1 .1 .0
 
 returns : tie.Need-returns
 returns c = merged-rows (scanned-only (only-end c)) (only-merged c .merge-intervals .ensures)
@@ -134,43 +104,10 @@ merge-intervals-requires-2 c κs =
     let l = t .inner-process2 .kept in
     let s = start (first t) in
     let e = s .pre in (
-      mergeable (scanned t) _ refl (omega (arith, e .forward .starts-long, k .1 .1 .1 .1 .1 .1 .1 .1 .0)) (omega (arith, e .forward .ends-long, k .1 .1 .1 .1 .1 .1 .1 .1 .1 .0))
-          (omega (arith, e .reverse .starts-long, l .1 .1 .1 .1 .1 .1 .1 .1 .0)) (omega (arith, e .reverse .ends-long, l .1 .1 .1 .1 .1 .1 .1 .1 .1 .0)),
+      mergeable (scanned t) _ refl (omega (arith, e .forward .part .starts-long, k .1 .1 .1 .1 .1 .1 .1 .1 .0)) (omega (arith, e .forward .part .ends-long, k .1 .1 .1 .1 .1 .1 .1 .1 .1 .0))
+          (omega (arith, e .reverse .part .starts-long, l .1 .1 .1 .1 .1 .1 .1 .1 .0)) (omega (arith, e .reverse .part .ends-long, l .1 .1 .1 .1 .1 .1 .1 .1 .1 .0)),
       merged-room (scanned t) _ refl (s .args .starts .now) (s .args .ends .now) (e .starts) (e .ends),
     )
-
-same-length-11 : tie.Need-same-length-11
-same-length-11 c = done c .inner-process2 .kept .1 .1 .1 .1 .0 ∙ first (done c) .inner-process .kept .1 .1 .1 .1 .0
-
-same-length-12 : tie.Need-same-length-12
-same-length-12 c = done c .inner-process2 .kept .1 .1 .1 .1 .1 .0 ∙ first (done c) .inner-process .kept .1 .1 .1 .1 .1 .0
-
-same-length-13 : tie.Need-same-length-13
-same-length-13 c = done c .inner-process2 .kept .1 .1 .1 .1 .1 .1 .0 ∙ first (done c) .inner-process .kept .1 .1 .1 .1 .1 .1 .0
-
-same-length-14 : tie.Need-same-length-14
-same-length-14 c = done c .inner-process2 .kept .1 .1 .1 .1 .1 .1 .1 .0 ∙ first (done c) .inner-process .kept .1 .1 .1 .1 .1 .1 .1 .0
-
-same-length-15 : tie.Need-same-length-15
-same-length-15 c = written (done c) .reverse-complement-encoded-sequence .kept .1 .0
-
-same-length-16 : tie.Need-same-length-16
-same-length-16 c = first (done c) .inner-process .kept .1 .1 .1 .1 .1 .1 .1 .1 .0
-
-same-length-17 : tie.Need-same-length-17
-same-length-17 c = first (done c) .inner-process .kept .1 .1 .1 .1 .1 .1 .1 .1 .1 .0
-
-same-length-18 : tie.Need-same-length-18
-same-length-18 c = done c .inner-process2 .kept .1 .1 .1 .1 .1 .1 .1 .1 .0
-
-same-length-19 : tie.Need-same-length-19
-same-length-19 c = done c .inner-process2 .kept .1 .1 .1 .1 .1 .1 .1 .1 .1 .0
-
-same-length-20 : tie.Need-same-length-20
-same-length-20 c = merged c .merge-intervals2 .kept .1 .1 .1 .1 .1 .1 .1 .0
-
-same-length-21 : tie.Need-same-length-21
-same-length-21 c = merged c .merge-intervals2 .kept .1 .1 .1 .1 .1 .1 .1 .1 .0
 
 returns-2 : tie.Need-returns-2
 returns-2 c = merged-rows (scanned (done c)) (merged c .merge-intervals2 .ensures)
@@ -182,29 +119,29 @@ both-strands-spec =
     cast-n
     inner-process-requires
     merge-intervals-requires
-    same-length
-    same-length-2
-    same-length-3
-    same-length-4
-    same-length-5
-    same-length-6
-    same-length-7
-    same-length-8
-    same-length-9
-    same-length-10
+    (λ c. only (only-end c) .inner-process .kept .1 .1 .1 .1 .0)
+    (λ c. only (only-end c) .inner-process .kept .1 .1 .1 .1 .1 .0)
+    (λ c. only (only-end c) .inner-process .kept .1 .1 .1 .1 .1 .1 .0)
+    (λ c. only (only-end c) .inner-process .kept .1 .1 .1 .1 .1 .1 .1 .0)
+    (λ c. only (only-end c) .inner-process .kept .1 .1 .1 .1 .1 .1 .1 .1 .0)
+    (λ c. only (only-end c) .inner-process .kept .1 .1 .1 .1 .1 .1 .1 .1 .1 .0)
+    (λ c. refl)
+    (λ c. refl)
+    (λ c. only-merged c .merge-intervals .kept .1 .1 .1 .1 .1 .1 .1 .0)
+    (λ c. only-merged c .merge-intervals .kept .1 .1 .1 .1 .1 .1 .1 .1 .0)
     returns
     reverse-complement-encoded-sequence-requires
     inner-process-requires-2
     merge-intervals-requires-2
-    same-length-11
-    same-length-12
-    same-length-13
-    same-length-14
-    same-length-15
-    same-length-16
-    same-length-17
-    same-length-18
-    same-length-19
-    same-length-20
-    same-length-21
+    (λ c. done c .inner-process2 .kept .1 .1 .1 .1 .0 ∙ first (done c) .inner-process .kept .1 .1 .1 .1 .0)
+    (λ c. done c .inner-process2 .kept .1 .1 .1 .1 .1 .0 ∙ first (done c) .inner-process .kept .1 .1 .1 .1 .1 .0)
+    (λ c. done c .inner-process2 .kept .1 .1 .1 .1 .1 .1 .0 ∙ first (done c) .inner-process .kept .1 .1 .1 .1 .1 .1 .0)
+    (λ c. done c .inner-process2 .kept .1 .1 .1 .1 .1 .1 .1 .0 ∙ first (done c) .inner-process .kept .1 .1 .1 .1 .1 .1 .1 .0)
+    (λ c. written (done c) .reverse-complement-encoded-sequence .kept .1 .0)
+    (λ c. first (done c) .inner-process .kept .1 .1 .1 .1 .1 .1 .1 .1 .0)
+    (λ c. first (done c) .inner-process .kept .1 .1 .1 .1 .1 .1 .1 .1 .1 .0)
+    (λ c. done c .inner-process2 .kept .1 .1 .1 .1 .1 .1 .1 .1 .0)
+    (λ c. done c .inner-process2 .kept .1 .1 .1 .1 .1 .1 .1 .1 .1 .0)
+    (λ c. merged c .merge-intervals2 .kept .1 .1 .1 .1 .1 .1 .1 .0)
+    (λ c. merged c .merge-intervals2 .kept .1 .1 .1 .1 .1 .1 .1 .1 .0)
     returns-2)

@@ -1,4 +1,4 @@
--- `in_range`: the formula. Assumes nothing.
+-- `in_range`: the formula.
 use borrow.Author.Needs.{needs}
 use Rattle.strand.specs.Range.{inRange}
 use Rattle.longdust.proofs.run.in_range.Statement.{statement}

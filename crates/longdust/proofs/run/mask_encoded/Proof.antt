@@ -1,4 +1,4 @@
--- `mask_encoded`: the front of each buffer is lent to both strands, and the rest stays. Assumes nothing.
+-- `mask_encoded`: the front of each buffer is lent to both strands, and the rest stays.
 use mathlib.Core.Path.{sym}
 use Prim.Native.Nat.{ℕ, _+_, _/_, _≤_}
 use native.Mathlib.Omega.{arith}
@@ -93,14 +93,8 @@ div-rows c = search needs
 add-ln : tie.Need-add-ln
 add-ln c = search needs
 
-slice-aggregate-ln : tie.Need-slice-aggregate-ln
-slice-aggregate-ln c = sym (length-take-le _ _ (start (c .before) .pre .enough .ln))
-
 add-f : tie.Need-add-f
 add-f c = search needs
-
-slice-aggregate-f : tie.Need-slice-aggregate-f
-slice-aggregate-f c = sym (length-take-le _ _ (start (c .before .before) .pre .enough .f))
 
 prepare-requires : tie.Need-prepare-requires
 prepare-requires c κs =
@@ -115,111 +109,12 @@ in-range-requires c κs =
     let g = s .pre .enough in
     (omega (arith, length-take-le _ (s .args .ln .now) (g .ln)), omega (arith, length-take-le _ (s .args .f .now) (g .f)))
 
-slice-relend-prefix-both-strands : tie.Need-slice-relend-prefix-both-strands
-slice-relend-prefix-both-strands c = start (c .before .before .before .before) .pre .enough .queue
-
-slice-aggregate-both-strands : tie.Need-slice-aggregate-both-strands
-slice-aggregate-both-strands c = sym (length-take-le _ _ (start (c .before .before .before .before .before) .pre .enough .queue))
-
-slice-relend-prefix-both-strands-2 : tie.Need-slice-relend-prefix-both-strands-2
-slice-relend-prefix-both-strands-2 c = windows-within (c .before .before .before .before .before)
-
-slice-aggregate-both-strands-2 : tie.Need-slice-aggregate-both-strands-2
-slice-aggregate-both-strands-2 c = sym (length-take-le _ _ (windows-within (c .before .before .before .before .before .before)))
-
-slice-relend-prefix-both-strands-3 : tie.Need-slice-relend-prefix-both-strands-3
-slice-relend-prefix-both-strands-3 c = scans-within (c .before .before .before .before .before .before)
-
-slice-aggregate-both-strands-3 : tie.Need-slice-aggregate-both-strands-3
-slice-aggregate-both-strands-3 c = sym (length-take-le _ _ (scans-within (c .before .before .before .before .before .before .before)))
-
-slice-relend-prefix-both-strands-4 : tie.Need-slice-relend-prefix-both-strands-4
-slice-relend-prefix-both-strands-4 c = start (c .before .before .before .before .before .before .before) .pre .enough .candidates
-
-slice-aggregate-both-strands-4 : tie.Need-slice-aggregate-both-strands-4
-slice-aggregate-both-strands-4 c = sym (length-take-le _ _ (start (c .before .before .before .before .before .before .before .before) .pre .enough .candidates))
-
-slice-relend-prefix-both-strands-5 : tie.Need-slice-relend-prefix-both-strands-5
-slice-relend-prefix-both-strands-5 c = start (c .before .before .before .before .before .before .before .before) .pre .enough .reverse-codes
-
-slice-aggregate-both-strands-5 : tie.Need-slice-aggregate-both-strands-5
-slice-aggregate-both-strands-5 c = sym (length-take-le _ _ (start (c .before .before .before .before .before .before .before .before .before) .pre .enough .reverse-codes))
-
-slice-relend-prefix-both-strands-6 : tie.Need-slice-relend-prefix-both-strands-6
-slice-relend-prefix-both-strands-6 c = start (c .before .before .before .before .before .before .before .before .before) .pre .enough .forward-starts
-
-slice-aggregate-both-strands-6 : tie.Need-slice-aggregate-both-strands-6
-slice-aggregate-both-strands-6 c = sym (length-take-le _ _ (start (c .before .before .before .before .before .before .before .before .before .before) .pre .enough .forward-starts))
-
-slice-relend-prefix-both-strands-7 : tie.Need-slice-relend-prefix-both-strands-7
-slice-relend-prefix-both-strands-7 c = start (c .before .before .before .before .before .before .before .before .before .before) .pre .enough .forward-ends
-
-slice-aggregate-both-strands-7 : tie.Need-slice-aggregate-both-strands-7
-slice-aggregate-both-strands-7 c = sym (length-take-le _ _ (start (c .before .before .before .before .before .before .before .before .before .before .before) .pre .enough .forward-ends))
-
-slice-relend-prefix-both-strands-8 : tie.Need-slice-relend-prefix-both-strands-8
-slice-relend-prefix-both-strands-8 c = start (c .before .before .before .before .before .before .before .before .before .before .before) .pre .enough .reverse-starts
-
-slice-aggregate-both-strands-8 : tie.Need-slice-aggregate-both-strands-8
-slice-aggregate-both-strands-8 c = sym (length-take-le _ _ (start (c .before .before .before .before .before .before .before .before .before .before .before .before) .pre .enough .reverse-starts))
-
-slice-relend-prefix-both-strands-9 : tie.Need-slice-relend-prefix-both-strands-9
-slice-relend-prefix-both-strands-9 c = start (c .before .before .before .before .before .before .before .before .before .before .before .before) .pre .enough .reverse-ends
-
-slice-aggregate-both-strands-9 : tie.Need-slice-aggregate-both-strands-9
-slice-aggregate-both-strands-9 c = sym (length-take-le _ _ (start (c .before .before .before .before .before .before .before .before .before .before .before .before .before) .pre .enough .reverse-ends))
-
-slice-relend-prefix-both-strands-10 : tie.Need-slice-relend-prefix-both-strands-10
-slice-relend-prefix-both-strands-10 c = start (c .before .before .before .before .before .before .before .before .before .before .before .before .before) .pre .enough .starts
-
-slice-aggregate-both-strands-10 : tie.Need-slice-aggregate-both-strands-10
-slice-aggregate-both-strands-10 c = sym (length-take-le _ _ (start (c .before .before .before .before .before .before .before .before .before .before .before .before .before .before) .pre .enough .starts))
-
-slice-relend-prefix-both-strands-11 : tie.Need-slice-relend-prefix-both-strands-11
-slice-relend-prefix-both-strands-11 c = start (c .before .before .before .before .before .before .before .before .before .before .before .before .before .before) .pre .enough .ends
-
-slice-aggregate-both-strands-11 : tie.Need-slice-aggregate-both-strands-11
-slice-aggregate-both-strands-11 c = sym (length-take-le _ _ (start (c .before .before .before .before .before .before .before .before .before .before .before .before .before .before .before) .pre .enough .ends))
-
 both-strands-requires : tie.Need-both-strands-requires
 both-strands-requires c κs =
     let k = c .before .before .before .before .before .before .before .before .before .before .before .before .before .before .before in
     let s = start k in
     let q = c .before .before .before .before .before .before .before .before .before .before .before .before .prepare in
     exact (s .args .options) (letters s) (k .n-kmers .result) (entry s) (s .pre) (k .n-kmers .ensures) (q .result) (prepared-kmer (q .ensures)) (prepared-window (q .ensures))
-
-same-length : tie.Need-same-length
-same-length c = freed (done c) .queue .long
-
-same-length-2 : tie.Need-same-length-2
-same-length-2 c = freed (done c) .window-counts .long
-
-same-length-3 : tie.Need-same-length-3
-same-length-3 c = freed (done c) .scan-counts .long
-
-same-length-4 : tie.Need-same-length-4
-same-length-4 c = freed (done c) .candidates .long
-
-same-length-5 : tie.Need-same-length-5
-same-length-5 c = freed (done c) .reverse-codes .long
-
-same-length-6 : tie.Need-same-length-6
-same-length-6 c = freed (done c) .forward-starts .long
-
-same-length-7 : tie.Need-same-length-7
-same-length-7 c = freed (done c) .forward-ends .long
-
-same-length-8 : tie.Need-same-length-8
-same-length-8 c = freed (done c) .reverse-starts .long
-
-same-length-9 : tie.Need-same-length-9
-same-length-9 c = freed (done c) .reverse-ends .long
-
-same-length-10 : tie.Need-same-length-10
-same-length-10 c = freed (done c) .starts .long
-
-same-length-11 : tie.Need-same-length-11
-same-length-11 c = freed (done c) .ends .long
 
 returns : tie.Need-returns
 returns c =
@@ -240,43 +135,43 @@ mask-encoded-spec =
     add-rows-2
     div-rows
     add-ln
-    slice-aggregate-ln
+    (λ c. sym (length-take-le _ _ (start (c .before) .pre .enough .ln)))
     add-f
-    slice-aggregate-f
+    (λ c. sym (length-take-le _ _ (start (c .before .before) .pre .enough .f)))
     prepare-requires
     in-range-requires
-    slice-relend-prefix-both-strands
-    slice-aggregate-both-strands
-    slice-relend-prefix-both-strands-2
-    slice-aggregate-both-strands-2
-    slice-relend-prefix-both-strands-3
-    slice-aggregate-both-strands-3
-    slice-relend-prefix-both-strands-4
-    slice-aggregate-both-strands-4
-    slice-relend-prefix-both-strands-5
-    slice-aggregate-both-strands-5
-    slice-relend-prefix-both-strands-6
-    slice-aggregate-both-strands-6
-    slice-relend-prefix-both-strands-7
-    slice-aggregate-both-strands-7
-    slice-relend-prefix-both-strands-8
-    slice-aggregate-both-strands-8
-    slice-relend-prefix-both-strands-9
-    slice-aggregate-both-strands-9
-    slice-relend-prefix-both-strands-10
-    slice-aggregate-both-strands-10
-    slice-relend-prefix-both-strands-11
-    slice-aggregate-both-strands-11
+    (λ c. start (c .before .before .before .before) .pre .enough .queue)
+    (λ c. sym (length-take-le _ _ (start (c .before .before .before .before .before) .pre .enough .queue)))
+    (λ c. windows-within (c .before .before .before .before .before))
+    (λ c. sym (length-take-le _ _ (windows-within (c .before .before .before .before .before .before))))
+    (λ c. scans-within (c .before .before .before .before .before .before))
+    (λ c. sym (length-take-le _ _ (scans-within (c .before .before .before .before .before .before .before))))
+    (λ c. start (c .before .before .before .before .before .before .before) .pre .enough .candidates)
+    (λ c. sym (length-take-le _ _ (start (c .before .before .before .before .before .before .before .before) .pre .enough .candidates)))
+    (λ c. start (c .before .before .before .before .before .before .before .before) .pre .enough .reverse-codes)
+    (λ c. sym (length-take-le _ _ (start (c .before .before .before .before .before .before .before .before .before) .pre .enough .reverse-codes)))
+    (λ c. start (c .before .before .before .before .before .before .before .before .before) .pre .enough .forward-starts)
+    (λ c. sym (length-take-le _ _ (start (c .before .before .before .before .before .before .before .before .before .before) .pre .enough .forward-starts)))
+    (λ c. start (c .before .before .before .before .before .before .before .before .before .before) .pre .enough .forward-ends)
+    (λ c. sym (length-take-le _ _ (start (c .before .before .before .before .before .before .before .before .before .before .before) .pre .enough .forward-ends)))
+    (λ c. start (c .before .before .before .before .before .before .before .before .before .before .before) .pre .enough .reverse-starts)
+    (λ c. sym (length-take-le _ _ (start (c .before .before .before .before .before .before .before .before .before .before .before .before) .pre .enough .reverse-starts)))
+    (λ c. start (c .before .before .before .before .before .before .before .before .before .before .before .before) .pre .enough .reverse-ends)
+    (λ c. sym (length-take-le _ _ (start (c .before .before .before .before .before .before .before .before .before .before .before .before .before) .pre .enough .reverse-ends)))
+    (λ c. start (c .before .before .before .before .before .before .before .before .before .before .before .before .before) .pre .enough .starts)
+    (λ c. sym (length-take-le _ _ (start (c .before .before .before .before .before .before .before .before .before .before .before .before .before .before) .pre .enough .starts)))
+    (λ c. start (c .before .before .before .before .before .before .before .before .before .before .before .before .before .before) .pre .enough .ends)
+    (λ c. sym (length-take-le _ _ (start (c .before .before .before .before .before .before .before .before .before .before .before .before .before .before .before) .pre .enough .ends)))
     both-strands-requires
-    same-length
-    same-length-2
-    same-length-3
-    same-length-4
-    same-length-5
-    same-length-6
-    same-length-7
-    same-length-8
-    same-length-9
-    same-length-10
-    same-length-11
+    (λ c. freed (done c) .queue .long)
+    (λ c. freed (done c) .window-counts .long)
+    (λ c. freed (done c) .scan-counts .long)
+    (λ c. freed (done c) .candidates .long)
+    (λ c. freed (done c) .reverse-codes .long)
+    (λ c. freed (done c) .forward-starts .long)
+    (λ c. freed (done c) .forward-ends .long)
+    (λ c. freed (done c) .reverse-starts .long)
+    (λ c. freed (done c) .reverse-ends .long)
+    (λ c. freed (done c) .starts .long)
+    (λ c. freed (done c) .ends .long)
     returns)

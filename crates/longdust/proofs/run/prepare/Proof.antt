@@ -1,4 +1,4 @@
--- `prepare`: the setup of its answer is that of the options. Assumes nothing.
+-- `prepare`: the setup of its answer is that of the options.
 use borrow.Author.Needs.{needs}
 use mir.Syntax.{w32}
 use mir.ValLaws.{toZ-ofZ}

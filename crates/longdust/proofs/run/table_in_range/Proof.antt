@@ -1,4 +1,4 @@
--- `table_in_range`: entries 1..i are tested so far. Assumes nothing.
+-- `table_in_range`: entries 1..i are tested so far.
 use mathlib.Core.Path.{_≡_, refl, ap, _∙_}
 use Prim.Native.Nat.{ℕ, _≤_, _-_}
 use native.Mathlib.Omega.{arith}

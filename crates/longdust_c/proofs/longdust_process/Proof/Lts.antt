@@ -1,4 +1,4 @@
--- Made by tools/lift from the prover's `Lts` of `longdust_process` over a slice of `[u64; 2]`; not to be edited. Assumes nothing.
+-- Made by tools/lift from the prover's `Lts` of `longdust_process` over a slice of `[u64; 2]`; not to be edited.
 use Rattle.scans.proofs.ForwardPosition as Rec·type
 use Rattle.scans.proofs.ForwardPosition.Laws as Rec·laws
 use denote.Memory as Rec·memory

@@ -1,4 +1,4 @@
--- Made by tools/lift from the prover's `Tie` of `longdust_process_tables` over a slice of `[u64; 2]`; not to be edited. Assumes nothing.
+-- Made by tools/lift from the prover's `Tie` of `longdust_process_tables` over a slice of `[u64; 2]`; not to be edited.
 use Rattle.longdust.proofs.process_tables.Met
 use Rattle.longdust.proofs.LentTablesProcessTablesReads as Reads
 use Rattle.longdust.proofs.process_tables.Symbol

@@ -1,4 +1,4 @@
--- `replay::call::answer` is safe: every part is at most as long as its buffer, and the call keeps its length. Assumes nothing.
+-- `replay::call::answer` is safe: every part is at most as long as its buffer, and the call keeps its length.
 use mathlib.Core.Path.{sym}
 use borrow.Author.Needs.{needs}
 use lib.Seq.{length-take-le, length-front}

@@ -1,4 +1,4 @@
--- `replay::call::call` is safe: each of the two calls keeps the length of what it is lent. Assumes nothing.
+-- `replay::call::call` is safe: each of the two calls keeps the length of what it is lent.
 use mathlib.Core.Path.{refl}
 use Rattle.replay.proofs.call.call.Statement.{statement}
 use Rattle.replay.proofs.call.call.Proof.Tie as tie

@@ -1,4 +1,4 @@
--- `replay::recorded::has` is safe: an entry of 32 bits fits 64. Assumes nothing.
+-- `replay::recorded::has` is safe: an entry of 32 bits fits 64.
 use native.Mathlib.Omega.{arith}
 use borrow.Author.Needs.{needs}
 use Rattle.replay.proofs.recorded.has.Statement.{statement}

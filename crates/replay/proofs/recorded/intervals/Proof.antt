@@ -1,4 +1,4 @@
--- `replay::recorded::intervals` is safe and ends after `count` turns. Assumes nothing.
+-- `replay::recorded::intervals` is safe and ends after `count` turns.
 use Prim.Native.Nat.{_-_, _≤_}
 use borrow.Author.Needs.{needs}
 use Rattle.replay.proofs.recorded.intervals.Statement.{statement}

@@ -1,4 +1,4 @@
--- `replay::request::fill` meets its contract: a run ends within the table. Assumes nothing.
+-- `replay::request::fill` meets its contract: a run ends within the table.
 use mathlib.Core.Path.{_≡_}
 use Prim.Native.Nat.{_≤_}
 use native.Mathlib.Omega.{arith}

@@ -1,4 +1,4 @@
--- `replay::request::sequence` meets its contract: there are no more letters than room for them. Assumes nothing.
+-- `replay::request::sequence` meets its contract: there are no more letters than room for them.
 use mathlib.Core.Path.{_≡_}
 use Prim.Native.Nat.{_-_, _≤_}
 use native.Mathlib.Omega.{arith}

@@ -1,4 +1,4 @@
--- `replay::request::table` is safe: every run begins within the table. Assumes nothing.
+-- `replay::request::table` is safe: every run begins within the table.
 use mathlib.Core.Path.{_≡_}
 use Prim.Native.Nat.{_≤_}
 use borrow.Author.Needs.{needs}

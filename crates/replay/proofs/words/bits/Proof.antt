@@ -1,4 +1,4 @@
--- `replay::words::bits` is safe: a shift is below 64, since at most 16 digits are taken. Assumes nothing.
+-- `replay::words::bits` is safe: a shift is below 64, since at most 16 digits are taken.
 use Prim.Native.Nat.{_-_, _≤_}
 use borrow.Author.Needs.{needs}
 use lib.ListN.{length}

@@ -1,4 +1,4 @@
--- `replay::words::float` is safe: the bits made a float are no not-a-number's. Assumes nothing.
+-- `replay::words::float` is safe: the bits made a float are no not-a-number's.
 use borrow.Author.Tests.{eq-eqb, ne-eqb}
 use borrow.Author.Needs.{needs}
 use lib.Ieee.{nanBits}

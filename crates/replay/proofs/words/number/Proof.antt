@@ -1,4 +1,4 @@
--- `replay::words::number` meets its contract: what is read so far is at most `most`. Assumes nothing.
+-- `replay::words::number` meets its contract: what is read so far is at most `most`.
 use Prim.Native.Nat.{_-_, _≤_}
 use borrow.Author.Needs.{needs}
 use lib.ListN.{length}

@@ -10,79 +10,60 @@ use Rattle.scans.proofs.BackwardState.add_entry.Tie as tie
 scanned : (c : tie.Else1) → getD (c .before .args .scan-counts .now) (c .before .args .entry / 2) 0 < getD (c .before .args .window-counts .now) (c .before .args .entry / 2) 0
 scanned c = c .before .pre .1 (even (c .before .args .entry) (c .if1 .left))
 
--- src/lib.rt:354:13
 returns : tie.Need-returns
 returns c = adds-ambiguous _ _ _ _ _ _ (c .before .before .if1 .taken)
 
--- src/lib.rt:356:20
 cast-kmer : tie.Need-cast-kmer
 cast-kmer c = search needs
 
--- src/lib.rt:357:17
 mul-c : tie.Need-mul-c
 mul-c c = search needs
 
--- src/lib.rt:357:17
 slice-read-c : tie.Need-slice-read-c
 slice-read-c c = search needs
 
--- src/lib.rt:357:17
 add-c : tie.Need-add-c
 add-c c = omega (arith, scanned (c .before), c .before .before .good)
 
--- src/lib.rt:358:9
 mul-scan-counts : tie.Need-mul-scan-counts
 mul-scan-counts c = search needs
 
--- src/lib.rt:358:9
 slice-write-scan-counts : tie.Need-slice-write-scan-counts
 slice-write-scan-counts c = search needs
 
--- src/lib.rt:359:20
 mul-left : tie.Need-mul-left
 mul-left c = search needs
 
--- src/lib.rt:359:20
 shared-slice-read-left : tie.Need-shared-slice-read-left
 shared-slice-read-left c = search needs
 
--- src/lib.rt:359:20
 sub-left : tie.Need-sub-left
 sub-left c = omega (arith, scanned (c .before .before))
 
--- src/lib.rt:359:20
 add-left : tie.Need-add-left
 add-left c = omega (arith, scanned (c .before .before))
 
--- src/lib.rt:360:31
 cast-self : tie.Need-cast-self
 cast-self c = omega (arith, scanned (c .before .before))
 
--- src/lib.rt:360:28
 mul-self : tie.Need-mul-self
 mul-self c = omega (arith, scanned (c .before .before))
 
--- src/lib.rt:360:28
 shared-slice-read-self : tie.Need-shared-slice-read-self
 shared-slice-read-self c = omega (arith, scanned (c .before .before .before))
 
--- src/lib.rt:361:33
 cast-self-2 : tie.Need-cast-self-2
 cast-self-2 c = search needs
 
--- src/lib.rt:361:30
 mul-self-2 : tie.Need-mul-self-2
 mul-self-2 c = search needs
 
--- src/lib.rt:361:30
 shared-slice-read-self-2 : tie.Need-shared-slice-read-self-2
 shared-slice-read-self-2 c = omega (arith, scanned (c .before .before .before .before .before))
 
--- src/lib.rt:346:5
 same-length : tie.Need-same-length
 same-length c = search needs
 
--- src/lib.rt:346:5
 returns-2 : tie.Need-returns-2
 returns-2 c = let d = c .before .before .before .before .before .before in adds-plain _ _ _ _ _ _ (d .if1 .left) (d .before .pre .0 .1)
 

@@ -5,19 +5,15 @@ use borrow.Author.Needs.{needs}
 use Rattle.scans.proofs.BackwardState.leaves_peak.Statement.{statement}
 use Rattle.scans.proofs.BackwardState.leaves_peak.Tie as tie
 
--- src/lib.rt:386:12
 near-zero-requires : tie.Need-near-zero-requires
 near-zero-requires c κs = search needs
 
--- src/lib.rt:388:17
 returns : tie.Need-returns
 returns c = rw (sym (c .before .before .before .before .near-zero .ensures) ∙ c .before .before .before .if1 .taken, c .before .if2 .taken, and-true)
 
--- src/lib.rt:383:5
 returns-2 : tie.Need-returns-2
 returns-2 c = rw (c .if2 .left)
 
--- src/lib.rt:383:5
 returns-3 : tie.Need-returns-3
 returns-3 c = rw (sym (c .before .near-zero .ensures) ∙ c .if1 .left, and-nothing)
 

@@ -2,11 +2,9 @@ use mathlib.Core.Bool.{and-true, and-false}
 use Rattle.scans.proofs.BackwardState.too_low.Statement.{statement}
 use Rattle.scans.proofs.BackwardState.too_low.Tie as tie
 
--- src/lib.rt:410:13
 returns : tie.Need-returns
 returns c = rw (c .before .if1 .taken, and-true)
 
--- src/lib.rt:406:5
 returns-2 : tie.Need-returns-2
 returns-2 c = rw (c .if1 .left, and-false)
 

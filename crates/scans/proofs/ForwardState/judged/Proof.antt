@@ -3,15 +3,12 @@ use borrow.Author.Needs.{needs}
 use Rattle.scans.proofs.ForwardState.judged.Statement.{statement}
 use Rattle.scans.proofs.ForwardState.judged.Tie as tie
 
--- src/lib.rt:191:26
 add-self : tie.Need-add-self
 add-self c = search needs
 
--- src/lib.rt:184:5
 returns : tie.Need-returns
 returns c = rw (c .if1 .taken) (refl, refl)
 
--- src/lib.rt:184:5
 returns-2 : tie.Need-returns-2
 returns-2 c = rw (c .if1 .left) (refl, refl)
 

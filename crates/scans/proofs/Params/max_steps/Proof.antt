@@ -17,15 +17,12 @@ read-back c = toZ-ofZ (in-range c)
 returns : tie.Need-returns
 returns c = steps-whole _ _ (read-back (c .before)) _ (c .if1 .taken)
 
--- src/lib.rt:119:21
 cast-steps : tie.Need-cast-steps
 cast-steps c = (steps-number _ _ (read-back (c .before .before .before)) (c .before .before .if1 .left), fits-natAbs {w = w32} {z = toZ w32 (ofZ w32 (c .before .before .before .before .before .args .self .test))} tt (rw (read-back (c .before .before .before)) (in-range (c .before .before .before))))
 
--- src/lib.rt:121:13
 returns-2 : tie.Need-returns-2
 returns-2 c = steps-some _ _ (read-back (c .before .before .before .before)) _ (c .before .before .before .if1 .left) (c .if2 .taken)
 
--- src/lib.rt:113:5
 returns-3 : tie.Need-returns-3
 returns-3 c = steps-all _ _ (read-back (c .before .before .before .before)) _ (c .before .before .before .if1 .left) (c .if2 .left)
 

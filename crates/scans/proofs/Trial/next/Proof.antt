@@ -23,8 +23,8 @@ abbrev scanned : tie.Else2 → tie.After-dust-forward
 scanned c = c .before .before .before .before
 
 -- the window has `len` entries
-newest : (c : tie.Start) → length (window (c .args .ring .now) (c .args .head) (c .args .len)) ≡ c .args .len
-newest c = window-length (c .args .ring .now) (c .args .head) (c .args .len) (c .pre .0 .queued .head-in) (c .pre .0 .queued .len-in)
+window-long : (c : tie.Start) → length (window (c .args .ring .now) (c .args .head) (c .args .len)) ≡ c .args .len
+window-long c = window-length (c .args .ring .now) (c .args .head) (c .args .len) (c .pre .0 .queued .head-in) (c .pre .0 .queued .len-in)
 
 -- the counts are cleared again
 cleared : (c : tie.After-clear-from) → c .clear-from .last .1 .1 .1 .1 .0 ≡ replicate (4 ^ start (failed (scanned (c .before .before))) .args .p .kmer) 0
@@ -63,7 +63,7 @@ returns-2 c =
     let d = failed k in
     let a = start d in
     let s = a .pre .1 in
-    trial-found _ _ _ _ _ (s .0) (d .if1 .left) _ _ (k .dust-forward .ensures) (omega (arith, s .1, newest a)) (c .if2 .taken ∙ sym (newest a)) _ refl refl (refl, refl, refl)
+    trial-found _ _ _ _ _ (s .0) (d .if1 .left) _ _ (k .dust-forward .ensures) (omega (arith, s .1, window-long a)) (c .if2 .taken ∙ sym (window-long a)) _ refl refl (refl, refl, refl)
 
 clear-from-requires : tie.Need-clear-from-requires
 clear-from-requires c κs =
@@ -85,7 +85,7 @@ returns-3 c =
     let k = scanned o in
     let d = failed k in
     let a = start d in
-    trial-approx _ _ _ _ _ (a .pre .1 .0) (d .if1 .left) _ _ (k .dust-forward .ensures) (λ e. o .if2 .left (e ∙ newest a)) _ (cleared f) (c .before .if3 .taken) _ _ (c .going2 .ensures)
+    trial-approx _ _ _ _ _ (a .pre .1 .0) (d .if1 .left) _ _ (k .dust-forward .ensures) (λ e. o .if2 .left (e ∙ window-long a)) _ (cleared f) (c .before .if3 .taken) _ _ (c .going2 .ensures)
 
 larger-requires : tie.Need-larger-requires
 larger-requires c κs = search needs
@@ -104,7 +104,7 @@ returns-4 c =
     let k = scanned o in
     let d = failed k in
     let a = start d in
-    trial-on _ _ _ _ _ (a .pre .1 .0) (d .if1 .left) _ _ (k .dust-forward .ensures) (λ e. o .if2 .left (e ∙ newest a)) _ (cleared f) (g .before .if3 .left) _ (g .larger .ensures) _ (c .going3 .ensures)
+    trial-on _ _ _ _ _ (a .pre .1 .0) (d .if1 .left) _ _ (k .dust-forward .ensures) (λ e. o .if2 .left (e ∙ window-long a)) _ (cleared f) (g .before .if3 .left) _ (g .larger .ensures) _ (c .going3 .ensures)
 
 pub next-spec : {M : Type 1} → statement M
 next-spec =

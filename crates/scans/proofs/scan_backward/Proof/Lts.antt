@@ -1,4 +1,4 @@
--- Made by tools/lift from the prover's `Lts` of `scan_backward` over a slice of `[u64; 2]`; not to be edited. Assumes nothing.
+-- Made by tools/lift from the prover's `Lts` of `scan_backward` over a slice of `[u64; 2]`; not to be edited.
 use denote.Memory as Rec·memory
 use Prim.Native.Nat
 use Rattle.scans.proofs.ForwardPosition

@@ -1,4 +1,4 @@
--- `calculate_f`: one class is stored, the other entries stay 0. Assumes nothing.
+-- `calculate_f`: one class is stored, the other entries stay 0.
 use mathlib.Core.Path.{ap, _∙_}
 use Rattle.floats.specs.Binary64.{number}
 use Rattle.tables.proofs.Densities.{uniform-made}

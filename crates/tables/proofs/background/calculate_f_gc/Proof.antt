@@ -1,4 +1,4 @@
--- `calculate_f_gc`: the two arrays and k + 1. Assumes nothing.
+-- `calculate_f_gc`: the two arrays and k + 1.
 use Rattle.tables.proofs.Densities.{by-gc-made}
 use borrow.Author.Needs.{needs}
 use Rattle.tables.proofs.background.calculate_f_gc.Statement.{statement}

@@ -1,4 +1,4 @@
--- `classes`: one arm for each case of the choice. Assumes nothing.
+-- `classes`: one arm for each case of the choice.
 use mathlib.Core.Path.{sym, ap, _∙_}
 use lib.Ieee.{Float}
 use Rattle.tables.specs.declared.GcOption.{GcOption}

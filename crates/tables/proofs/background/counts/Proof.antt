@@ -1,4 +1,4 @@
--- `counts`: after i turns the first i counts are stored and `binomial` is k over i. Assumes nothing.
+-- `counts`: after i turns the first i counts are stored and `binomial` is k over i.
 use mathlib.Core.Path.{_≡_, _∙_}
 use Prim.Native.Nat.{_+_, _-_, _≤_}
 use native.Mathlib.Omega.{arith}

@@ -1,4 +1,4 @@
--- `ratios`: after i turns the first i ratios are stored. Assumes nothing.
+-- `ratios`: after i turns the first i ratios are stored.
 use mathlib.Core.Path.{_≡_, ap₂}
 use Prim.Native.Nat.{_+_, _-_, _≤_}
 use native.Mathlib.Omega.{arith}

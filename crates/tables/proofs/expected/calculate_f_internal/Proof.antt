@@ -1,4 +1,4 @@
--- `calculate_f_internal`: each turn adds a class. Assumes nothing.
+-- `calculate_f_internal`: each turn adds a class.
 use mathlib.Core.Path.{_≡_, ap, _∙_}
 use Prim.Native.Nat.{ℕ, suc, _+_, _-_, _≤_}
 use native.Mathlib.Omega.{arith}

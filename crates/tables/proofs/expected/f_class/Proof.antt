@@ -1,4 +1,4 @@
--- `f_class`: the sum below 30, `f_large` from there on. Assumes nothing.
+-- `f_class`: the sum below 30, `f_large` from there on.
 use mathlib.Core.Path.{ap₂}
 use Rattle.floats.specs.Arithmetic.{_⊗_}
 use Rattle.tables.specs.F.{fClass}

@@ -1,4 +1,4 @@
--- `f_large`: the formula. Assumes nothing.
+-- `f_large`: the formula.
 use Rattle.tables.specs.F.{fLarge}
 use borrow.Author.Needs.{needs}
 use Rattle.tables.proofs.expected.f_large.Statement.{statement}

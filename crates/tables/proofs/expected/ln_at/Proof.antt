@@ -1,4 +1,4 @@
--- `ln_at`: up to w the table holds what the formula gives. Assumes nothing.
+-- `ln_at`: up to w the table holds what the formula gives.
 use native.Mathlib.Omega.{arith}
 use Rattle.tables.proofs.Tables.{ln-room, ln-read}
 use borrow.Author.Needs.{needs}

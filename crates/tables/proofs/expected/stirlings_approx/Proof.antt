@@ -1,4 +1,4 @@
--- `stirlings_approx`: the formula. Assumes nothing.
+-- `stirlings_approx`: the formula.
 use Rattle.tables.specs.F.{stirlingsApprox}
 use borrow.Author.Needs.{needs}
 use Rattle.tables.proofs.expected.stirlings_approx.Statement.{statement}

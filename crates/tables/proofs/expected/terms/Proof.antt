@@ -1,4 +1,4 @@
--- `terms`: each turn adds a term, until one no longer counts. Assumes nothing.
+-- `terms`: each turn adds a term, until one is too small to count.
 use mathlib.Core.Path.{_≡_, refl, _∙_}
 use Prim.Native.Nat.{suc, _+_, _-_, _≤_}
 use native.Mathlib.Omega.{arith}

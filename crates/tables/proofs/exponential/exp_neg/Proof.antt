@@ -1,4 +1,4 @@
--- `exp_neg`: the loop takes 1 off as long as `expFrom` does. Assumes nothing.
+-- `exp_neg`: the loop takes 1 off as long as `expFrom` does.
 use mathlib.Core.Path.{_≡_, refl, ap, _∙_}
 use Prim.Native.Nat.{_-_, _≤_}
 use native.Mathlib.Omega.{arith}

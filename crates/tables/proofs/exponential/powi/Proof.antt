@@ -1,4 +1,4 @@
--- `powi`: 1.0 multiplied by the base. Assumes nothing.
+-- `powi`: 1.0 multiplied by the base.
 use Rattle.tables.specs.Exp.{powi}
 use borrow.Author.Needs.{needs}
 use Rattle.tables.proofs.exponential.powi.Statement.{statement}

@@ -1,10 +1,10 @@
--- `times`: each turn of the loop is a step of the countdown. Assumes nothing.
+-- `times`: each turn of the loop is a step of the countdown.
 use mathlib.Core.Path.{_≡_, _∙_}
 use Prim.Native.Nat.{ℕ}
 use native.Mathlib.Omega.{arith}
 use lib.Ieee.{Float}
 use Rattle.floats.specs.Arithmetic.{_⊗_}
-use Rattle.tables.specs.Arithmetic.{countdown}
+use Rattle.tables.specs.Countdown.{countdown}
 use Rattle.tables.specs.Exp.{times}
 use Rattle.tables.proofs.Countdown.{turn, ended}
 use borrow.Author.Needs.{needs}

@@ -1,4 +1,4 @@
--- `difference`: a - b where b <= a, else b - a negated. Assumes nothing.
+-- `difference`: a - b where b <= a, else b - a negated.
 use mathlib.Core.Path.{sym, ap}
 use lib.IntN.{ℤ}
 use lib.Ieee.{binary64, ofInt}

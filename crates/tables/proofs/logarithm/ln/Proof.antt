@@ -1,4 +1,4 @@
--- `ln`: a finite number above 0 by its bits, every other float by its case. Assumes nothing.
+-- `ln`: a finite number above 0 by its bits, every other float by its case.
 use mathlib.Core.Path.{sym, ap, ap₂, _∙_, subst}
 use mathlib.Core.Bool.{Bool}
 use lib.Dec.{T}
@@ -6,12 +6,12 @@ use lib.Ieee.{Float, binary64, lt}
 use lib.Ieee.Bits.{ofBits-toBits}
 use Rattle.floats.specs.Binary64.{zero64}
 use Rattle.tables.specs.Ln.{lnOf}
-use Rattle.tables.proofs.LnCases.{infinity, minus-infinity, not-a-number, number, ln-infinite, ln-zero, ln-none}
+use Rattle.tables.proofs.LnCases.{infinity, minus-infinity, not-a-number, positive-number, ln-infinite, ln-zero, ln-none}
 use Rattle.tables.proofs.logarithm.ln.Statement.{statement}
 use Rattle.tables.proofs.logarithm.ln.Tie as tie
 
 float-to-bits-ln-bits : tie.Need-float-to-bits-ln-bits
-float-to-bits-ln-bits c = number _ (c .before .if1 .taken)
+float-to-bits-ln-bits c = positive-number _ (c .before .if1 .taken)
 
 ln-bits-requires : tie.Need-ln-bits-requires
 ln-bits-requires c κs =

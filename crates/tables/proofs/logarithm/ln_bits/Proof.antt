@@ -1,4 +1,4 @@
--- `ln_bits`: the exponent field and the digits of the significand. Assumes nothing.
+-- `ln_bits`: the exponent field and the digits of the significand.
 use mathlib.Core.Path.{sym, ap, ap₂, _∙_}
 use mathlib.Core.Bool.{false}
 use Prim.Native.Nat.{ℕ, _+_, _-_, _/_, _%_, _≤_, _<_}

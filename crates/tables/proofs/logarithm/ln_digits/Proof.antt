@@ -1,4 +1,4 @@
--- `ln_digits`: q shifted to 53 digits is the significand of m, with 1 <= m < 2. Assumes nothing.
+-- `ln_digits`: q shifted to 53 digits is the significand of m, with 1 <= m < 2.
 use mathlib.Core.Path.{sym, ap, _∙_, subst}
 use mathlib.Core.Bool.{not}
 use Prim.Native.Nat.{ℕ, _+_, _-_, _*_, _^_}

@@ -1,4 +1,4 @@
--- `ln_parts`: the formula, with the exponent as a difference. Assumes nothing.
+-- `ln_parts`: the formula, with the exponent as a difference.
 use Rattle.tables.specs.Ln.{lnParts}
 use borrow.Author.Needs.{needs}
 use Rattle.tables.proofs.logarithm.ln_parts.Statement.{statement}

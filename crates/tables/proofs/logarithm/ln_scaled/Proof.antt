@@ -1,4 +1,4 @@
--- `ln_scaled`: halving m raises the exponent by one. Assumes nothing.
+-- `ln_scaled`: halving m raises the exponent by one.
 use Rattle.tables.specs.Ln.{lnScaled}
 use Rattle.tables.proofs.Exponent.{minus-add}
 use borrow.Author.Needs.{needs}

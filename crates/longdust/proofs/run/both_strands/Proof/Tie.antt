@@ -1,4 +1,4 @@
--- Made by tools/lift from the prover's `Tie` of `run::both_strands` over a slice of `[u64; 2]`; not to be edited. Assumes nothing.
+-- Made by tools/lift from the prover's `Tie` of `run::both_strands` over a slice of `[u64; 2]`; not to be edited.
 use Rattle.intervals.proofs.merge_intervals.Met
 use Rattle.intervals.proofs.merge_intervals.Reads
 use Rattle.intervals.proofs.merge_intervals.Symbol

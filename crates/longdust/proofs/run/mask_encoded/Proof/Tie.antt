@@ -1,4 +1,4 @@
--- Made by tools/lift from the prover's `Tie` of `run::mask_encoded` over a slice of `[u64; 2]`; not to be edited. Assumes nothing.
+-- Made by tools/lift from the prover's `Tie` of `run::mask_encoded` over a slice of `[u64; 2]`; not to be edited.
 use Rattle.letters.proofs.n_kmers.Met
 use Rattle.letters.proofs.n_kmers.Reads
 use Rattle.letters.proofs.n_kmers.Symbol
