@@ -109,6 +109,10 @@ module _ {f : Format} {x y : Float} (A : Finite f x) (B : Finite f y) where
   unfolding le
   le-value = or-is (lt x y) (eq x y) lt-value eq-value
 
+-- a number is as large as itself
+pub le-self : {f : Format} {x : Float} → Finite f x → T (le x x)
+le-self a = le-value a a .1 (omega arith)
+
 -- what lies between two finite floats is finite
 pub finite-between : (lo x hi : Float) → T (finite lo) → T (finite hi) → T (le lo x) → T (le x hi) → T (finite x)
 unfolding le

@@ -5,7 +5,7 @@ use mathlib.Core.Logic.{_↔_}
 use Prim.Native.Nat.{ℕ, zero, suc, _+_, _-_, _*_, _≤_, _<_}
 use native.Mathlib.Omega.{arith}
 use mathlib.Core.Bool.{Bool, true, false, not, cond}
-use lib.IntN.{ℤ, pos, negsuc, negℤ, subℕ, _+ℤ_, _-ℤ_, _*ℤ_, *ℤ-comm}
+use lib.IntN.{ℤ, pos, negsuc, natAbs, negℤ, subℕ, _+ℤ_, _-ℤ_, _*ℤ_, *ℤ-comm}
 use lib.Signed.{_≤ℤ_}
 use lib.Dec.{T, ltb, leb→le, le→leb, ltb→lt, nltb→le}
 use lib.Ieee.{Float, Format, le}
@@ -58,6 +58,11 @@ is-le (pos i) (negsuc j) a b c d h k = (λ t. absurd (t .le), λ l. absurd (neve
     never l = omega arith
 is-le (negsuc i) (pos j) a b c d h k = (λ t. omega arith, λ l. record { le = tt })
 is-le (negsuc i) (negsuc j) a b c d h k = (λ t. let l = leb→le j i (t .le) in omega arith, λ l. record { le = le→leb j i (omega arith) })
+
+-- how large it is
+pub is-size : (z : ℤ) (a b E : ℕ) → Is z a b → a ≤ b + E → b ≤ a + E → natAbs z ≤ E
+is-size (pos k) a b E h u v = omega arith
+is-size (negsuc k) a b E h u v = omega arith
 
 -- the value of a float is posPart - negPart
 signed : (s : Bool) (g : ℕ) → Is (cond s (negℤ (pos g)) (pos g)) (ifPos s g) (ifNeg s g)

@@ -3,8 +3,8 @@ use mathlib.Core.Path.{_≡_, refl, sym, ap, _∙_, subst}
 use Prim.Native.Nat.{ℕ, zero, suc, _+_, _-_, _≤_, _<_}
 use native.Mathlib.Omega.{arith}
 use mathlib.Core.Bool.{Bool, true, false, cond}
-use mathlib.Core.List.{List, [], _∷_, _++_}
-use lib.ListN.{length, getD, drop, replicate, length-set, length-replicate}
+use mathlib.Core.List.{List, [], _∷_, _++_, reverse, reverse-cons}
+use lib.ListN.{length, getD, take, drop, replicate, length-set, length-replicate, take-append-drop}
 use lib.Seq.{getD-set-same, getD-set-other}
 use lib.Dec.{eqb}
 use borrow.Author.Tests.{eqb-true, eqb-false, eq-eqb, ne-eqb}
@@ -33,6 +33,10 @@ count-append x (e ∷ q) r = omega (arith, count-append x q r)
 pub count-snoc : (x : ℕ) (q : List Place) (e : Place) → count x (q ++ e ∷ []) ≡ hit x e + count x q
 count-snoc x q e = omega (arith, count-append x q (e ∷ []))
 
+pub count-reverse : (x : ℕ) (q : List Place) → count x (reverse q) ≡ count x q
+count-reverse x [] = refl
+count-reverse x (e ∷ q) = ap (λ (l : List Place). count x l) (reverse-cons e q) ∙ omega (arith, count-snoc x (reverse q) e, count-reverse x q)
+
 pub count-le : (x : ℕ) (q : List Place) → count x q ≤ length q
 count-le x [] = omega arith
 count-le x (e ∷ q) = omega (arith, count-le x q, hit-le x e)
@@ -51,6 +55,17 @@ module _ (m : ℕ) where
   below-drop zero q a = a
   below-drop (suc j) [] a = tt
   below-drop (suc j) (e ∷ q) a = below-drop j q (a .1)
+
+  pub below-take : (j : ℕ) (q : List Place) → Below m q → Below m (take j q)
+  below-take j q a = below-left (take j q) (drop j q) (subst (λ (z : List Place). Below m z) (sym (take-append-drop j q)) a)
+
+  below-join : (q r : List Place) → Below m q → Below m r → Below m (q ++ r)
+  below-join [] r a b = b
+  below-join (e ∷ q) r a b = (a .0, below-join q r (a .1) b)
+
+  pub below-reverse : (q : List Place) → Below m q → Below m (reverse q)
+  below-reverse [] a = tt
+  below-reverse (e ∷ q) a = subst (λ (l : List Place). Below m l) (sym (reverse-cons e q)) (below-join (reverse q) (e ∷ []) (below-reverse q (a .1)) (a .0, tt))
 
 -- ---- Counts kept in a list, one for each k-mer below m.
 module _ (counts : List ℕ) (x y : ℕ) (l : x < length counts) where

@@ -31,7 +31,7 @@ swap : (a b c : ℤ) → a +ℤ b +ℤ c ≡ a +ℤ c +ℤ b
 swap a b c = +ℤ-assoc a b c ∙ ap (λ (z : ℤ). a +ℤ z) (+ℤ-comm b c) ∙ sym (+ℤ-assoc a c b)
 
 module _ (S : Setup) (q r : List Place) where
-  sums-same : (m : ℕ) → ((x : ℕ) → x < m → count x r ≡ count x q) → lnSums S m r ≡ lnSums S m q
+  pub sums-same : (m : ℕ) → ((x : ℕ) → x < m → count x r ≡ count x q) → lnSums S m r ≡ lnSums S m q
   unfolding lnSums
   sums-same zero h = refl
   sums-same (suc m) h = ap₂ (λ (a : ℤ) (c : ℕ). a +ℤ lnSum S c) (sums-same m (λ x l. h x (omega arith))) (h m (le-refl (suc m)))

@@ -1,26 +1,32 @@
--- The forward scan's score. For any float bits its best is not below 0, and a find, a scan that is best at the newest entry, started at an index of the window.
--- With tables in range that best is within (L + 1) * 2^-33 of the exact score of the stretch of L places from the find to the newest.
+-- The forward scan's best. For any float bits it is not below 0, and a find, a scan that is best at the newest entry, started at an index of the window.
+-- With tables in range the scores are numbers: none is above that of a find, which is the float score of the L places from the find to the newest, within (L + 1) / 2^33 of the exact score.
 use mathlib.Core.Path.{_≡_, refl, sym, ap, _∙_, subst}
-use Prim.Native.Nat.{ℕ, suc, _+_, _*_, _≤_, _<_}
+use Prim.Native.Nat.{ℕ, zero, suc, _+_, _≤_, _<_}
+use native.Mathlib.Nat.{eq-or-lt-of-le}
 use native.Mathlib.Omega.{arith}
-use mathlib.Core.List.{List, [], _∷_, _++_, append-nil}
-use lib.ListN.{length, drop, length-append, length-drop}
-use lib.Seq.{append-snoc}
+use mathlib.Core.Logic.{⊎-elim}
+use mathlib.Core.List.{List, [], _∷_}
+use lib.ListN.{length, take, drop, length-take, length-drop}
+use lib.Seq.{take-length}
 use lib.Dec.{T}
 use lib.Ieee.{Float, binary64, add, sub, lt, le}
 use Rattle.floats.specs.Value.{Near}
-use Rattle.floats.specs.Binary64.{pos64, zero64, slack}
-use Rattle.floats.proofs.Order.{le-trans}
+use Rattle.floats.specs.Arithmetic.{_⊕_}
+use Rattle.floats.specs.Binary64.{zero64, slack}
+use Rattle.floats.proofs.Compare.{le-self}
+use Rattle.floats.proofs.Order.{le-trans, lt-le, nle-lt}
+use Rattle.floats.proofs.Sums.{err, zero-near}
 use Rattle.floats.proofs.Tests.{le-near, le-sure}
-use Rattle.floats.proofs.Sums.{err, zero-near, After, after-as, after-start, after-step, after-score}
-use Rattle.letters.specs.Place.{Place, ambiguous, plain, BelowAt, Below}
-use Rattle.scans.specs.Setup.{Setup, lnAt, fAt, kmers}
+use Rattle.letters.specs.Place.{Place, Below}
+use Rattle.scans.specs.Setup.{Setup, fAt, kmers}
 use Rattle.scans.specs.Counts.{raise, cleared}
 use Rattle.scans.specs.Scans.{value, ForwardSums, forwardStart, forwardJudged, Forward, forwardFrom, dustForward}
+use Rattle.scans.specs.Judged.{floatScore, Best, bestOf, better, forwardOver}
 use Rattle.scans.proofs.Test.{by-test}
-use Rattle.scans.proofs.Counting.{below-right, below-drop, Counted, raise-counted, cleared-counted}
-use Rattle.scans.proofs.Exact.{added}
-use Rattle.scans.proofs.Gain.{InRange, gain, loss, added-ranged, gain-snoc, gain-none}
+use Rattle.scans.proofs.Counting.{below-drop, below-take}
+use Rattle.scans.proofs.Gain.{InRange, gain, loss}
+use Rattle.scans.proofs.FloatScore.{float-near}
+use Rattle.scans.proofs.Judging.{forward-judges}
 
 -- ---- Any float bits.
 pub forward-inside : (S : Setup) (q : List Place) (j : ℕ) (m : Float) → 0 < length q → dustForward S q j m .sums .found ≡ length q → j < length q
@@ -52,106 +58,86 @@ module _ (S : Setup) where
   unfolding dustForward
   forward-best q j m = from-best (add binary64 m slack) (drop j q) 1 j forwardStart (cleared S) (le-sure zero-near zero-near (omega arith))
 
--- ---- Tables in range.
-module _ (S : Setup) (R : InRange S) where
-  -- What a place adds is the ln entry that it adds to the places seen.
-  value-is : (counts : List ℕ) (seen : List Place) (e : Place) → Counted (kmers S) counts seen → value S counts e ≡ added S seen e
-  value-is counts seen ambiguous c = refl
-  value-is counts seen (plain x) c = ap (λ (z : ℕ). lnAt S z) (omega (arith, c .counted x))
+-- ---- A scan from index j over the scores x that are numbers.
+module _ (x : ℕ → Float) (j : ℕ) where
+  -- Before the l-th score: no score is above the best, and a best at the newest place is its score.
+  record Leads (l : ℕ) (b : Best) : Type 0 where
+    number : T (le (b .best) (b .best))
+    before : b .found < j + l
+    top : (L : ℕ) → 0 < L → L < l → T (le (x L) (b .best))
+    newest : (L : ℕ) → 0 < L → L + 1 ≡ l → b .found ≡ j + L → b .best ≡ x L
 
-  -- Before the entry at index i, with the places `seen` behind.
-  record Going (seen : List Place) (i : ℕ) (a : ForwardSums) (counts : List ℕ) : Type 0 where
-    counted : Counted (kmers S) counts seen
-    after : After (length seen) (a .s) (gain S seen) (length seen * pos64 (S .threshold))
-    found-before : a .found ≤ i
-    found-last : a .found ≡ i → 0 < length seen → Near binary64 (a .best) (gain S seen) (loss S (length seen)) (err (length seen + 1))
-
-  module _ (seen : List Place) (l i : ℕ) (a : ForwardSums) (counts : List ℕ) (e : Place) (ql : l ≡ length seen + 1) (be : BelowAt (kmers S) e) (h : length seen < S .window-size)
-      (g : Going seen i a counts) where
-    abbrev t : Float
-    t = S .threshold
-
-    abbrev s : Float
-    s = add binary64 (a .s) (sub binary64 (value S counts e) t)
-
-    abbrev more : List Place
-    more = seen ++ e ∷ []
-
-    more-length : length more ≡ suc (length seen)
-    more-length = omega (arith, length-append seen (e ∷ []))
-
-    more-after : After (length more) s (gain S more) (length more * pos64 t)
-    more-after =
-        let v : value S counts e ≡ added S seen e = value-is counts seen e (g .counted) in
-        let A = after-step (g .after) (omega (arith, R .window-small)) (added-ranged S R seen e h) (R .t-ranged) in
-        subst (λ (x : Float). After (length more) (add binary64 (a .s) (sub binary64 x t)) (gain S more) (length more * pos64 t)) (sym v)
-        (after-as A (sym more-length) (sym (gain-snoc S R seen e be h)) (omega (arith, ap (λ (z : ℕ). z * pos64 t) more-length)))
-
-    more-near : Near binary64 (sub binary64 s (fAt S l)) (gain S more) (loss S (length more)) (err (length more + 1))
-    more-near =
-        let q : length more ≡ l = omega (arith, more-length) in
-        subst (λ (z : ℕ). Near binary64 (sub binary64 s (fAt S z)) (gain S more) (loss S (length more)) (err (length more + 1))) q
-        (after-score more-after (omega (arith, more-length, R .window-small)) (R .f-ranged (length more) (omega (arith, more-length)) (omega (arith, more-length))))
-
-    going-on : Going more (i + 1) (forwardJudged a s (sub binary64 s (fAt S l)) i) (raise counts e)
-    going-on =
-        let sl : Float = sub binary64 s (fAt S l) in
-        let C : Counted (kmers S) (raise counts e) more = raise-counted (kmers S) counts seen e be (g .counted) in
-        let fb : a .found ≤ i = g .found-before in
-        by-test (λ (b : ForwardSums). Going more (i + 1) b (raise counts e)) (le (a .best) sl) (record { s = s; best = sl; found = i + 1 }) (record { s = s; best = a .best; found = a .found })
-        (λ _. record { counted = C; after = more-after; found-before = omega arith; found-last = λ _ _. more-near })
-        (λ _. record { counted = C; after = more-after; found-before = omega arith; found-last = λ (q : a .found ≡ i + 1) _. absurd (omega arith) })
-
-  going-start : (j : ℕ) → Going [] j forwardStart (cleared S)
-  going-start j =
+  leads-on : (l : ℕ) (b : Best) → T (le (x l) (x l)) → Leads l b → Leads (l + 1) (better b (x l) (j + l))
+  leads-on l b r h =
+      by-test (λ (c : Best). Leads (l + 1) c) (le (b .best) (x l)) (record { best = x l; found = j + l }) b
+      (λ t.
       record {
-        counted = cleared-counted (kmers S);
-        after = after-as after-start refl (sym (gain-none S)) (omega arith);
-        found-before = omega arith;
-        found-last = λ _ (h : 0 < 0). absurd (omega arith);
-      }
+        number = r;
+        before = omega arith;
+        top = λ L p k. upto L k (x l) (λ (m : L < l). le-trans (x L) (b .best) (x l) (h .top L p m) t) r;
+        newest = λ L p e f. ap x (omega arith);
+      })
+      (λ t.
+      record {
+        number = h .number;
+        before = omega (arith, h .before);
+        top = λ L p k. upto L k (b .best) (h .top L p) (lt-le (x l) (b .best) (nle-lt (b .best) (x l) (h .number) r t));
+        newest = λ L p e f. absurd (omega (arith, h .before));
+      })
+    where
+      upto : (L : ℕ) → L < l + 1 → (y : Float) → (L < l → T (le (x L) y)) → T (le (x l) y) → T (le (x L) y)
+      upto L k y f g = ⊎-elim (λ (e : L ≡ l). subst (λ (z : ℕ). T (le (x z) y)) (sym e) g) f (eq-or-lt-of-le (let c : L ≤ l = omega arith in c))
 
-  -- The rest of a scan of the places `all` that is best at its last entry.
-  module _ (limit : Float) (all : List Place) (b : Below (kmers S) all) (h : length all ≤ S .window-size) (some : 0 < length all) where
-    abbrev BestNear : ForwardSums → Type 0
-    BestNear a = Near binary64 (a .best) (gain S all) (loss S (length all)) (err (length all + 1))
+  -- To the n-th, where it is best.
+  leads-end : (limit : Float) (n : ℕ) → ((L : ℕ) → 0 < L → L ≤ n → T (le (x L) (x L))) → (m l : ℕ) (b : Best) → 0 < l → l + m ≡ n + 1 → Leads l b
+      → forwardOver limit x j m l b .found ≡ j + n → Leads (n + 1) (forwardOver limit x j m l b)
+  unfolding forwardOver
+  leads-end limit n r zero l b p e h f = let q : l ≡ n + 1 = omega arith in subst (λ (z : ℕ). Leads z b) q h
+  leads-end limit n r (suc m) l b p e h f =
+      let b′ : Best = better b (x l) (j + l) in
+      let h′ : Leads (l + 1) b′ = leads-on l b (r l p (omega arith)) h in
+      by-test (λ (c : Best). c .found ≡ j + n → Leads (n + 1) c) (lt limit (x l)) b′ (forwardOver limit x j m (l + 1) b′)
+      (λ _ (g : b′ .found ≡ j + n). let q : l + 1 ≡ n + 1 = omega (arith, h′ .before) in subst (λ (z : ℕ). Leads z b′) q h′)
+      (λ _ (g : forwardOver limit x j m (l + 1) b′ .found ≡ j + n). leads-end limit n r m (l + 1) b′ (omega arith) (omega arith) h′ g) f
 
-    going-end : (seen es : List Place) (l i : ℕ) (a : ForwardSums) (counts : List ℕ) → l ≡ length seen + 1 → seen ++ es ≡ all → Going seen i a counts
-        → forwardFrom S limit es l i a counts .sums .found ≡ i + length es → BestNear (forwardFrom S limit es l i a counts .sums)
-    unfolding forwardFrom
-    going-end seen [] l i a counts ql qa g q =
-        let qs : seen ≡ all = sym (append-nil seen) ∙ qa in
-        subst (λ (z : List Place). Near binary64 (a .best) (gain S z) (loss S (length z)) (err (length z + 1))) qs (g .found-last (omega arith) (omega (arith, ap length qs)))
-    going-end seen (e ∷ es) l i a counts ql qa g q =
-        let bs : Below (kmers S) (seen ++ e ∷ es) = subst (λ (z : List Place). Below (kmers S) z) (sym qa) b in
-        let be = below-right (kmers S) seen (e ∷ es) bs in
-        let ls = length-append seen (e ∷ []) in
-        let s : Float = add binary64 (a .s) (sub binary64 (value S counts e) (S .threshold)) in
-        let sl : Float = sub binary64 s (fAt S l) in
-        let a′ : ForwardSums = forwardJudged a s sl i in
-        let short : length seen < S .window-size = omega (arith, length-append seen (e ∷ es), ap length qa) in
-        let g′ : Going (seen ++ e ∷ []) (i + 1) a′ (raise counts e) = going-on seen l i a counts e ql (be .0) short g in
-        let qa′ : (seen ++ e ∷ []) ++ es ≡ all = append-snoc seen e es ∙ qa in
-        let later : Forward = forwardFrom S limit es (l + 1) (i + 1) a′ (raise counts e) in
-        by-test (λ (r : Forward). r .sums .found ≡ i + suc (length es) → BestNear (r .sums)) (lt limit sl) (record { sums = a′; counts = raise counts e }) later
-        (λ _. stopped es a′ qa′ g′)
-        (λ _ (r : later .sums .found ≡ i + suc (length es)). going-end (seen ++ e ∷ []) es (l + 1) (i + 1) a′ (raise counts e) (omega arith) qa′ g′ (omega arith)) q
-      where
-        stopped : (es′ : List Place) (a′ : ForwardSums) → (seen ++ e ∷ []) ++ es′ ≡ all → Going (seen ++ e ∷ []) (i + 1) a′ (raise counts e) → a′ .found ≡ i + suc (length es′) → BestNear a′
-        stopped [] a′ qa′ g′ r =
-            let qs : seen ++ e ∷ [] ≡ all = sym (append-nil (seen ++ e ∷ [])) ∙ qa′ in
-            subst (λ (z : List Place). Near binary64 (a′ .best) (gain S z) (loss S (length z)) (err (length z + 1))) qs
-            (g′ .found-last (omega arith) (omega (arith, ap length qs)))
-        stopped (x ∷ es′) a′ qa′ g′ r = absurd (omega (arith, g′ .found-before))
+-- ---- Tables in range. A find: the scan from index j is best at the newest entry.
+module _ (S : Setup) (R : InRange S) (q : List Place) (j : ℕ) (m : Float) (b : Below (kmers S) q) (h : length q ≤ S .window-size) (some : 0 < length q)
+    (e : dustForward S q j m .sums .found ≡ length q) where
+  abbrev d : List Place
+  d = drop j q
 
-  -- A find: the scan from index j is best at the newest entry.
-  module _ (q : List Place) (j : ℕ) (m : Float) (b : Below (kmers S) q) (h : length q ≤ S .window-size) (some : 0 < length q) (e : dustForward S q j m .sums .found ≡ length q) where
-    forward-near : Near binary64 (dustForward S q j m .sums .best) (gain S (drop j q)) (loss S (length (drop j q))) (err (length (drop j q) + 1))
-    unfolding dustForward
-    forward-near =
-        let inside = forward-inside S q j m some e in
-        let ld = length-drop j q in
-        going-end (add binary64 m slack) (drop j q) (below-drop (kmers S) j q b) (omega arith) (omega arith) [] (drop j q) 1 j forwardStart (cleared S) refl refl (going-start j) (e ∙ omega arith)
+  find-some : 0 < length d
+  find-some = omega (arith, length-drop j q, forward-inside S q j m some e)
 
-    pub forward-find : loss S (length (drop j q)) ≤ gain S (drop j q) + err (length (drop j q) + 1)
-    forward-find = omega (arith, le-near zero-near forward-near (forward-best S q j m))
+  found-newest : dustForward S q j m .sums .found ≡ j + length d
+  found-newest = omega (arith, length-drop j q, forward-inside S q j m some e)
+
+  near : (L : ℕ) → 0 < L → Near binary64 (floatScore S (take L d)) (gain S (take L d)) (loss S (length (take L d))) (err (length (take L d) + 1))
+  near L p =
+      let l = length-take L d in
+      let s = find-some in
+      float-near S R (take L d) (below-take (kmers S) L d (below-drop (kmers S) j q b)) (omega (arith, length-drop j q)) (omega arith)
+
+  leads : Leads (λ (L : ℕ). floatScore S (take L d)) j (length d + 1) (bestOf (dustForward S q j m .sums))
+  leads =
+      let x : ℕ → Float = λ (L : ℕ). floatScore S (take L d) in
+      let same = forward-judges S q j m in
+      let starts : Leads x j 1 (bestOf forwardStart) =
+      record { number = le-self (zero-near .ok); before = omega arith; top = λ L p k. absurd (omega arith); newest = λ L p k f. absurd (omega arith) } in
+      subst (λ (c : Best). Leads x j (length d + 1) c) (sym same)
+      (leads-end x j (m ⊕ slack) (length d) (λ L p k. le-self (near L p .ok)) (length d) 1 (bestOf forwardStart) (omega arith) (omega arith) starts
+      (ap (λ (c : Best). c .found) (sym same) ∙ found-newest))
+
+  -- Its best is the score of the stretch from there to the newest,
+  best-near : Near binary64 (dustForward S q j m .sums .best) (gain S d) (loss S (length d)) (err (length d + 1))
+  best-near =
+      rw (leads .newest (length d) find-some refl found-newest)
+      (subst (λ (l : List Place). Near binary64 (floatScore S (take (length d) d)) (gain S l) (loss S (length l)) (err (length l + 1))) (take-length d) (near (length d) find-some))
+
+  -- which is not below 0,
+  pub forward-find : loss S (length d) ≤ gain S d + err (length d + 1)
+  forward-find = omega (arith, le-near zero-near best-near (forward-best S q j m))
+
+  -- and not below that of a shorter one.
+  pub forward-shorter : (L : ℕ) → 0 < L → L < length d → gain S (take L d) + loss S (length d) ≤ gain S d + loss S (length (take L d)) + (err (length (take L d) + 1) + err (length d + 1))
+  forward-shorter L p k = le-near (near L p) best-near (leads .top L p (omega arith))

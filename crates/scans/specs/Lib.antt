@@ -2,6 +2,7 @@ pub mod Setup
 pub mod Counts
 pub mod Scans
 pub mod Score
+pub mod Judged
 pub mod Window
 pub mod Parts
 pub mod Carry

@@ -1,4 +1,4 @@
--- The paper, 'Letters and places': the exact score of a stretch, in whole multiples of 2^-1074, and the letters it gives evidence for.
+-- The paper, 'Letters and places': the exact score of a stretch, in whole multiples of 2^-1074, the letters it gives evidence for, and a stretch with no better shorter one.
 use Prim.Native.Nat.{ℕ, zero, suc, _+_, _*_, _≤_, _<_}
 use mathlib.Core.List.{List}
 use lib.ListN.{length, take, drop}
@@ -38,3 +38,10 @@ pub record Evidence (S : Setup) (ps : List Place) (x : ℕ) : Type 0 where
   pub from : first + 1 ≤ x + S .kmer
   pub to : x < first + size
   pub high : negℤ (pos ((length ps + S .window-size + 4) * one)) ≤ℤ (score S (stretch ps first size) *ℤ pos 4294967296)
+
+-- No shorter stretch from the same first place is better: of L places, the exact score of the first m exceeds that of all by at most (2L + 2) / 2^32.
+abbrev pub allowance : ℕ → ℕ
+allowance l = (2 * l + 2) * one
+
+pub record NoBetterShorter (S : Setup) (q : List Place) : Type 0 where
+  pub at-most : (m : ℕ) → 0 < m → m < length q → (score S (take m q) *ℤ pos 4294967296) ≤ℤ (score S q *ℤ pos 4294967296 +ℤ pos (allowance (length q)))

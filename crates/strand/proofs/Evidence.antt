@@ -1,13 +1,12 @@
 -- With tables in range, every letter that a strand's list covers lies in a stretch with an exact score of at least -(n + w + 4) / 2^32.
-use mathlib.Core.Path.{_≡_, refl, sym, ap, _∙_, subst}
-use Prim.Native.Nat.{ℕ, _+_, _*_, _≤_, _<_}
+use mathlib.Core.Path.{_≡_, refl, sym, subst}
+use Prim.Native.Nat.{ℕ, suc, _+_, _*_, _≤_, _<_}
 use native.Mathlib.Nat.{mul-le-mul-right}
 use native.Mathlib.Omega.{arith}
 use mathlib.Core.Logic.{⊎-elim}
 use mathlib.Core.Bool.{cond, _||_}
-use mathlib.Core.List.{List, [], _∷_, _++_}
-use lib.ListN.{length, take, drop, length-append, length-drop}
-use lib.Seq.{append-snoc, drop-append-add, drop-append-le, take-at}
+use mathlib.Core.List.{List, [], _∷_}
+use lib.ListN.{length, drop, length-drop}
 use lib.Dec.{T, leb, leb→le, nleb→lt, ltb→lt}
 use lib.IntN.{ℤ, pos, negsuc}
 use lib.Signed.{ltZ}
@@ -23,10 +22,9 @@ use Rattle.intervals.proofs.Order.{lt-or-le}
 use Rattle.intervals.proofs.Saving.{save-covers}
 use Rattle.scans.specs.Setup.{Setup, kmers}
 use Rattle.scans.specs.Counts.{count}
-use Rattle.scans.specs.Score.{stretch, Evidence}
+use Rattle.scans.specs.Score.{Evidence}
 use Rattle.scans.specs.Scans.{Find, none, at, Outcome}
 use Rattle.scans.proofs.Test.{by-test}
-use Rattle.scans.proofs.Counting.{below-left, below-right}
 use Rattle.scans.proofs.Gain.{InRange, gain, loss, gain-none}
 use Rattle.scans.proofs.Evidence.{evidence}
 use Rattle.scans.proofs.ForwardScore.{forward-inside, forward-find}
@@ -35,6 +33,7 @@ use Rattle.strand.proofs.Finds.{search-facts}
 use Rattle.strand.specs.Running.{Shaped}
 use Rattle.strand.proofs.Shape.{ShapedAt, st2-is, begin-shaped, leave-shaped, join-shaped, join-some, step-shaped}
 use Rattle.strand.proofs.WindowSum.{leave-near, join-near, window-above}
+use Rattle.strand.proofs.Placing.{Placed, placed-room, placed-leave, placed-join, placed-below, placed-lengths, placed-stretch}
 
 -- ---- A find is backed when its place is in the window and the score from there to the newest place is at least -err c.
 abbrev Backed : Setup → ℕ → List Place → Find → Type 0
@@ -48,117 +47,90 @@ off S ps = length ps + S .window-size + 4
 wider : (L G c d : ℕ) → L ≤ G + err c → c ≤ d → L ≤ G + err d
 wider L G c d a b = let e : c * eps ≤ d * eps = mul-le-mul-right eps b in omega arith
 
-module _ (S : Setup) (R : InRange S) (past q rest : List Place) (j : ℕ) (h : j < length q) where
-  cut-out : stretch (past ++ (q ++ rest)) (length past + j) (length (drop j q)) ≡ drop j q
-  cut-out =
-      ap (λ (l : List Place). take (length (drop j q)) l) (drop-append-add past (q ++ rest) j ∙ drop-append-le j q rest (omega arith))
-      ∙ take-at (drop j q) rest (length (drop j q)) refl
+module _ (S : Setup) (R : InRange S) (ps : List Place) (B : Below (kmers S) ps) (N : length ps < 2147483648) where
+  abbrev w : ℕ
+  w = S .window-size
 
   -- The letters from st2 to the newest lie in the stretch of a backed find.
-  stretch-evidence : (ps : List Place) → past ++ (q ++ rest) ≡ ps → length q ≤ S .window-size → loss S (length (drop j q)) ≤ gain S (drop j q) + err (off S ps)
-      → (x : ℕ) → length past + j + 1 ≤ x + S .kmer → x < length past + length q → Evidence S ps x
-  stretch-evidence ps e w l x from to =
+  stretch-evidence : (i j : ℕ) (q rest : List Place) → Placed ps (suc w) i q rest → j < length q → loss S (length (drop j q)) ≤ gain S (drop j q) + err (off S ps)
+      → (x : ℕ) → i + j + 1 ≤ length q + x + S .kmer → x < i → Evidence S ps x
+  stretch-evidence i j q rest p h l x from to =
       let d : List Place = drop j q in
+      let first : ℕ = length (p .past) + j in
       let ld = length-drop j q in
-      let la = length-append past (q ++ rest) in
-      let lb = length-append q rest in
-      let le = ap length e in
-      let cut : stretch ps (length past + j) (length d) ≡ d = subst (λ (z : List Place). stretch z (length past + j) (length d) ≡ d) e cut-out in
-      evidence S R ps (length past + j) (length d) x (omega arith) (omega arith) (omega arith) from (omega arith)
-      (subst (λ (z : List Place). loss S (length d) ≤ gain S z + err (off S ps)) (sym cut) l)
+      let lp = placed-lengths q rest p in
+      let b = p .placed in
+      let c = p .short in
+      evidence S R ps first (length d) x (omega arith) (omega arith) (omega arith) (omega arith) (omega arith)
+      (subst (λ (z : List Place). loss S (length d) ≤ gain S z + err (off S ps)) (sym (placed-stretch q rest p j (omega arith))) l)
 
-module _ (S : Setup) (R : InRange S) (ps : List Place) (B : Below (kmers S) ps) (N : length ps < 2147483648) where
   -- ---- The window and its sum.
-  -- After i letters: what left the window, the window, and what is to come are the strand; the sum is near the window's gain.
-  record Tracked (i : ℕ) (a : Run) (rest : List Place) : Type 0 where
-    past : List Place
-    parts : past ++ (a .window ++ rest) ≡ ps
-    placed : length past + length (a .window) ≡ i
-    short : length (a .window) ≤ S .window-size
-    near : Near binary64 (a .sum) (gain S (a .window)) 0 (err i)
+  -- After i letters: where the window stands, and the sum is within E of the window's gain.
+  record Tracked (m i E : ℕ) (a : Run) (rest : List Place) : Type 0 where
+    stands : Placed ps m i (a .window) rest
+    near : Near binary64 (a .sum) (gain S (a .window)) 0 E
 
-  -- The same where there is room for the next place.
-  record TrackedRoom (i : ℕ) (a : Run) (rest : List Place) : Type 0 where
-    past : List Place
-    parts : past ++ (a .window ++ rest) ≡ ps
-    placed : length past + length (a .window) ≡ i
-    room : length (a .window) < S .window-size
-    near : Near binary64 (a .sum) (gain S (a .window)) 0 (err i + half)
-
-  part-below : (past q rest : List Place) → past ++ (q ++ rest) ≡ ps → Below (kmers S) q × Below (kmers S) rest
-  part-below past q rest e =
-      let b = below-right (kmers S) past (q ++ rest) (subst (λ (l : List Place). Below (kmers S) l) (sym e) B) in
-      (below-left (kmers S) q rest b, below-right (kmers S) q rest b)
-
-  part-lengths : (past q rest : List Place) → past ++ (q ++ rest) ≡ ps → length past + length q + length rest ≡ length ps
-  part-lengths past q rest e = omega (arith, ap length e, length-append past (q ++ rest), length-append q rest)
-
-  without-tracked : (i : ℕ) (a : Run) (q rest : List Place) → a .window ≡ q → S .window-size ≤ length q → Tracked i a rest → TrackedRoom i (withoutOldest S a q) rest
-  without-tracked i a [] rest e f w = absurd (omega (arith, R .window-some))
-  without-tracked i a (x ∷ q) rest e f w =
-      let parts : w .past ++ ((x ∷ q) ++ rest) ≡ ps = subst (λ (l : List Place). w .past ++ (l ++ rest) ≡ ps) e (w .parts) in
-      let le = ap length e in
-      let lp = part-lengths (w .past) (x ∷ q) rest parts in
-      let near : Near binary64 (a .sum) (gain S (x ∷ q)) 0 (err i) = subst (λ (l : List Place). Near binary64 (a .sum) (gain S l) 0 (err i)) e (w .near) in
-      let room : length q < S .window-size = omega (arith, w .short) in
+  without-tracked : (i : ℕ) (a : Run) (q rest : List Place) → a .window ≡ q → w ≤ length q → Tracked (suc w) i (err i) a rest → Tracked w i (err i + half) (withoutOldest S a q) rest
+  without-tracked i a [] rest e f h = absurd (omega (arith, R .window-some))
+  without-tracked i a (x ∷ q) rest e f h =
+      let p : Placed ps (suc w) i (x ∷ q) rest = subst (λ (l : List Place). Placed ps (suc w) i l rest) e (h .stands) in
+      let p′ : Placed ps w i q rest = placed-leave p in
+      let lp = placed-lengths (x ∷ q) rest p in
+      let near : Near binary64 (a .sum) (gain S (x ∷ q)) 0 (err i) = subst (λ (l : List Place). Near binary64 (a .sum) (gain S l) 0 (err i)) e (h .near) in
       record {
-        past = w .past ++ x ∷ [];
-        parts = append-snoc (w .past) x (q ++ rest) ∙ parts;
-        placed = omega (arith, length-append (w .past) (x ∷ []), w .placed);
-        room = room;
+        stands = p′;
         near = subst (λ (l : List Place). Near binary64 (sumWithout S l (a .sum) x) (gain S q) 0 (err i + half)) (sym e)
-            (leave-near S R (a .sum) x q (err i) (part-below (w .past) (x ∷ q) rest parts .0) room (omega (arith, err-small i (omega (arith, w .placed)))) near);
+            (leave-near S R (a .sum) x q (err i) (placed-below (x ∷ q) rest p (kmers S) B .0) (p′ .short) (omega (arith, err-small i (omega (arith, p .placed)))) near);
       }
 
-  leave-tracked : (i : ℕ) (a : Run) (rest : List Place) → Tracked i a rest → TrackedRoom i (leave S a) rest
+  leave-tracked : (i : ℕ) (a : Run) (rest : List Place) → Tracked (suc w) i (err i) a rest → Tracked w i (err i + half) (leave S a) rest
   unfolding leave
-  leave-tracked i a rest w =
-      by-test (λ (b : Run). TrackedRoom i b rest) (leb (S .window-size) (length (a .window))) (withoutOldest S a (a .window)) a
-      (λ t. without-tracked i a (a .window) rest refl (leb→le (S .window-size) (length (a .window)) t) w)
-      (λ t. record { past = w .past; parts = w .parts; placed = w .placed; room = nleb→lt (S .window-size) (length (a .window)) t; near = near-as (w .near) refl (omega arith) })
+  leave-tracked i a rest h =
+      by-test (λ (b : Run). Tracked w i (err i + half) b rest) (leb w (length (a .window))) (withoutOldest S a (a .window)) a
+      (λ t. without-tracked i a (a .window) rest refl (leb→le w (length (a .window)) t) h)
+      (λ t. record { stands = placed-room (h .stands) (nleb→lt w (length (a .window)) t); near = near-as (h .near) refl (omega arith) })
 
-  join-tracked : (i : ℕ) (a : Run) (e : Place) (rest : List Place) → TrackedRoom i a (e ∷ rest) → Tracked (i + 1) (join S a e) rest
+  join-tracked : (i : ℕ) (a : Run) (e : Place) (rest : List Place) → Tracked w i (err i + half) a (e ∷ rest) → Tracked (suc w) (i + 1) (err (i + 1)) (join S a e) rest
   unfolding join
-  join-tracked i a e rest w =
+  join-tracked i a e rest h =
       let q : List Place = a .window in
-      let b = part-below (w .past) q (e ∷ rest) (w .parts) in
-      let lp = part-lengths (w .past) q (e ∷ rest) (w .parts) in
-      let lq = length-append q (e ∷ []) in
+      let p = h .stands in
+      let b = placed-below q (e ∷ rest) p (kmers S) B in
+      let lp = placed-lengths q (e ∷ rest) p in
       record {
-        past = w .past;
-        parts = ap (λ (l : List Place). w .past ++ l) (append-snoc q e rest) ∙ w .parts;
-        placed = omega (arith, w .placed);
-        short = omega (arith, w .room);
-        near = near-as (join-near S R (a .sum) e q (err i + half) (b .0) (b .1 .0) (w .room) (err-small i (omega (arith, w .placed))) (w .near)) refl (omega arith);
+        stands = placed-join q e p;
+        near = near-as (join-near S R (a .sum) e q (err i + half) (b .0) (b .1 .0) (p .short) (err-small i (omega (arith, p .placed))) (h .near)) refl (omega arith);
       }
 
   -- A look changes neither the window nor its sum.
-  found-tracked : (i c : ℕ) (a : Run) (rest : List Place) (counts : List ℕ) (f : Find) → Tracked c a rest → Tracked c (foundBy S i a counts f) rest
+  found-tracked : (i c E : ℕ) (a : Run) (rest : List Place) (counts : List ℕ) (f : Find) → Tracked (suc w) c E a rest → Tracked (suc w) c E (foundBy S i a counts f) rest
   unfolding foundBy
-  found-tracked i c a rest counts none w = record { past = w .past; parts = w .parts; placed = w .placed; short = w .short; near = w .near }
-  found-tracked i c a rest counts (at j) w = record { past = w .past; parts = w .parts; placed = w .placed; short = w .short; near = w .near }
+  found-tracked i c E a rest counts none h = record { stands = h .stands; near = h .near }
+  found-tracked i c E a rest counts (at j) h = record { stands = h .stands; near = h .near }
 
-  look-tracked : (i c : ℕ) (a : Run) (e : Place) (rest : List Place) → Tracked c a rest → Tracked c (look S i a e) rest
+  look-tracked : (i c E : ℕ) (a : Run) (e : Place) (rest : List Place) → Tracked (suc w) c E a rest → Tracked (suc w) c E (look S i a e) rest
   unfolding look found
-  look-tracked i c a ambiguous rest w = w
-  look-tracked i c a (plain x) rest w =
+  look-tracked i c E a ambiguous rest h = h
+  look-tracked i c E a (plain x) rest h =
       let r : Outcome = search S i a x in
-      by-test (λ (b : Run). Tracked c b rest) (leb (S .min-start-cnt) (count x (a .window))) (foundBy S i a (r .counts) (r .find)) a
-      (λ _. found-tracked i c a rest (r .counts) (r .find) w) (λ _. w)
+      by-test (λ (b : Run). Tracked (suc w) c E b rest) (leb (S .min-start-cnt) (count x (a .window))) (foundBy S i a (r .counts) (r .find)) a
+      (λ _. found-tracked i c E a rest (r .counts) (r .find) h) (λ _. h)
 
   -- ---- Every find is backed.
-  search-backed : (i : ℕ) (a : Run) (rest : List Place) (x : ℕ) → 0 < length (a .window) → Tracked (i + 1) a rest → Backed S (off S ps) (a .window) (search S i a x .find)
-  search-backed i a rest x some w =
+  search-backed : (i : ℕ) (a : Run) (rest : List Place) (x : ℕ) → 0 < length (a .window) → Tracked (suc w) (i + 1) (err (i + 1)) a rest → Backed S (off S ps) (a .window) (search S i a x .find)
+  search-backed i a rest x some h =
       let q : List Place = a .window in
-      let b = part-below (w .past) q rest (w .parts) .0 in
-      let lp = part-lengths (w .past) q rest (w .parts) in
+      let p = h .stands in
+      let b = placed-below q rest p (kmers S) B .0 in
+      let lp = placed-lengths q rest p in
+      let short : length q ≤ w = omega (arith, p .short) in
       search-facts S i a x (Backed S (off S ps) q) tt
       (λ j m e.
       let d : List Place = drop j q in
       let ld = length-drop j q in
-      (forward-inside S q j m some e, wider (loss S (length d)) (gain S d) (length d + 1) (off S ps) (forward-find S R q j m b (w .short) some e) (omega (arith, w .short))))
+      (forward-inside S q j m some e, wider (loss S (length d)) (gain S d) (length d + 1) (off S ps) (forward-find S R q j m b short some e) (omega arith)))
       (λ t.
-      (some, wider (loss S (length q)) (gain S q) (i + 1 + 3) (off S ps) (window-above S R a (i + 1) b (w .short) some (omega (arith, w .placed)) (w .near) t) (omega (arith, w .placed))))
+      (some, wider (loss S (length q)) (gain S q) (i + 1 + 3) (off S ps) (window-above S R a (i + 1) b short some (omega (arith, p .placed)) (h .near) t) (omega (arith, p .placed))))
 
   -- ---- The letters covered: those of what is saved, and those from start to end.
   abbrev Open : ℤ → ℤ → ℕ → Type 0
@@ -213,25 +185,25 @@ module _ (S : Setup) (R : InRange S) (ps : List Place) (B : Below (kmers S) ps) 
   from-st2 (pos s) i j len k x h f = omega arith
   from-st2 (negsuc s) i j len k x h f = omega arith
 
-  found-evidenced : (i : ℕ) (a : Run) (rest : List Place) (counts : List ℕ) (f : Find) → Tracked (i + 1) a rest → Backed S (off S ps) (a .window) f → ShapedAt S i a → EvidencedAt a
+  found-evidenced : (i : ℕ) (a : Run) (rest : List Place) (counts : List ℕ) (f : Find) → Tracked (suc w) (i + 1) (err (i + 1)) a rest → Backed S (off S ps) (a .window) f → ShapedAt S i a → EvidencedAt a
       → EvidencedAt (foundBy S i a counts f)
   unfolding foundBy
-  found-evidenced i a rest counts none w b h g = record { in-saved = g .in-saved; in-open = g .in-open }
-  found-evidenced i a rest counts (at j) w b h g =
+  found-evidenced i a rest counts none p b h g = record { in-saved = g .in-saved; in-open = g .in-open }
+  found-evidenced i a rest counts (at j) p b h g =
       let q : List Place = a .window in
       let k : ℕ = S .kmer in
       evidenced-find i k (a .start) (a .end) (st2 k i (length q) j) (a .saved) h g
       (λ x f l.
       let y = from-st2 (st2 k i (length q) j) i j (length q) k x (st2-is k i (length q) j) f in
-      stretch-evidence S R (w .past) q rest j (b .0) ps (w .parts) (w .short) (b .1) x (omega (arith, w .placed)) (omega (arith, w .placed)))
+      stretch-evidence (i + 1) j q rest (p .stands) (b .0) (b .1) x (omega arith) l)
 
-  look-evidenced : (i : ℕ) (a : Run) (e : Place) (rest : List Place) → 0 < length (a .window) → Tracked (i + 1) a rest → ShapedAt S i a → EvidencedAt a → EvidencedAt (look S i a e)
+  look-evidenced : (i : ℕ) (a : Run) (e : Place) (rest : List Place) → 0 < length (a .window) → Tracked (suc w) (i + 1) (err (i + 1)) a rest → ShapedAt S i a → EvidencedAt a → EvidencedAt (look S i a e)
   unfolding look found
-  look-evidenced i a ambiguous rest some w h g = g
-  look-evidenced i a (plain x) rest some w h g =
+  look-evidenced i a ambiguous rest some p h g = g
+  look-evidenced i a (plain x) rest some p h g =
       let r : Outcome = search S i a x in
       by-test (λ (b : Run). EvidencedAt b) (leb (S .min-start-cnt) (count x (a .window))) (foundBy S i a (r .counts) (r .find)) a
-      (λ _. found-evidenced i a rest (r .counts) (r .find) w (search-backed i a rest x some w) h g) (λ _. g)
+      (λ _. found-evidenced i a rest (r .counts) (r .find) p (search-backed i a rest x some p) h g) (λ _. g)
 
   -- Leaving and joining change neither start and end nor what is saved.
   without-evidenced : (a : Run) (q : List Place) → EvidencedAt a → EvidencedAt (withoutOldest S a q)
@@ -248,7 +220,7 @@ module _ (S : Setup) (R : InRange S) (ps : List Place) (B : Below (kmers S) ps) 
 
   -- After i letters.
   record Sound (i : ℕ) (a : Run) (rest : List Place) : Type 0 where
-    tracked : Tracked i a rest
+    tracked : Tracked (suc w) i (err i) a rest
     shaped : ShapedAt S i a
     evidenced : EvidencedAt a
 
@@ -256,13 +228,13 @@ module _ (S : Setup) (R : InRange S) (ps : List Place) (B : Below (kmers S) ps) 
   unfolding step
   step-sound i a e rest h =
       let b : Run = join S (leave S a) e in
-      let w : Tracked (i + 1) b rest = join-tracked i (leave S a) e rest (leave-tracked i a (e ∷ rest) (h .tracked)) in
+      let p : Tracked (suc w) (i + 1) (err (i + 1)) b rest = join-tracked i (leave S a) e rest (leave-tracked i a (e ∷ rest) (h .tracked)) in
       let s : ShapedAt S i b = join-shaped S i (leave S a) e (leave-shaped S i a (h .shaped)) in
       let g : EvidencedAt b = join-evidenced (leave S a) e (leave-evidenced a (h .evidenced)) in
       record {
-        tracked = look-tracked i (i + 1) b e rest w;
+        tracked = look-tracked i (i + 1) (err (i + 1)) b e rest p;
         shaped = step-shaped S i a e (h .shaped);
-        evidenced = look-evidenced i b e rest (join-some S (leave S a) e) w s g;
+        evidenced = look-evidenced i b e rest (join-some S (leave S a) e) p s g;
       }
 
   run-sound : (i : ℕ) (a : Run) (es : List Place) → Sound i a es → Sound (i + length es) (runFrom S i a es) []
@@ -275,7 +247,7 @@ module _ (S : Setup) (R : InRange S) (ps : List Place) (B : Below (kmers S) ps) 
   unfolding begin
   begin-sound =
       record {
-        tracked = record { past = []; parts = refl; placed = refl; short = omega arith; near = near-as zero-near (omega (arith, gain-none S)) (omega arith) };
+        tracked = record { stands = record { past = []; parts = refl; placed = refl; short = omega arith }; near = near-as zero-near (omega (arith, gain-none S)) (omega arith) };
         shaped = begin-shaped S;
         evidenced = record { in-saved = λ x c. absurd c; in-open = λ x c. absurd c };
       }

@@ -1,9 +1,12 @@
 pub mod Finds
 pub mod Shape
 pub mod WindowSum
+pub mod Placing
 pub mod Evidence
+pub mod Shorter
 pub mod Range
 pub mod Theorems
+pub mod Examples
 pub mod Signed
 pub mod Moving
 pub mod Searching

@@ -1,4 +1,4 @@
--- Demand 3 for one strand: the shape of its list and the rows it takes, for any float bits, and its evidence where the flag says yes.
+-- Demand 3 for one strand: the shape of its list and the rows it takes, for any float bits, and its evidence where the flag says yes; then too no shorter stretch is better than one that a scan finds.
 -- That the list depends on nothing but the codes, the options and the tables is by its definition, `intervalsOf S codes`.
 use mathlib.Core.Path.{sym, subst}
 use Prim.Native.Nat.{ℕ, _+_, _/_, _≤_, _<_}
@@ -10,12 +10,14 @@ use Rattle.letters.proofs.Places.{places-length, places-below}
 use Rattle.intervals.specs.Interval.{Canonical, Covers}
 use Rattle.intervals.proofs.Shape.{canonical-room}
 use Rattle.scans.specs.Setup.{Setup}
-use Rattle.scans.specs.Score.{Evidence}
+use Rattle.scans.specs.Score.{stretch, Evidence, NoBetterShorter}
 use Rattle.strand.specs.Step.{intervalsOf}
 use Rattle.strand.specs.Range.{inRange, CheckedSetup}
+use Rattle.strand.specs.ScanFind.{FoundByScan}
 use Rattle.strand.proofs.Shape.{places-canonical}
 use Rattle.strand.proofs.Evidence.{places-evidence}
 use Rattle.strand.proofs.Range.{in-range}
+use Rattle.strand.proofs.Shorter.{found-no-better-shorter}
 
 pub strand-shape : (S : Setup) (codes : List ℕ) → Canonical (length codes) (S .kmer) (intervalsOf S codes)
 unfolding intervalsOf
@@ -33,3 +35,9 @@ unfolding intervalsOf
 strand-evidence S codes a t l x c =
     let ps = places (S .kmer) codes in
     places-evidence S (in-range S a t) ps (places-below (S .kmer) codes) (subst (λ (n : ℕ). n < 2147483648) (sym (places-length (S .kmer) codes)) l) x c
+
+-- For every find of L places that the run makes by a scan, the exact score of every shorter stretch from the same first place exceeds that of the find by at most (2L + 2) / 2^32.
+-- `codes` are those of either strand.
+pub strand-no-better-shorter : (S : Setup) (codes : List ℕ) → CheckedSetup S → T (inRange S) → (first size : ℕ)
+    → FoundByScan S (places (S .kmer) codes) first size → NoBetterShorter S (stretch (places (S .kmer) codes) first size)
+strand-no-better-shorter S codes a t first size f = found-no-better-shorter S (in-range S a t) (places (S .kmer) codes) (places-below (S .kmer) codes) first size f

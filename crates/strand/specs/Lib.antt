@@ -1,5 +1,6 @@
 pub mod Step
 pub mod Range
+pub mod ScanFind
 pub mod Kept
 pub mod Held
 pub mod Running

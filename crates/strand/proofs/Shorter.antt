@@ -1,0 +1,55 @@
+-- Tables in range: a stretch that a run finds by a scan has no better shorter one from the same first place.
+use mathlib.Core.Path.{_≡_, sym, subst}
+use Prim.Native.Nat.{ℕ, suc, _+_}
+use native.Mathlib.Omega.{arith}
+use mathlib.Core.Bool.{Bool, true, false, cond, not, _&&_}
+use mathlib.Core.List.{List, _∷_}
+use lib.ListN.{length, drop, length-drop}
+use lib.Dec.{T}
+use Rattle.floats.proofs.Whole.{Is, is-as}
+use Rattle.letters.specs.Place.{Place, plain, Below}
+use Rattle.scans.specs.Setup.{Setup, kmers}
+use Rattle.scans.specs.Counts.{raise}
+use Rattle.scans.specs.Score.{stretch, NoBetterShorter}
+use Rattle.scans.specs.Scans.{none, at, Outcome, extends, ifBackward, dustBackward}
+use Rattle.scans.proofs.Gain.{InRange}
+use Rattle.scans.proofs.Shorter.{scan-no-better-shorter}
+use Rattle.strand.specs.Step.{Run, extendTried, search, st2, run}
+use Rattle.strand.specs.ScanFind.{lookedFrom, FoundByScan}
+use Rattle.strand.proofs.Shape.{st2-is}
+use Rattle.strand.proofs.Placing.{Placed, placed-below, placed-stretch, joined-placed, run-placed}
+
+-- A find without an extension is the backward scan's.
+by-scan : (S : Setup) (i : ℕ) (a : Run) (x j : ℕ) → T (not (extendTried S i a && extends S (a .counts) (length (a .window)) x)) → search S i a x .find ≡ at j → dustBackward S (a .window) .find ≡ at j
+unfolding search
+by-scan S i a x j t e =
+    go (extendTried S i a && extends S (a .counts) (length (a .window)) x) (ifBackward S (a .window)) (record { find = at 0; counts = raise (a .counts) (plain x) }) (dustBackward S (a .window)) t e
+  where
+    go : (extended back : Bool) (o r : Outcome) → T (not extended) → cond extended o (cond back r (record { find = none; counts = a .counts })) .find ≡ at j → r .find ≡ at j
+    go true back o r t e = absurd t
+    go false true o r t e = e
+    go false false o r t e = let z : _≡_ {A = ℕ} 0 1 = cc in absurd (omega arith)
+
+-- The run takes its letters from st2 = first - (k - 1) on.
+pub found-start : (S : Setup) (ps : List Place) (first size : ℕ) (f : FoundByScan S ps first size)
+    → Is (st2 (S .kmer) (length (f .before)) (length (f .state .window)) (f .index)) (first + 1) (S .kmer)
+found-start S ps first size f =
+    let i : ℕ = length (f .before) in
+    let l : ℕ = length (f .state .window) in
+    is-as (st2 (S .kmer) i l (f .index)) (i + f .index + 2) (l + S .kmer) (first + 1) (S .kmer) (omega (arith, f .size-is, f .first-is)) (st2-is (S .kmer) i l (f .index))
+
+pub found-no-better-shorter : (S : Setup) → InRange S → (ps : List Place) → Below (kmers S) ps → (first size : ℕ) → FoundByScan S ps first size → NoBetterShorter S (stretch ps first size)
+unfolding lookedFrom
+found-no-better-shorter S R ps B first size f =
+    let a : Run = f .state in
+    let e : Place = plain (f .kmer) in
+    let q : List Place = a .window in
+    let d : List Place = drop (f .index) q in
+    let p : Placed ps (suc (S .window-size)) (length (f .before) + 1) q (f .after) =
+    subst (λ (b : Run). Placed ps (suc (S .window-size)) (length (f .before) + 1) (b .window) (f .after)) (sym (f .state-is))
+    (joined-placed S (R .window-some) ps (length (f .before)) (run S (f .before)) e (f .after) (run-placed S (R .window-some) ps (f .before) (e ∷ f .after) (f .strand))) in
+    let ld = length-drop (f .index) q in
+    let from : length (p .past) + f .index ≡ first = omega (arith, p .placed, f .size-is, f .first-is) in
+    let long : length d ≡ size = omega (arith, f .size-is) in
+    let cut : stretch ps first size ≡ d = subst (λ (n : ℕ). stretch ps n size ≡ d) from (subst (λ (n : ℕ). stretch ps (length (p .past) + f .index) n ≡ d) long (placed-stretch q (f .after) p (f .index) (omega (arith, f .size-is)))) in
+    rw cut (scan-no-better-shorter S R q (placed-below q (f .after) p (kmers S) B .0) (omega (arith, p .short)) (f .index) (by-scan S (length (f .before)) a (f .kmer) (f .index) (f .not-extended) (f .found)))
