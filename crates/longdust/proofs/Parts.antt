@@ -74,7 +74,7 @@ module _ (o : LongdustOptions) (n m : ℕ) (b : Buffers) (a : Admitted o n (leng
   scans-fit : m ≤ length (b .scan-counts)
   scans-fit = omega (arith, a .enough .scan-counts)
 
-  sizes : (p : Params) → p .kmer ≡ o .kmer → p .window ≡ o .«window_size» → (starts ends : List ℕ)
+  sizes : (p : Params) → p .kmer ≡ o .kmer → p .«window_size» ≡ o .«window_size» → (starts ends : List ℕ)
       → (n + 1) / (o .kmer + 1) ≤ length starts → (n + 1) / (o .kmer + 1) ≤ length ends
       → StrandLent p n (length (take (o .«window_size» + 1) (b .ln))) (length (take (o .«window_size» + 2) (b .f))) (length (take (o .«window_size») (b .queue))) (length (take m (b .window-counts)))
       (length (take m (b .scan-counts))) (length (take (o .«window_size») (b .candidates)))
@@ -103,7 +103,7 @@ module _ (o : LongdustOptions) (n m : ℕ) (b : Buffers) (a : Admitted o n (leng
         candidates-long = omega (arith, length-take-le (o .«window_size») (b .candidates) (g .candidates));
       }
 
-  pub exact : (p : Params) → p .kmer ≡ o .kmer → p .window ≡ o .«window_size»
+  pub exact : (p : Params) → p .kmer ≡ o .kmer → p .«window_size» ≡ o .«window_size»
       → Exact p n (lengths (fronts (o .«window_size») m n ((n + 1) / (o .kmer + 1)) b))
   exact p k w =
       let g = a .enough in

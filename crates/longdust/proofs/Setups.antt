@@ -23,12 +23,12 @@ pub prepared : (o : LongdustOptions) (ln f : List Float) (limit : Float) (test t
     → setupOf
     (record {
       kmer = o .kmer;
-      window = o .«window_size»;
-      least = o .«min_start_cnt»;
-      threshold = o .«score_threshold»;
-      limit = limit;
+      «window_size» = o .«window_size»;
+      «min_start_cnt» = o .«min_start_cnt»;
+      «score_threshold» = o .«score_threshold»;
+      «drop_limit» = limit;
       approx = o .approx;
-      test = test′;
+      «max_test» = test′;
     })
     ln
     f
@@ -41,7 +41,7 @@ module _ {o : LongdustOptions} {ln f : List Float} {p : Params} (q : Prepared o 
   unfolding setup
   prepared-kmer = ap (λ (S : Setup). S .kmer) (q .setup-is)
 
-  pub prepared-window : p .window ≡ o .«window_size»
+  pub prepared-window : p .«window_size» ≡ o .«window_size»
   unfolding setup
   prepared-window = ap (λ (S : Setup). S .window-size) (q .setup-is)
 

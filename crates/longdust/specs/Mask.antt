@@ -21,7 +21,7 @@ setup o ln f =
     record {
       kmer = o .kmer;
       window-size = o .«window_size»;
-      threshold = o .«score_threshold»;
+      score-threshold = o .«score_threshold»;
       min-start-cnt = o .«min_start_cnt»;
       drop-limit = dropLimit (o .xdrop) (o .«window_size») (o .«score_threshold»);
       approx = o .approx;

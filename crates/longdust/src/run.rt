@@ -24,12 +24,12 @@ fn prepare(options: LongdustOptions, ln: &[f64], f: &[f64]) -> Params
     let xdrop = options.xdrop;
     Params {
         kmer: options.kmer,
-        window: options.window_size,
-        least: options.min_start_cnt,
-        threshold,
-        limit: scans::drop_limit(xdrop, w, threshold),
+        window_size: options.window_size,
+        min_start_cnt: options.min_start_cnt,
+        score_threshold: threshold,
+        drop_limit: scans::drop_limit(xdrop, w, threshold),
         approx: options.approx,
-        test: scans::max_test(ln, f, w, threshold),
+        max_test: scans::max_test(ln, f, w, threshold),
     }
 }
 
@@ -50,12 +50,12 @@ fn table_in_range(table: &[f64], w: usize, high: f64) -> bool
 
 // The flag.
 fn in_range(p: Params, ln: &[f64], f: &[f64]) -> bool
-    requires { ⌜ (p .window < length (now ln)) × (p .window < length (now f)) ⌝ }
+    requires { ⌜ (p .«window_size» < length (now ln)) × (p .«window_size» < length (now f)) ⌝ }
     ensures { λ r. ⌜ r ≡ inRange (setupOf p (now (ln .entry)) (now (f .entry))) ⌝ }
 {
-    let ln_ok = table_in_range(ln, p.window, 16.0);
-    let f_ok = table_in_range(f, p.window, 1048576.0);
-    (p.threshold <= 16.0) & (ln_ok & f_ok)
+    let ln_ok = table_in_range(ln, p.window_size, 16.0);
+    let f_ok = table_in_range(f, p.window_size, 1048576.0);
+    (p.score_threshold <= 16.0) & (ln_ok & f_ok)
 }
 
 // Both strands on buffers of exactly the listed sizes; answers how many intervals the mask has.

@@ -64,19 +64,19 @@ module _ (p : Params) (ring : List ℕ) (head len : ℕ) (counts : List ℕ) (ln
   abbrev q : List Place
   q = window ring head len
 
-  pub checking-start : (left : ℕ) → left ≡ maxSteps (p .test) len → Checking p ln q left len zero64
+  pub checking-start : (left : ℕ) → left ≡ maxSteps (p .«max_test») len → Checking p ln q left len zero64
   unfolding ifBackward
   checking-start left e =
       let l : length q ≡ len = long w in
       record {
-        few = omega (arith, steps-le (p .test) len);
+        few = omega (arith, steps-le (p .«max_test») len);
         inside = omega arith;
         whole = λ f. rw (l, e);
       }
 
   module _ (left i : ℕ) (s : Float) (c : Checking p ln q left i s) (h : 0 < left) (at : ℕ) (a : at ≡ ringIndex (length ring) head (i - 1)) (v : Float) (pv : v ≡ countedValue ln counts (decode (getD ring at 0))) where
     abbrev s′ : Float
-    s′ = s ⊕ (v ⊖ p .threshold)
+    s′ = s ⊕ (v ⊖ p .«score_threshold»)
 
     here : At (length ring) head (i - 1) at
     here = rw a (ring-index-at (length ring) head (i - 1) (omega (arith, w .ring-is, w .head-in)) (omega (arith, c .inside, long w, w .ring-is, w .len-in)))

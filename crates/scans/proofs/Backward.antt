@@ -25,7 +25,7 @@ use Rattle.scans.proofs.Searching.{to-try-fit}
 pub roomy-as : {p : Params} {f-length n-counts n : ℕ} (counts′ n′ : ℕ) → counts′ ≡ n-counts → n′ ≡ n → Roomy p f-length n-counts n → Roomy p f-length counts′ n′
 roomy-as counts′ n′ ec e r = record { f-long = r .f-long; counts-is = ec ∙ r .counts-is; candidates-long = omega (arith, r .candidates-long) }
 
-pub ringed : {p : Params} {ring : List ℕ} {head len : ℕ} {window-counts : List ℕ} {n m k : ℕ} → k ≡ 4 ^ p .kmer → p .window < m → Windowed p ring head len window-counts n → Ringed ring head len n m k
+pub ringed : {p : Params} {ring : List ℕ} {head len : ℕ} {window-counts : List ℕ} {n m k : ℕ} → k ≡ 4 ^ p .kmer → p .«window_size» < m → Windowed p ring head len window-counts n → Ringed ring head len n m k
 ringed e l w = record { queued = windowed-queued w e; ln-long = omega (arith, w .ring-is, w .ln-long); f-long = omega (arith, w .ring-is) }
 
 below-at : (n : ℕ) (cs : List Candidate) (j : ℕ) → AllBelow n cs → j < length cs → getD cs j noCandidate .place < n

@@ -58,10 +58,10 @@ not-above best sl h = go (lt best sl) (eq best sl) h
 module _ (S : Setup) (q : List Place) (i l : ℕ) (a : BackwardSums) (counts : List ℕ) (cs : List Candidate) (e : Place) (v vw : Float)
     (some : 0 < i) (pe : getD q (i - 1) ambiguous ≡ e) (pv : v ≡ value S counts e) (pw : vw ≡ secondValue S q (raise counts e) e) where
   abbrev s : Float
-  s = a .s ⊕ (v ⊖ S .threshold)
+  s = a .s ⊕ (v ⊖ S .score-threshold)
 
   abbrev sw : Float
-  sw = a .sw ⊕ (vw ⊖ S .threshold)
+  sw = a .sw ⊕ (vw ⊖ S .score-threshold)
 
   abbrev sl : Float
   sl = s ⊖ fAt S l
@@ -145,7 +145,7 @@ module _ (S : Setup) (q : List Place) (from : ℕ) (a : BackwardState) (counts�
 
     module _ (b₁ : BackwardState) (fl : Float) (counts′ : List ℕ) (r : Entered S q from (a .low) i b b₁ fl counts counts′) where
       abbrev score′ : Float
-      score′ = b .s ⊕ (r .v ⊖ S .threshold) ⊖ fAt S (length q + 1 - i)
+      score′ = b .s ⊕ (r .v ⊖ S .score-threshold) ⊖ fAt S (length q + 1 - i)
 
       abbrev score : Float
       score = b₁ .s ⊖ fl
@@ -182,7 +182,7 @@ module _ (S : Setup) (q : List Place) (from : ℕ) (a : BackwardState) (counts�
           }
 
       module _ (on : lt (b₁ .sw ⊖ fl) zero64 ≡ false) where
-        on′ : lt (b .sw ⊕ (r .vw ⊖ S .threshold) ⊖ fAt S (length q + 1 - i)) zero64 ≡ false
+        on′ : lt (b .sw ⊕ (r .vw ⊖ S .score-threshold) ⊖ fAt S (length q + 1 - i)) zero64 ≡ false
         on′ = rw (r .second-score-is) at on
 
         compared : (t : Bool) → le (b₁ .best) score ≡ t → le (b .best) score′ ≡ t
@@ -225,7 +225,7 @@ module _ (S : Setup) (q : List Place) (from : ℕ) (a : BackwardState) (counts�
               (backwardFrom S q (i - 1) (length q + 1 - (i - 1)) (backwardOf b₂) counts′ (cond peak (cs ++ candidate (i - 1 + 1) (b .best) ∷ []) cs))
           below cs =
               let l : length q + 1 - i + 1 ≡ length q + 1 - (i - 1) = omega (arith, r .inside, r .more) in
-              let sums : backwardOf b₂ ≡ record { s = b .s ⊕ (r .v ⊖ S .threshold); sw = b .sw ⊕ (r .vw ⊖ S .threshold); last = score′; best = b .best; found = b .found } = rw (z, r .score-is, r .sums-are) in
+              let sums : backwardOf b₂ ≡ record { s = b .s ⊕ (r .v ⊖ S .score-threshold); sw = b .sw ⊕ (r .vw ⊖ S .score-threshold); last = score′; best = b .best; found = b .found } = rw (z, r .score-is, r .sums-are) in
               turn-below S q i (length q + 1 - i) (backwardOf b) counts cs (r .e) (r .v) (r .vw) (omega (arith, r .more)) (r .place-is) (r .value-is) (r .second-is) on′ (compared false h)
               ∙ rw (limited, is-noted, l, sums, r .counts-are)
 

@@ -63,9 +63,9 @@ module _ (S : Setup) (q : List Place) (n : ℕ) where
   entry-scanned i l a counts cs hi hc ha hf hn later =
       let e : Place = getD q i ambiguous in
       let counts′ : List ℕ = raise counts e in
-      let s : Float = add binary64 (a .s) (sub binary64 (value S counts e) (S .threshold)) in
+      let s : Float = add binary64 (a .s) (sub binary64 (value S counts e) (S .score-threshold)) in
       let sl : Float = sub binary64 s (fAt S l) in
-      let sw : Float = add binary64 (a .sw) (sub binary64 (secondValue S q counts′ e) (S .threshold)) in
+      let sw : Float = add binary64 (a .sw) (sub binary64 (secondValue S q counts′ e) (S .score-threshold)) in
       let a′ : BackwardSums = backwardJudged a s sw sl i in
       let cs′ : List Candidate = noted a sl i cs in
       let ends : Backward = record { best = a .best; found = a .found; counts = counts′; candidates = cs } in

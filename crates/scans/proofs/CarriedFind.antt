@@ -45,7 +45,7 @@ module _ (S : Setup) (q₀ : List Place) (e : Place) (below : Below (kmers S) (q
   q = q₀ ++ e ∷ []
 
   abbrev s : Float
-  s = c .s ⊕ (countedValue (S .ln) counts e ⊖ S .threshold)
+  s = c .s ⊕ (countedValue (S .ln) counts e ⊖ S .score-threshold)
 
   abbrev sl : Float
   sl = s ⊖ fAt S l

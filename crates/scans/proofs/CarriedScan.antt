@@ -68,8 +68,8 @@ module _ (S : Setup) (es : List Place) (e : Place) where
 
 -- The code's step: v is the value of the counted place.
 pub carries-on : (S : Setup) (l : ℕ) (e : Place) (c : Carry) (counts counts′ : List ℕ) (v : Float) → CountsEntry (S .ln) counts e v counts′ → BelowAt (length counts) e → (t : Bool)
-    → le (c .best) (c .s ⊕ (v ⊖ S .threshold) ⊖ fAt S l) ≡ t
-    → CarriesOn S l e c (record { on = c .on; s = c .s ⊕ (v ⊖ S .threshold); best = cond t (c .s ⊕ (v ⊖ S .threshold) ⊖ fAt S l) (c .best) }) counts counts′
+    → le (c .best) (c .s ⊕ (v ⊖ S .score-threshold) ⊖ fAt S l) ≡ t
+    → CarriesOn S l e c (record { on = c .on; s = c .s ⊕ (v ⊖ S .score-threshold); best = cond t (c .s ⊕ (v ⊖ S .score-threshold) ⊖ fAt S l) (c .best) }) counts counts′
 carries-on S l e c counts counts′ v k b t h =
     let z : v ≡ value S counts e = k .value-is ∙ ap (λ (g : List ℕ). countedValue (S .ln) g e) (k .counts-are) ∙ raised-value S counts e b in
     record { carry-is = rw (← h, z); counts-are = k .counts-are }
@@ -116,7 +116,7 @@ module _ (S : Setup) (q₀ : List Place) (e : Place) (j : ℕ) (inside : j ≤ l
 
   -- The counts of all the places from j on, and the newest's score.
   module _ (counts : List ℕ) (b : Below (kmers S) q) (n : Counted (kmers S) counts (drop j q)) (s sl : Float)
-      (qs : s ≡ c .s ⊕ (countedValue (S .ln) counts e ⊖ S .threshold)) (ql : sl ≡ s ⊖ fAt S (length q - j)) (high : T (le (c .best) sl)) where
+      (qs : s ≡ c .s ⊕ (countedValue (S .ln) counts e ⊖ S .score-threshold)) (ql : sl ≡ s ⊖ fAt S (length q - j)) (high : T (le (c .best) sl)) where
     more : drop j q ≡ es ++ e ∷ []
     more = drop-append-le j q₀ (e ∷ []) inside
 
@@ -131,7 +131,7 @@ module _ (S : Setup) (q₀ : List Place) (e : Place) (j : ℕ) (inside : j ≤ l
 
     sum-at : sum S (Wj .sums) (Wj .counts) e ≡ s
     sum-at =
-        ap₂ (λ (x v : Float). x ⊕ (v ⊖ S .threshold)) (alike .s-same ∙ k .s-is on) (counted-value S (kmers S) es e (Wj .counts) counts before-counted all-counted)
+        ap₂ (λ (x v : Float). x ⊕ (v ⊖ S .score-threshold)) (alike .s-same ∙ k .s-is on) (counted-value S (kmers S) es e (Wj .counts) counts before-counted all-counted)
         ∙ sym qs
 
     score-at : score S (Wj .sums) (Wj .counts) e (length es + 1) ≡ sl

@@ -19,7 +19,7 @@ setup =
     record {
       kmer = 2;
       window-size = 3;
-      threshold = half64;
+      score-threshold = half64;
       min-start-cnt = 2;
       drop-limit = zero64;
       approx = false;
@@ -39,7 +39,7 @@ tied =
     record {
       kmer = 1;
       window-size = 2;
-      threshold = half64;
+      score-threshold = half64;
       min-start-cnt = 2;
       drop-limit = number 1;
       approx = false;

@@ -38,7 +38,7 @@ newest-first q l h =
 -- ---- Tables in range.
 module _ (S : Setup) (R : InRange S) where
   abbrev t : Float
-  t = S .threshold
+  t = S .score-threshold
 
   -- What a place adds is the ln entry that it adds to the places read before.
   value-added : (counts : List ℕ) (seen : List Place) (e : Place) → Counted (kmers S) counts seen → value S counts e ≡ added S seen e

@@ -25,7 +25,7 @@ use Rattle.scans.proofs.Ring.{ring-index-at, queue-at, window-at, windo
 use Rattle.scans.proofs.Values.{raised-value, decode-below}
 
 abbrev pub nextSum : Setup → ForwardSums → Float → Float
-nextSum S a v = a .s ⊕ (v ⊖ S .threshold)
+nextSum S a v = a .s ⊕ (v ⊖ S .score-threshold)
 
 abbrev pub nextScore : Setup → ℕ → ℕ → ForwardSums → Float → Float
 nextScore S start i a v = nextSum S a v ⊖ fAt S (i + 1 - start)

@@ -47,7 +47,7 @@ module _ (S : Setup) where
   unfolding forwardFrom
   from-best limit [] l i a counts b = b
   from-best limit (e ∷ es) l i a counts b =
-      let s : Float = add binary64 (a .s) (sub binary64 (value S counts e) (S .threshold)) in
+      let s : Float = add binary64 (a .s) (sub binary64 (value S counts e) (S .score-threshold)) in
       let sl : Float = sub binary64 s (fAt S l) in
       let a′ : ForwardSums = forwardJudged a s sl i in
       let b′ = judged-best a s sl i b in

@@ -20,7 +20,7 @@ use Rattle.scans.proofs.Exact.{added, lnSums-snoc, lnSums-cons, lnSums-
 pub record InRange (S : Setup) : Type 0 where
   pub window-small : S .window-size ≤ 65535
   pub window-some : 0 < S .window-size
-  pub t-ranged : Ranged 16 (S .threshold)
+  pub t-ranged : Ranged 16 (S .score-threshold)
   pub ln-ranged : (c : ℕ) → 0 < c → c ≤ S .window-size → Ranged 16 (lnAt S c)
   pub f-ranged : (l : ℕ) → 0 < l → l ≤ S .window-size → Ranged 1048576 (fAt S l)
 
@@ -30,7 +30,7 @@ gain S q = natAbs (lnSums S (kmers S) q)
 
 -- L times T, and f entry L.
 abbrev pub loss : Setup → ℕ → ℕ
-loss S l = l * pos64 (S .threshold) + pos64 (fAt S l)
+loss S l = l * pos64 (S .score-threshold) + pos64 (fAt S l)
 
 -- ---- Numbers that are not below 0.
 abbrev NonNegative : ℤ → Type 0
@@ -99,7 +99,7 @@ module _ (S : Setup) (R : InRange S) where
   pub score-is : (q : List Place) → length q ≤ S .window-size → 0 < length q → Is (score S q) (gain S q) (loss S (length q))
   unfolding score gain
   score-is q l some =
-      let t : Float = S .threshold in
+      let t : Float = S .score-threshold in
       let len : ℕ = length q in
       let f : Float = fAt S len in
       let z : ℤ = lnSums S (kmers S) q in

@@ -18,7 +18,7 @@ use Rattle.scans.proofs.Test.{by-test, by-test-both}
 
 -- ---- The sum s and the counts after the places seen: what they come to with any places more, the whole comes to from the start.
 record Read (S : Setup) (v : List ℕ → Place → Float) (seen : List Place) (s : Float) (counts : List ℕ) : Type 0 where
-  on : (es : List Place) → sumOver v (S .threshold) zero64 (cleared S) (seen ++ es) ≡ sumOver v (S .threshold) s counts es
+  on : (es : List Place) → sumOver v (S .score-threshold) zero64 (cleared S) (seen ++ es) ≡ sumOver v (S .score-threshold) s counts es
 
 module _ (S : Setup) (v : List ℕ → Place → Float) where
   read-none : Read S v [] zero64 (cleared S)
@@ -26,18 +26,18 @@ module _ (S : Setup) (v : List ℕ → Place → Float) where
 
   module _ (seen : List Place) (s : Float) (counts : List ℕ) (e : Place) (r : Read S v seen s counts) where
     -- One place more.
-    read-more : Read S v (seen ++ e ∷ []) (s ⊕ (v counts e ⊖ S .threshold)) (raise counts e)
+    read-more : Read S v (seen ++ e ∷ []) (s ⊕ (v counts e ⊖ S .score-threshold)) (raise counts e)
     unfolding sumOver
-    read-more = record { on = λ es. ap (λ (l : List Place). sumOver v (S .threshold) zero64 (cleared S) l) (append-snoc seen e es) ∙ r .on (e ∷ es) }
+    read-more = record { on = λ es. ap (λ (l : List Place). sumOver v (S .score-threshold) zero64 (cleared S) l) (append-snoc seen e es) ∙ r .on (e ∷ es) }
 
     -- The l-th score is that of the first l of all places.
     read-score : (l : ℕ) (es all : List Place) → l ≡ length seen + 1 → seen ++ e ∷ es ≡ all
-        → s ⊕ (v counts e ⊖ S .threshold) ⊖ fAt S l ≡ sumOver v (S .threshold) zero64 (cleared S) (take l all) ⊖ fAt S (length (take l all))
+        → s ⊕ (v counts e ⊖ S .score-threshold) ⊖ fAt S l ≡ sumOver v (S .score-threshold) zero64 (cleared S) (take l all) ⊖ fAt S (length (take l all))
     unfolding sumOver
     read-score l es all ql qa =
         let cut : take l all ≡ seen ++ e ∷ [] = ap₂ (λ (n : ℕ) (z : List Place). take n z) ql (sym qa) ∙ take-append-add seen (e ∷ es) 1 in
         let long : l ≡ length (take l all) = omega (arith, ap length cut, length-append seen (e ∷ [])) in
-        ap₂ (λ (x : Float) (n : ℕ). x ⊖ fAt S n) (sym (ap (λ (z : List Place). sumOver v (S .threshold) zero64 (cleared S) z) cut ∙ r .on (e ∷ []))) long
+        ap₂ (λ (x : Float) (n : ℕ). x ⊖ fAt S n) (sym (ap (λ (z : List Place). sumOver v (S .score-threshold) zero64 (cleared S) z) cut ∙ r .on (e ∷ []))) long
 
 -- ---- The forward scan.
 module _ (S : Setup) (limit : Float) (j : ℕ) (all : List Place) where
@@ -49,7 +49,7 @@ module _ (S : Setup) (limit : Float) (j : ℕ) (all : List Place) where
   unfolding forwardFrom forwardOver floatScore
   forward-from seen [] l i a counts ql qi qa r = refl
   forward-from seen (e ∷ es) l i a counts ql qi qa r =
-      let s : Float = a .s ⊕ (value S counts e ⊖ S .threshold) in
+      let s : Float = a .s ⊕ (value S counts e ⊖ S .score-threshold) in
       let sl : Float = s ⊖ fAt S l in
       let a′ : ForwardSums = forwardJudged a s sl i in
       let counts′ : List ℕ = raise counts e in
@@ -99,8 +99,8 @@ module _ (S : Setup) (q : List Place) where
   backward-from seen zero l a counts cs hi ql qa r₁ r₂ = refl
   backward-from seen (suc i) l a counts cs hi ql qa r₁ r₂ =
       let e : Place = getD q i ambiguous in
-      let s : Float = a .s ⊕ (value S counts e ⊖ S .threshold) in
-      let sw : Float = a .sw ⊕ (second counts e ⊖ S .threshold) in
+      let s : Float = a .s ⊕ (value S counts e ⊖ S .score-threshold) in
+      let sw : Float = a .sw ⊕ (second counts e ⊖ S .score-threshold) in
       let sl : Float = s ⊖ fAt S l in
       let low : Float = sw ⊖ fAt S l in
       let counts′ : List ℕ = raise counts e in

@@ -24,10 +24,10 @@ use Rattle.scans.proofs.BackwardScan.{none-counted, ended-all}
 module _ (S : Setup) (q : List Place) (i l : ℕ) (a : BackwardSums) (counts : List ℕ) (e : Place) (v vw : Float) (some : 0 < i) (pe : getD q (i - 1) ambiguous ≡ e) (pv : v ≡ value S counts e)
     (pw : vw ≡ secondValue S q (raise counts e) e) where
   abbrev s : Float
-  s = a .s ⊕ (v ⊖ S .threshold)
+  s = a .s ⊕ (v ⊖ S .score-threshold)
 
   abbrev sw : Float
-  sw = a .sw ⊕ (vw ⊖ S .threshold)
+  sw = a .sw ⊕ (vw ⊖ S .score-threshold)
 
   abbrev sl : Float
   sl = s ⊖ fAt S l
@@ -90,7 +90,7 @@ module _ (S : Setup) (q : List Place) (from to : ℕ) (a : BackwardState) (count
 
     module _ (b₁ : BackwardState) (fl : Float) (counts′ : List ℕ) (r : Entered S q from to i b b₁ fl counts counts′) where
       abbrev score′ : Float
-      score′ = b .s ⊕ (r .v ⊖ S .threshold) ⊖ fAt S (length q + 1 - i)
+      score′ = b .s ⊕ (r .v ⊖ S .score-threshold) ⊖ fAt S (length q + 1 - i)
 
       abbrev score : Float
       score = b₁ .s ⊖ fl
@@ -116,7 +116,7 @@ module _ (S : Setup) (q : List Place) (from to : ℕ) (a : BackwardState) (count
           stopped false b′ z (quick-ended S q i (length q + 1 - i) (backwardOf b) counts (r .e) (r .v) (r .vw) (omega (arith, r .more)) (r .place-is) (r .value-is) (r .second-is) (rw (r .second-score-is) at h))
 
       module _ (on : lt (b₁ .sw ⊖ fl) zero64 ≡ false) where
-        on′ : lt (b .sw ⊕ (r .vw ⊖ S .threshold) ⊖ fAt S (length q + 1 - i)) zero64 ≡ false
+        on′ : lt (b .sw ⊕ (r .vw ⊖ S .score-threshold) ⊖ fAt S (length q + 1 - i)) zero64 ≡ false
         on′ = rw (r .second-score-is) at on
 
         compared : (t : Bool) → le (b₁ .best) score ≡ t → le (b .best) score′ ≡ t

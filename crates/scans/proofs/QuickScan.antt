@@ -105,9 +105,9 @@ module _ (S : Setup) (q : List Place) where
   quick-agrees (suc i) l a counts cs bare h =
       let e : Place = getD q i ambiguous in
       let counts′ : List ℕ = raise counts e in
-      let s : Float = a .s ⊕ (value S counts e ⊖ S .threshold) in
+      let s : Float = a .s ⊕ (value S counts e ⊖ S .score-threshold) in
       let sl : Float = s ⊖ fAt S l in
-      let sw : Float = a .sw ⊕ (secondValue S q counts′ e ⊖ S .threshold) in
+      let sw : Float = a .sw ⊕ (secondValue S q counts′ e ⊖ S .score-threshold) in
       let a′ : BackwardSums = backwardJudged a s sw sl i in
       let cs′ : List Candidate = noted a sl i cs in
       let over : Quick = record { best = a .best; found = a .found; tied = false } in

@@ -46,10 +46,10 @@ pub record Entered (S : Setup) (q : List Place) (from to i : ℕ) (a b : Backwar
   pub place-is : getD q (i - 1) ambiguous ≡ e
   pub value-is : v ≡ value S counts e
   pub second-is : vw ≡ secondValue S q (raise counts e) e
-  pub sums-are : b ≡ withSums a (a .s ⊕ (v ⊖ S .threshold)) (a .sw ⊕ (vw ⊖ S .threshold))
+  pub sums-are : b ≡ withSums a (a .s ⊕ (v ⊖ S .score-threshold)) (a .sw ⊕ (vw ⊖ S .score-threshold))
   pub counts-are : counts′ ≡ raise counts e
-  pub score-is : b .s ⊖ fl ≡ a .s ⊕ (v ⊖ S .threshold) ⊖ fAt S (length q + 1 - i)
-  pub second-score-is : b .sw ⊖ fl ≡ a .sw ⊕ (vw ⊖ S .threshold) ⊖ fAt S (length q + 1 - i)
+  pub score-is : b .s ⊖ fl ≡ a .s ⊕ (v ⊖ S .score-threshold) ⊖ fAt S (length q + 1 - i)
+  pub second-score-is : b .sw ⊖ fl ≡ a .sw ⊕ (vw ⊖ S .score-threshold) ⊖ fAt S (length q + 1 - i)
   pub read : Read q from to (kmers S) (i - 1) counts′
 
 -- It is the next of a window in a ring.
@@ -107,7 +107,7 @@ module _ (p : Params) (ring : List ℕ) (head len : ℕ) (ln : List Float) (from
   nth : len - (i - 1) ≡ length q + 1 - i
   nth = omega (arith, long w, in-window)
 
-  module _ (f : List Float) (a b : BackwardState) (counts′ : List ℕ) (k : AddsEntry (p .threshold) window-counts ln e a b counts counts′) where
+  module _ (f : List Float) (a b : BackwardState) (counts′ : List ℕ) (k : AddsEntry (p .«score_threshold») window-counts ln e a b counts counts′) where
     abbrev S : Setup
     S = setupOf p ln f
 

@@ -82,7 +82,7 @@ forward-touched : (S : Setup) (limit : Float) (seen es : List Place) (l i : ℕ)
 unfolding forwardFrom
 forward-touched S limit seen [] l i a counts t = subst (λ (z : List Place). Touched counts z) (sym (append-nil seen)) t
 forward-touched S limit seen (e ∷ es) l i a counts t =
-    let s : Float = a .s ⊕ (value S counts e ⊖ S .threshold) in
+    let s : Float = a .s ⊕ (value S counts e ⊖ S .score-threshold) in
     let sl : Float = s ⊖ fAt S l in
     let a′ : ForwardSums = forwardJudged a s sl i in
     let t′ = touched-raise counts seen e t in

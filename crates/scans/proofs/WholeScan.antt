@@ -24,7 +24,7 @@ never-above (fin t n d) = refl
 
 module _ (S : Setup) where
   abbrev pub sum : ForwardSums → List ℕ → Place → Float
-  sum a counts e = a .s ⊕ (value S counts e ⊖ S .threshold)
+  sum a counts e = a .s ⊕ (value S counts e ⊖ S .score-threshold)
 
   abbrev pub score : ForwardSums → List ℕ → Place → ℕ → Float
   score a counts e l = sum a counts e ⊖ fAt S l
@@ -131,7 +131,7 @@ module _ (S : Setup) where
   unfolding forwardFrom
   index-free [] l i k a b counts p q = record { s-same = p; best-same = q }
   index-free (e ∷ es) l i k a b counts p q =
-      let ps : sum a counts e ≡ sum b counts e = ap (λ (z : Float). z ⊕ (value S counts e ⊖ S .threshold)) p in
+      let ps : sum a counts e ≡ sum b counts e = ap (λ (z : Float). z ⊕ (value S counts e ⊖ S .score-threshold)) p in
       let pb : cond (le (a .best) (score a counts e l)) (score a counts e l) (a .best) ≡ cond (le (b .best) (score b counts e l)) (score b counts e l) (b .best) = rw (ps, q) in
       let later : Alike (whole es (l + 1) (i + 1) (judged a counts e l i) (raise counts e)) (whole es (l + 1) (k + 1) (judged b counts e l k) (raise counts e)) =
       index-free es (l + 1) (i + 1) (k + 1) (judged a counts e l i) (judged b counts e l k) (raise counts e)

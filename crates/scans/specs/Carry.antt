@@ -52,14 +52,14 @@ pub record Answers (S : Setup) (q : List Place) (o : Outcome) (r : Scanned) (cou
 -- One place more, the l-th of the scan: its value is added, and a score as high as the best is the new best. `counts` are those of the places before.
 abbrev pub carriedOn : Setup → ℕ → List ℕ → Place → Carry → Carry
 carriedOn S l counts e c =
-    let s : Float = c .s ⊕ (value S counts e ⊖ S .threshold) in
+    let s : Float = c .s ⊕ (value S counts e ⊖ S .score-threshold) in
     let sl : Float = s ⊖ fAt S l in
     record { on = c .on; s = s; best = cond (le (c .best) sl) sl (c .best) }
 
 -- The same with counts that have the place already; on only where the place is the best.
 abbrev pub carriedAhead : Setup → ℕ → List ℕ → Place → Carry → Carry
 carriedAhead S l counts e c =
-    let s : Float = c .s ⊕ (countedValue (S .ln) counts e ⊖ S .threshold) in
+    let s : Float = c .s ⊕ (countedValue (S .ln) counts e ⊖ S .score-threshold) in
     let sl : Float = s ⊖ fAt S l in
     record { on = le (c .best) sl; s = s; best = sl }
 

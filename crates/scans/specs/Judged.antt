@@ -22,11 +22,11 @@ sumOver v t s counts (e ∷ es) = sumOver v t (s ⊕ (v counts e ⊖ t)) (raise 
 
 -- The score after L places: their sum less f entry L. The exact one is `score`.
 unfoldable pub floatScore : Setup → List Place → Float
-floatScore S es = sumOver (value S) (S .threshold) zero64 (cleared S) es ⊖ fAt S (length es)
+floatScore S es = sumOver (value S) (S .score-threshold) zero64 (cleared S) es ⊖ fAt S (length es)
 
 -- The same of the backward scan's second sum, in the window q.
 unfoldable pub secondScore : Setup → List Place → List Place → Float
-secondScore S q es = sumOver (λ (counts : List ℕ) (e : Place). secondValue S q (raise counts e) e) (S .threshold) zero64 (cleared S) es ⊖ fAt S (length es)
+secondScore S q es = sumOver (λ (counts : List ℕ) (e : Place). secondValue S q (raise counts e) e) (S .score-threshold) zero64 (cleared S) es ⊖ fAt S (length es)
 
 -- ---- The forward scan from index j, if its score after L places is x L: m places are left, and the next is the l-th.
 -- The best score, and one past the index that had it (0: none).

@@ -30,9 +30,9 @@ quickFrom S q zero l a counts = record { best = a .best; found = a .found; tied 
 quickFrom S q (suc i) l a counts =
     let e : Place = getD q i ambiguous in
     let counts′ : List ℕ = raise counts e in
-    let s : Float = a .s ⊕ (value S counts e ⊖ S .threshold) in
+    let s : Float = a .s ⊕ (value S counts e ⊖ S .score-threshold) in
     let sl : Float = s ⊖ fAt S l in
-    let sw : Float = a .sw ⊕ (secondValue S q counts′ e ⊖ S .threshold) in
+    let sw : Float = a .sw ⊕ (secondValue S q counts′ e ⊖ S .score-threshold) in
     let a′ : BackwardSums = backwardJudged a s sw sl i in
     let later : Quick = quickFrom S q i (l + 1) a′ counts′ in
     cond (lt (sw ⊖ fAt S l) zero64) (record { best = a .best; found = a .found; tied = false })

@@ -27,7 +27,7 @@ pub record Outcome : Type 0 where
 unfoldable pub extends : Setup → List ℕ → ℕ → ℕ → Bool
 extends S counts len x =
     let c : ℕ = getD counts x 0 + 1 in
-    leb c (S .window-size) && not (lt (lnAt S c ⊖ (fAt S len ⊖ fAt S (len - 1))) (S .threshold))
+    leb c (S .window-size) && not (lt (lnAt S c ⊖ (fAt S len ⊖ fAt S (len - 1))) (S .score-threshold))
 
 -- ---- The back check: it reads at most max_test newest entries, adding ln[window count] (0 if ambiguous) - T; below 0 it says no.
 abbrev pub windowValue : Setup → List Place → Place → Float
@@ -38,7 +38,7 @@ windowValue S q (plain x) = lnAt S (count x q)
 unfoldable pub ifBackwardFrom : Setup → List Place → ℕ → ℕ → Float → Bool
 ifBackwardFrom S q zero i s = true
 ifBackwardFrom S q (suc m) i s =
-    let s′ : Float = s ⊕ (windowValue S q (getD q (i - 1) ambiguous) ⊖ S .threshold) in
+    let s′ : Float = s ⊕ (windowValue S q (getD q (i - 1) ambiguous) ⊖ S .score-threshold) in
     let later : Bool = ifBackwardFrom S q m (i - 1) s′ in
     cond (lt s′ zero64) false later
 
@@ -78,7 +78,7 @@ pub record Forward : Type 0 where
 unfoldable pub forwardFrom : Setup → Float → List Place → ℕ → ℕ → ForwardSums → List ℕ → Forward
 forwardFrom S limit [] l i a counts = record { sums = a; counts = counts }
 forwardFrom S limit (e ∷ es) l i a counts =
-    let s : Float = a .s ⊕ (value S counts e ⊖ S .threshold) in
+    let s : Float = a .s ⊕ (value S counts e ⊖ S .score-threshold) in
     let sl : Float = s ⊖ fAt S l in
     let a′ : ForwardSums = forwardJudged a s sl i in
     let counts′ : List ℕ = raise counts e in
@@ -144,9 +144,9 @@ backwardFrom S q zero l a counts cs = record { best = a .best; found = a .found;
 backwardFrom S q (suc i) l a counts cs =
     let e : Place = getD q i ambiguous in
     let counts′ : List ℕ = raise counts e in
-    let s : Float = a .s ⊕ (value S counts e ⊖ S .threshold) in
+    let s : Float = a .s ⊕ (value S counts e ⊖ S .score-threshold) in
     let sl : Float = s ⊖ fAt S l in
-    let sw : Float = a .sw ⊕ (secondValue S q counts′ e ⊖ S .threshold) in
+    let sw : Float = a .sw ⊕ (secondValue S q counts′ e ⊖ S .score-threshold) in
     let a′ : BackwardSums = backwardJudged a s sw sl i in
     let cs′ : List Candidate = noted a sl i cs in
     let later : Backward = backwardFrom S q i (l + 1) a′ counts′ cs′ in

@@ -21,7 +21,7 @@ lnSums S (suc b) q = lnSums S b q +ℤ lnSum S (count b q)
 
 -- Minus L times T, minus f entry L.
 unfoldable pub score : Setup → List Place → ℤ
-score S q = lnSums S (kmers S) q -ℤ pos (length q) *ℤ value64 (S .threshold) -ℤ value64 (fAt S (length q))
+score S q = lnSums S (kmers S) q -ℤ pos (length q) *ℤ value64 (S .score-threshold) -ℤ value64 (fAt S (length q))
 
 -- Places first .. first + size - 1.
 abbrev pub stretch : List Place → ℕ → ℕ → List Place

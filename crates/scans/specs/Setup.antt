@@ -14,7 +14,7 @@ use Rattle.scans.specs.declared.Params.{Params}
 pub record Setup : Type 0 where
   pub kmer : ℕ  -- k
   pub window-size : ℕ  -- w
-  pub threshold : Float  -- T
+  pub score-threshold : Float  -- T
   pub min-start-cnt : ℕ
   pub drop-limit : Float
   pub approx : Bool
@@ -57,12 +57,12 @@ abbrev pub setupOf : Params → List Float → List Float → Setup
 setupOf p ln f =
     record {
       kmer = p .kmer;
-      window-size = p .window;
-      threshold = p .threshold;
-      min-start-cnt = p .least;
-      drop-limit = p .limit;
+      window-size = p .«window_size»;
+      score-threshold = p .«score_threshold»;
+      min-start-cnt = p .«min_start_cnt»;
+      drop-limit = p .«drop_limit»;
       approx = p .approx;
-      max-test = p .test;
+      max-test = p .«max_test»;
       ln = ln;
       f = f;
     }

@@ -32,12 +32,12 @@ window ring head len = decoded (queue ring head len)
 
 -- A ring of w numbers holds a window, the window counts are its counts, and the ln table reaches to w.
 pub record Windowed (p : Params) (ring : List ℕ) (head len : ℕ) (window-counts : List ℕ) (ln-length : ℕ) : Type 0 where
-  pub ring-is : length ring ≡ p .window
-  pub wide : 1 < p .window
-  pub small : p .window ≤ 65535
-  pub head-in : head < p .window
-  pub len-in : len ≤ p .window
-  pub ln-long : p .window < ln-length
+  pub ring-is : length ring ≡ p .«window_size»
+  pub wide : 1 < p .«window_size»
+  pub small : p .«window_size» ≤ 65535
+  pub head-in : head < p .«window_size»
+  pub len-in : len ≤ p .«window_size»
+  pub ln-long : p .«window_size» < ln-length
   pub counts-long : length window-counts ≡ 4 ^ p .kmer
   pub below : (j : ℕ) → j < len → getD (queue ring head len) j 0 / 2 < 4 ^ p .kmer
   pub counted : (x : ℕ) → getD window-counts x 0 ≡ count x (window ring head len)
@@ -59,9 +59,9 @@ pub record Extends (S : Setup) (counts : List ℕ) (len x : ℕ) (r : Bool) (cou
 
 -- The f table, the scan counts and the candidates are long enough.
 pub record Roomy (p : Params) (f-length counts-length candidates-length : ℕ) : Type 0 where
-  pub f-long : p .window < f-length
+  pub f-long : p .«window_size» < f-length
   pub counts-is : counts-length ≡ 4 ^ p .kmer
-  pub candidates-long : p .window ≤ candidates-length
+  pub candidates-long : p .«window_size» ≤ candidates-length
 
 -- A number as a find: one past its index, 0 for none.
 abbrev pub findOf : ℕ → Find

@@ -24,15 +24,15 @@ pub enum Xdrop {
     Length(u32),
 }
 
-// The numbers that a run goes by: `least` is min_start_cnt, `limit` the drop limit, `test` max_test.
+// The numbers that a run goes by.
 pub struct Params {
     pub kmer: usize,
-    pub window: usize,
-    pub least: u16,
-    pub threshold: f64,
-    pub limit: f64,
+    pub window_size: usize,
+    pub min_start_cnt: u16,
+    pub score_threshold: f64,
+    pub drop_limit: f64,
     pub approx: bool,
-    pub test: i32,
+    pub max_test: i32,
 }
 
 pub fn drop_limit(xdrop: Xdrop, window: u32, threshold: f64) -> f64
@@ -95,16 +95,16 @@ pub fn extend(
     f: &[f64],
     scan_counts: &mut [u16],
 ) -> bool
-    requires { ⌜ (0 < len) × (len ≤ p .window) × (p .window ≤ 65535) × (p .window < length (now ln)) × (p .window < length (now f)) × (kmer < length (now «scan_counts»)) ⌝ }
+    requires { ⌜ (0 < len) × (len ≤ p .«window_size») × (p .«window_size» ≤ 65535) × (p .«window_size» < length (now ln)) × (p .«window_size» < length (now f)) × (kmer < length (now «scan_counts»)) ⌝ }
     ensures { λ r. ⌜ Extends (setupOf p (now (ln .entry)) (now (f .entry))) (now («scan_counts» .entry)) len kmer r (now («scan_counts» .exit)) ⌝ }
 {
     let x = kmer as usize;
     let c = scan_counts[x];
     let n = (c as usize) + 1;
-    if n > p.window {
+    if n > p.window_size {
         return false;
     }
-    if ln[n] - (f[len] - f[len - 1]) < p.threshold {
+    if ln[n] - (f[len] - f[len - 1]) < p.score_threshold {
         return false;
     }
     scan_counts[x] = c + 1;
@@ -126,12 +126,12 @@ fn window_value(window_counts: &[u16], ln: &[f64], entry: u32) -> f64
 impl Params {
     // How many entries the back check reads at most.
     fn max_steps(self, len: usize) -> usize
-        ensures { λ r. ⌜ r ≡ maxSteps (self .test) len ⌝ }
+        ensures { λ r. ⌜ r ≡ maxSteps (self .«max_test») len ⌝ }
     {
-        if self.test < 0 {
+        if self.max_test < 0 {
             return len;
         }
-        let steps = self.test as usize;
+        let steps = self.max_test as usize;
         if steps < len {
             return steps;
         }
@@ -158,7 +158,7 @@ pub fn if_backward(
         i -= 1;
         let at = ring_index(ring.len(), head, i);
         let v = window_value(window_counts, ln, ring[at]);
-        s = s + (v - p.threshold);
+        s = s + (v - p.score_threshold);
         if s < 0.0 {
             return false;
         }
@@ -312,7 +312,7 @@ fn forward_part(
     let mut i = from;
     while i < to {
         let v = count_entry(scan_counts, ln, ring[head + i - turn]);
-        let s = st.s + (v - p.threshold);
+        let s = st.s + (v - p.score_threshold);
         let sl = s - f[i + 1 - start];
         st = st.judged(s, sl, i);
         if sl > limit {
@@ -413,7 +413,7 @@ impl Carry {
         ensures { λ r. ⌜ CarriesOn (setupOf p (now (ln .entry)) (now (f .entry))) l (decode entry) self r (now («scan_counts» .entry)) (now («scan_counts» .exit)) ⌝ }
     {
         let v = count_entry(scan_counts, ln, entry);
-        self.s = self.s + (v - p.threshold);
+        self.s = self.s + (v - p.score_threshold);
         let sl = self.s - f[l];
         if self.best <= sl {
             self.best = sl;
@@ -434,7 +434,7 @@ impl Carry {
         requires { ⌜ (entry / 2 < length (now «scan_counts»)) × (getD (now «scan_counts») (entry / 2) 0 < length (now ln)) × (l < length (now f)) ⌝ }
         ensures { λ r. ⌜ r ≡ carriedAhead (setupOf p (now (ln .entry)) (now (f .entry))) l (now («scan_counts» .entry)) (decode entry) self ⌝ }
     {
-        let s = self.s + (window_value(scan_counts, ln, entry) - p.threshold);
+        let s = self.s + (window_value(scan_counts, ln, entry) - p.score_threshold);
         let sl = s - f[l];
         Self {
             on: sl >= self.best,
@@ -596,7 +596,7 @@ fn backward_part(
 ) -> BackwardState
     requires { ⌜ Windowed p (now ring) head len (now «window_counts») (length (now ln)) ⌝ }
     requires { ⌜ Straight (length (now ring)) head from (state .low) turn ⌝ }
-    requires { ⌜ (from < state .low) × (p .window < length (now f)) ⌝ }
+    requires { ⌜ (from < state .low) × (p .«window_size» < length (now f)) ⌝ }
     requires { ⌜ Backs (4 ^ p .kmer) (window (now ring) head len) state (now «scan_counts») ⌝ }
     ensures { λ r. ⌜ BackwardPart (setupOf p (now (ln .entry)) (now (f .entry))) (window (now (ring .entry)) head len) state r (now («scan_counts» .entry)) (now («scan_counts» .exit)) ⌝ }
 {
@@ -606,7 +606,7 @@ fn backward_part(
         i -= 1;
         let fl = f[len - i];
         st = st.add_entry(
-            p.threshold,
+            p.score_threshold,
             window_counts,
             ln,
             ring[head + i - turn],
@@ -621,7 +621,7 @@ fn backward_part(
             continue;
         }
         let peak = st.leaves_peak(sl);
-        let low = st.too_low(sl, p.limit);
+        let low = st.too_low(sl, p.drop_limit);
         st = st.fallen(sl);
         if peak | low {
             return st.paused(i, peak, low);
@@ -653,7 +653,7 @@ fn backward_on(
     scan_counts: &mut [u16],
 ) -> BackwardState
     requires { ⌜ Windowed p (now ring) head len (now «window_counts») (length (now ln)) ⌝ }
-    requires { ⌜ (0 < state .low) × (p .window < length (now f)) ⌝ }
+    requires { ⌜ (0 < state .low) × (p .«window_size» < length (now f)) ⌝ }
     requires { ⌜ Backs (4 ^ p .kmer) (window (now ring) head len) state (now «scan_counts») ⌝ }
     ensures { λ r. ⌜ BackwardPart (setupOf p (now (ln .entry)) (now (f .entry))) (window (now (ring .entry)) head len) state r (now («scan_counts» .entry)) (now («scan_counts» .exit)) ⌝ }
 {
@@ -763,7 +763,7 @@ impl Search {
         scan_counts: &mut [u16],
     ) -> Self
         requires { ⌜ Windowed p (now ring) head len (now «window_counts») (length (now ln)) ⌝ }
-        requires { ⌜ (p .window < length (now f)) × (length (now «scan_counts») ≡ 4 ^ p .kmer) ⌝ }
+        requires { ⌜ (p .«window_size» < length (now f)) × (length (now «scan_counts») ≡ 4 ^ p .kmer) ⌝ }
         requires { ⌜ Searches (4 ^ p .kmer) (window (now ring) head len) self (now «scan_counts») ⌝ }
         ensures { λ r. ⌜ NextCandidate (setupOf p (now (ln .entry)) (now (f .entry))) (window (now (ring .entry)) head len) self r (now («scan_counts» .entry)) (now («scan_counts» .exit)) ⌝ }
     {
@@ -952,7 +952,7 @@ fn quick_part(
 ) -> BackwardState
     requires { ⌜ Windowed p (now ring) head len (now «window_counts») (length (now ln)) ⌝ }
     requires { ⌜ Straight (length (now ring)) head from to turn ⌝ }
-    requires { ⌜ (from ≤ to) × (to ≤ len) × (p .window < length (now f)) ⌝ }
+    requires { ⌜ (from ≤ to) × (to ≤ len) × (p .«window_size» < length (now f)) ⌝ }
     requires { ⌜ QuickGoes (4 ^ p .kmer) (window (now ring) head len) to state (now «scan_counts») ⌝ }
     ensures { λ r. ⌜ QuickPart (setupOf p (now (ln .entry)) (now (f .entry))) (window (now (ring .entry)) head len) from to state r (now («scan_counts» .entry)) (now («scan_counts» .exit)) ⌝ }
 {
@@ -962,7 +962,7 @@ fn quick_part(
         i -= 1;
         let fl = f[len - i];
         st = st.add_entry(
-            p.threshold,
+            p.score_threshold,
             window_counts,
             ln,
             ring[head + i - turn],
@@ -979,7 +979,7 @@ fn quick_part(
         if st.best - sl < 1e-9 {
             return st.stopped(i, true);
         }
-        if st.too_low(sl, p.limit) {
+        if st.too_low(sl, p.drop_limit) {
             return st.stopped(i, false);
         }
         st = st.fallen(sl);
@@ -999,7 +999,7 @@ fn scan_quickly(
     scan_counts: &mut [u16],
 ) -> BackwardState
     requires { ⌜ Windowed p (now ring) head len (now «window_counts») (length (now ln)) ⌝ }
-    requires { ⌜ (p .window < length (now f)) × (now «scan_counts» ≡ replicate (4 ^ p .kmer) 0) ⌝ }
+    requires { ⌜ (p .«window_size» < length (now f)) × (now «scan_counts» ≡ replicate (4 ^ p .kmer) 0) ⌝ }
     ensures { λ r. ⌜ ScansQuick (setupOf p (now (ln .entry)) (now (f .entry))) (window (now (ring .entry)) head len) r (now («scan_counts» .exit)) ⌝ }
 {
     let mid = seam(ring.len(), head, len, 0);
@@ -1090,7 +1090,7 @@ fn find_quickly(
     scan_counts: &mut [u16],
 ) -> Scanned
     requires { ⌜ Windowed p (now ring) head len (now «window_counts») (length (now ln)) ⌝ }
-    requires { ⌜ (0 < len) × (p .window < length (now f)) × (now «scan_counts» ≡ replicate (4 ^ p .kmer) 0) ⌝ }
+    requires { ⌜ (0 < len) × (p .«window_size» < length (now f)) × (now «scan_counts» ≡ replicate (4 ^ p .kmer) 0) ⌝ }
     requires { ⌜ Carried (setupOf p (now ln) (now f)) (drop last (window (now ring) head (len - 1))) carry ⌝ }
     ensures { λ r. ⌜ FindsQuickly (setupOf p (now (ln .entry)) (now (f .entry))) (window (now (ring .entry)) head len) r (now («scan_counts» .exit)) ⌝ }
 {

@@ -75,15 +75,15 @@ module _ {p : Params} {ring : List ℕ} {head len : ℕ} {counts : List ℕ} {n 
   window-below = decoded-below (4 ^ p .kmer) (queue ring head len) (λ j h. w .below j (omega (arith, queue-length ring head len head-within len-within)))
 
   -- The oldest entry of a full queue stands at the head.
-  module _ (full : len ≡ p .window) where
+  module _ (full : len ≡ p .«window_size») where
     abbrev oldest : ℕ
     oldest = getD ring head 0
 
     abbrev second : ℕ
-    second = ringIndex (p .window) head 1
+    second = ringIndex (p .«window_size») head 1
 
-    second-in : second < p .window
-    second-in = ring-index-at (p .window) head 1 (w .head-in) (omega (arith, w .wide)) .0
+    second-in : second < p .«window_size»
+    second-in = ring-index-at (p .«window_size») head 1 (w .head-in) (omega (arith, w .wide)) .0
 
     one-more : len ≡ len - 1 + 1
     one-more = omega (arith, w .wide)
@@ -135,12 +135,12 @@ module _ {p : Params} {ring : List ℕ} {head len : ℕ} {counts : List ℕ} {n 
         }
 
   -- An entry joins past the newest one.
-  module _ (room : len < p .window) where
+  module _ (room : len < p .«window_size») where
     abbrev next : ℕ
-    next = ringIndex (p .window) head len
+    next = ringIndex (p .«window_size») head len
 
     pub next-in : {i : ℕ} → i ≡ next → i < length ring
-    next-in h = omega (arith, ring-index-at (p .window) head len (w .head-in) (w .len-in) .0, w .ring-is)
+    next-in h = omega (arith, ring-index-at (p .«window_size») head len (w .head-in) (w .len-in) .0, w .ring-is)
 
     -- A window count is at most the number of entries.
     pub count-room : (x : ℕ) → (getD counts x 0 < 65535) × (getD counts x 0 + 1 < n)
@@ -198,8 +198,8 @@ lessOldest w sum carry = record { sum = sum; last = w .last; head = w .head; len
 
 -- b is the window whose sum and carried scan are without the entry.
 module _ {p : Params} {ln : List Float} {a b : Window} {ring counts scan-counts counts′ scan-counts′ : List ℕ} {sum : Float} {last : ℤ} {head : ℕ} where
-  pub left : Windowed p ring (a .head) (a .len) counts (length ln) → a .len ≡ p .window → b ≡ lessOldest a sum (carryWithout (a .last) (a .carry))
-      → sum ≡ sumLess ln counts (a .sum) (decode (getD ring (a .head) 0)) → last ≡ lastWithout (a .last) → head ≡ ringIndex (p .window) (a .head) 1
+  pub left : Windowed p ring (a .head) (a .len) counts (length ln) → a .len ≡ p .«window_size» → b ≡ lessOldest a sum (carryWithout (a .last) (a .carry))
+      → sum ≡ sumLess ln counts (a .sum) (decode (getD ring (a .head) 0)) → last ≡ lastWithout (a .last) → head ≡ ringIndex (p .«window_size») (a .head) 1
       → counts′ ≡ lower counts (decode (getD ring (a .head) 0)) → scan-counts′ ≡ countsWithout (a .last) scan-counts (decode (getD ring (a .head) 0))
       → Left p ln a (record { sum = b .sum; last = last; head = head; len = b .len - 1; live = b .live; carry = b .carry }) ring scan-counts counts′ scan-counts′
   unfolding leave
@@ -211,7 +211,7 @@ module _ {p : Params} {ln : List Float} {a b : Window} {ring counts scan-counts 
             rw (head-is, scan-is)
             (kept-oldest (subst (λ (z : List Place). Kept (setupOf p ln f) z a scan-counts) (left-window w full) k) last-is refl refl);
         run-is = λ f o saved.
-            rw (le-leb (p .window) (length q) (omega (arith, long w)), head-is, last-is, scan-is, sum-is)
+            rw (le-leb (p .«window_size») (length q) (omega (arith, long w)), head-is, last-is, scan-is, sum-is)
             (rw (less-is (setupOf p ln f) counts q (w .counted) (a .sum) (decode (getD ring (a .head) 0)))
             (ap (λ (z : List Place). withoutOldest (setupOf p ln f) (heldBy a o ring scan-counts saved) z) (sym (left-window w full))));
         windowed = rw (head-is, counts-is) (left-windowed w full);
@@ -220,20 +220,20 @@ module _ {p : Params} {ln : List Float} {a b : Window} {ring counts scan-counts 
 
 -- A queue that is not full has room.
 pub left-none : {p : Params} {ln : List Float} {a : Window} {ring counts scan-counts : List ℕ} → Windowed p ring (a .head) (a .len) counts (length ln)
-    → a .len ≢ p .window → Left p ln a a ring scan-counts counts scan-counts
+    → a .len ≢ p .«window_size» → Left p ln a a ring scan-counts counts scan-counts
 unfolding leave
 left-none {p} {a = a} {ring} w h =
     record {
       kept = λ f k. k;
-      run-is = λ f o saved. rw (lt-leb (p .window) (length (window ring (a .head) (a .len))) (omega (arith, long w, w .len-in)));
+      run-is = λ f o saved. rw (lt-leb (p .«window_size») (length (window ring (a .head) (a .len))) (omega (arith, long w, w .len-in)));
       windowed = w;
       room = omega (arith, w .len-in);
     }
 
 -- ---- A new entry joins.
 module _ {p : Params} {ln : List Float} {a : Window} {ring counts counts′ : List ℕ} {e i : ℕ} {sum : Float} where
-  pub joined : Windowed p ring (a .head) (a .len) counts (length ln) → a .len < p .window → e / 2 < 4 ^ p .kmer
-      → i ≡ ringIndex (p .window) (a .head) (a .len) → sum ≡ sumMore ln counts′ (a .sum) (decode e) → counts′ ≡ raise counts (decode e)
+  pub joined : Windowed p ring (a .head) (a .len) counts (length ln) → a .len < p .«window_size» → e / 2 < 4 ^ p .kmer
+      → i ≡ ringIndex (p .«window_size») (a .head) (a .len) → sum ≡ sumMore ln counts′ (a .sum) (decode e) → counts′ ≡ raise counts (decode e)
       → Joined p ln a (record { sum = sum; last = a .last; head = a .head; len = a .len + 1; live = a .live; carry = a .carry }) e ring (set ring i e) counts′
   unfolding join
   joined w room below i-is sum-is counts-is =

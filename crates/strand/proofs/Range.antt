@@ -31,12 +31,12 @@ in-range S a t =
     let w : ℕ = S .window-size in
     let lns : Bool = tableInRange sixteen (S .ln) w in
     let fs : Bool = tableInRange twoTo20 (S .f) w in
-    let th : Bool = le (S .threshold) sixteen in
+    let th : Bool = le (S .score-threshold) sixteen in
     let tables = and-r th (lns && fs) t in
     record {
       window-small = a .window-small;
       window-some = a .window-some;
-      t-ranged = ranged-16 (S .threshold) (a .t-fits) (lt-le zero64 (S .threshold) (a .t-above)) (and-l th (lns && fs) t);
+      t-ranged = ranged-16 (S .score-threshold) (a .t-fits) (lt-le zero64 (S .score-threshold) (a .t-above)) (and-l th (lns && fs) t);
       ln-ranged = λ c u v.
           let x : Float = lnAt S c in
           let b = table-at sixteen (S .ln) w (and-l lns fs tables) c u v in

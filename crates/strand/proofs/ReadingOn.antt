@@ -39,7 +39,7 @@ run-turn S codes i e a l h =
 
 -- A letter that is not searched from is no find.
 module _ {p : Params} {ln f : List Float} (i : ℕ) {e : ℕ} {w w′ : Window} {ring window-counts counts counts′ : List ℕ} (n : Entered p ln f w e ring window-counts counts)
-    (h : isSearched (p .least) window-counts (decode e) ≡ false) (t : Passes (setupOf p ln f) w (decode e) w′ counts counts′) where
+    (h : isSearched (p .«min_start_cnt») window-counts (decode e) ≡ false) (t : Passes (setupOf p ln f) w (decode e) w′ counts counts′) where
   unfound : (o : Open) (saved : List Interval)
       → Seeks (setupOf p ln f) (window ring (w .head) (w .len)) w (lookBy (setupOf p ln f) i (heldBy w o ring counts saved) (decode e)) (record { window = w′; found = 0 }) counts′
   unfound o saved =
@@ -62,7 +62,7 @@ skimmed-all s h = record { ends = λ _. s; stops = λ l. absurd (let b : ⊥ = o
 module _ {p : Params} {codes : List ℕ} {ln f : List Float} {i : ℕ} (l : i < length codes) {kmer : Kmer} (hk : kmer ≡ kmerAfter (p .kmer) codes (i + 1))
     {e : ℕ} {w w₁ : Window} {ring counts ring′ window-counts′ counts₁ : List ℕ} (n : Enters p ln f w w₁ e ring counts ring′ window-counts′ counts₁) where
   pub skimmed-to : {from : Reading} {ring₀ counts₀ : List ℕ} → Skims p codes ln f (from .i) (from .window) ring₀ counts₀ i w ring counts → e ≡ entryOf (p .kmer) kmer
-      → isSearched (p .least) window-counts′ (decode e) ≡ true
+      → isSearched (p .«min_start_cnt») window-counts′ (decode e) ≡ true
       → Skimmed p codes ln f from (record { kmer = kmer; window = w₁; entry = e; i = i }) ring₀ counts₀ ring′ window-counts′ counts₁
   skimmed-to s he t =
       record {
@@ -70,7 +70,7 @@ module _ {p : Params} {codes : List ℕ} {ln f : List Float} {i : ℕ} (l : i < 
         stops = λ _. record { window₀ = w; ring₀ = ring; counts₀ = counts; skims = s; enters = n; kmer-is = hk; entry-is = he; searched = t };
       }
 
-  module _ (h : isSearched (p .least) window-counts′ (decode e) ≡ false) {w′ : Window} {counts′ : List ℕ} (t : Passes (setupOf p ln f) w₁ (decode e) w′ counts₁ counts′) where
+  module _ (h : isSearched (p .«min_start_cnt») window-counts′ (decode e) ≡ false) {w′ : Window} {counts′ : List ℕ} (t : Passes (setupOf p ln f) w₁ (decode e) w′ counts₁ counts′) where
     pub read-on : Read p codes ln f (i + 1) kmer w′ ring′ window-counts′ counts′
     read-on =
         let x = unfound i (n .entered) h t noInterval [] in

@@ -42,7 +42,7 @@ use Rattle.strand.proofs.Keeping.{kept-passed, kept-extended, kept-answ
 pub tried : (p : Params) (f : List Float) (i : ℕ) (a : State) {end last start : ℤ} {at-end at-zero past : Bool}
     → end ≡ a .hand .end → last ≡ a .window .last → start ≡ a .hand .start
     → at-end ≡ isAt end i → at-zero ≡ isAt last 0 → past ≡ leZ (pos (a .window .len)) (pos i -ℤ start)
-    → at-end && (lt zero64 (a .window .sum ⊖ getD f (a .window .len) nan ⊖ number (a .window .len) ⊗ p .threshold) && (at-zero || past))
+    → at-end && (lt zero64 (a .window .sum ⊖ getD f (a .window .len) nan ⊖ number (a .window .len) ⊗ p .«score_threshold») && (at-zero || past))
     ≡ triedBy p f i a
 tried p f i a he hl hs x y z = rw (x, y, z, he, hl, hs)
 

@@ -64,7 +64,7 @@ pub record Left (p : Params) (ln : List Float) (w w′ : Window) (ring counts wi
   pub run-is : (f : List Float) (o : Open) (saved : List Interval)
       → heldBy w′ o ring counts′ saved ≡ leave (setupOf p ln f) (heldBy w o ring counts saved)
   pub windowed : Windowed p ring (w′ .head) (w′ .len) window-counts′ (length ln)
-  pub room : w′ .len < p .window
+  pub room : w′ .len < p .«window_size»
 
 -- The entry e has joined, whatever the others are.
 pub record Joined (p : Params) (ln : List Float) (w w′ : Window) (e : ℕ) (ring ring′ window-counts′ : List ℕ) : Type 0 where
@@ -101,7 +101,7 @@ abbrev pub triedBy : Params → List Float → ℕ → State → Bool
 triedBy p f i a =
     let len : ℕ = a .window .len in
     isAt (a .hand .end) i
-    && (lt zero64 (a .window .sum ⊖ getD f len nan ⊖ number len ⊗ p .threshold)
+    && (lt zero64 (a .window .sum ⊖ getD f len nan ⊖ number len ⊗ p .«score_threshold»)
     && (isAt (a .window .last) 0 || leZ (pos len) (pos i -ℤ a .hand .start)))
 
 -- An extension that is tried and succeeds raises the k-mer's scan count.
@@ -216,7 +216,7 @@ pub record Stops (p : Params) (codes : List ℕ) (ln f : List Float) (from r : R
   pub enters : Enters p ln f window₀ (r .window) (r .entry) ring₀ counts₀ ring′ window-counts′ counts′
   pub kmer-is : r .kmer ≡ kmerAfter (p .kmer) codes (r .i + 1)
   pub entry-is : r .entry ≡ entryOf (p .kmer) (r .kmer)
-  pub searched : isSearched (p .least) window-counts′ (decode (r .entry)) ≡ true
+  pub searched : isSearched (p .«min_start_cnt») window-counts′ (decode (r .entry)) ≡ true
 
 pub record Skimmed (p : Params) (codes : List ℕ) (ln f : List Float) (from r : Reading) (ring counts ring′ window-counts′ counts′ : List ℕ) : Type 0 where
   pub ends : length codes ≤ r .i → Skims p codes ln f (from .i) (from .window) ring counts (r .i) (r .window) ring′ counts′
@@ -228,7 +228,7 @@ pub record PartLent (p : Params) (n n-f n-counts n-starts n-ends : ℕ) : Type 0
   pub kmer-some : 0 < p .kmer
   pub kmer-small : p .kmer ≤ 12
   pub letters-in : n < 2147483648
-  pub f-long : p .window < n-f
+  pub f-long : p .«window_size» < n-f
   pub counts-is : n-counts ≡ 4 ^ p .kmer
   pub starts-long : (n + 1) / (p .kmer + 1) ≤ n-starts
   pub ends-long : (n + 1) / (p .kmer + 1) ≤ n-ends
@@ -236,12 +236,12 @@ pub record PartLent (p : Params) (n n-f n-counts n-starts n-ends : ℕ) : Type 0
 -- What the whole run asks.
 pub record StrandLent (p : Params) (n n-ln n-f n-ring n-window-counts n-counts n-candidates n-starts n-ends : ℕ) : Type 0 where
   pub part : PartLent p n n-f n-counts n-starts n-ends
-  pub wide : 1 < p .window
-  pub small : p .window ≤ 65535
-  pub ln-long : p .window < n-ln
-  pub ring-is : n-ring ≡ p .window
+  pub wide : 1 < p .«window_size»
+  pub small : p .«window_size» ≤ 65535
+  pub ln-long : p .«window_size» < n-ln
+  pub ring-is : n-ring ≡ p .«window_size»
   pub window-counts-are : n-window-counts ≡ 4 ^ p .kmer
-  pub candidates-long : p .window ≤ n-candidates
+  pub candidates-long : p .«window_size» ≤ n-candidates
 
 -- The run over all letters, and its last interval can be saved.
 pub record Ran (p : Params) (codes : List ℕ) (ln f : List Float) (o : Open) (starts ends : List ℕ) : Type 0 where

@@ -18,13 +18,13 @@ tableInRange high table (suc m) = tableInRange high table m && between high (get
 
 unfoldable pub inRange : Setup → Bool
 inRange S =
-    le (S .threshold) sixteen && (tableInRange sixteen (S .ln) (S .window-size) && tableInRange twoTo20 (S .f) (S .window-size))
+    le (S .score-threshold) sixteen && (tableInRange sixteen (S .ln) (S .window-size) && tableInRange twoTo20 (S .f) (S .window-size))
 
 -- What the checks and the lent slices give of a setup: w in 1..65,535, T above 0, and every float that is read one of 64 bits.
 pub record CheckedSetup (S : Setup) : Type 0 where
   pub window-small : S .window-size ≤ 65535
   pub window-some : 0 < S .window-size
-  pub t-fits : T (fits binary64 (S .threshold))
-  pub t-above : T (lt zero64 (S .threshold))
+  pub t-fits : T (fits binary64 (S .score-threshold))
+  pub t-above : T (lt zero64 (S .score-threshold))
   pub ln-fits : (c : ℕ) → c ≤ S .window-size → T (fits binary64 (lnAt S c))
   pub f-fits : (l : ℕ) → l ≤ S .window-size → T (fits binary64 (fAt S l))

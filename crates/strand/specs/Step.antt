@@ -78,7 +78,7 @@ join S a e =
 unfoldable pub windowScore : Setup → Run → Float
 windowScore S a =
     let len : ℕ = length (a .window) in
-    a .sum ⊖ fAt S len ⊖ number len ⊗ S .threshold
+    a .sum ⊖ fAt S len ⊖ number len ⊗ S .score-threshold
 
 abbrev pub isAt : ℤ → ℕ → Bool
 isAt (pos e) i = eqb i e

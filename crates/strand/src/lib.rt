@@ -92,7 +92,7 @@ impl Window {
         scan_counts: &mut [u16],
         ln: &[f64],
     ) -> Self
-        requires { ⌜ (self .len ≡ p .window) × (length (now «scan_counts») ≡ 4 ^ p .kmer) ⌝ }
+        requires { ⌜ (self .len ≡ p .«window_size») × (length (now «scan_counts») ≡ 4 ^ p .kmer) ⌝ }
         requires { ⌜ Windowed p (now queue) (self .head) (self .len) (now «window_counts») (length (now ln)) ⌝ }
         ensures { λ r. ⌜ Left p (now (ln .entry)) self r (now (queue .entry)) (now («scan_counts» .entry))
             (now («window_counts» .exit)) (now («scan_counts» .exit)) ⌝ }
@@ -106,7 +106,7 @@ impl Window {
             self.carry = scans::Carry::none();
         }
         self.last = last_without(last);
-        self.head = scans::ring_index(p.window, head, 1);
+        self.head = scans::ring_index(p.window_size, head, 1);
         self.len -= 1;
         self
     }
@@ -125,7 +125,7 @@ impl Window {
         ensures { λ r. ⌜ Left p (now (ln .entry)) self r (now (queue .entry)) (now («scan_counts» .entry))
             (now («window_counts» .exit)) (now («scan_counts» .exit)) ⌝ }
     {
-        if self.len == p.window {
+        if self.len == p.window_size {
             return self.leave(p, queue, window_counts, scan_counts, ln);
         }
         self
@@ -140,12 +140,12 @@ impl Window {
         ln: &[f64],
         entry: u32,
     ) -> Self
-        requires { ⌜ (self .len < p .window) × (entry / 2 < 4 ^ p .kmer) ⌝ }
+        requires { ⌜ (self .len < p .«window_size») × (entry / 2 < 4 ^ p .kmer) ⌝ }
         requires { ⌜ Windowed p (now queue) (self .head) (self .len) (now «window_counts») (length (now ln)) ⌝ }
         ensures { λ r. ⌜ Joined p (now (ln .entry)) self r entry (now (queue .entry)) (now (queue .exit))
             (now («window_counts» .exit)) ⌝ }
     {
-        let i = scans::ring_index(p.window, self.head, self.len);
+        let i = scans::ring_index(p.window_size, self.head, self.len);
         queue[i] = entry;
         self.sum = sum_with(self.sum, window_counts, ln, entry);
         self.len += 1;
@@ -161,7 +161,7 @@ impl Window {
         f: &[f64],
         scan_counts: &mut [u16],
     ) -> Self
-        requires { ⌜ (0 < self .len) × (self .len ≤ p .window) × (p .window ≤ 65535) × (p .window < length (now ln)) × (p .window < length (now f)) × (entry / 2 < length (now «scan_counts»)) ⌝ }
+        requires { ⌜ (0 < self .len) × (self .len ≤ p .«window_size») × (p .«window_size» ≤ 65535) × (p .«window_size» < length (now ln)) × (p .«window_size» < length (now f)) × (entry / 2 < length (now «scan_counts»)) ⌝ }
         requires { ⌜ Passing self entry (now «scan_counts») ⌝ }
         ensures { λ r. ⌜ Passes (setupOf p (now (ln .entry)) (now (f .entry))) self (decode entry) r (now («scan_counts» .entry)) (now («scan_counts» .exit)) ⌝ }
     {
@@ -357,7 +357,7 @@ impl State {
     {
         let len = self.window.len;
         let l = len as u32;
-        let score = self.window.sum - f[len] - (l as f64) * p.threshold;
+        let score = self.window.sum - f[len] - (l as f64) * p.score_threshold;
         let due = is_at(self.window.last, 0) | is_past(self.hand.start, i, len);
         is_at(self.hand.end, i) & ((score > 0.0) & due)
     }
@@ -372,8 +372,8 @@ impl State {
         f: &[f64],
         scan_counts: &mut [u16],
     ) -> bool
-        requires { ⌜ (i < 2147483648) × (0 < self .window .len) × (self .window .len ≤ p .window) × (p .window ≤ 65535)
-            × (p .window < length (now ln)) × (p .window < length (now f)) × (kmer < length (now «scan_counts»)) ⌝ }
+        requires { ⌜ (i < 2147483648) × (0 < self .window .len) × (self .window .len ≤ p .«window_size») × (p .«window_size» ≤ 65535)
+            × (p .«window_size» < length (now ln)) × (p .«window_size» < length (now f)) × (kmer < length (now «scan_counts»)) ⌝ }
         ensures { λ r. ⌜ Extended p (now (ln .entry)) (now (f .entry)) i self kmer (now («scan_counts» .entry)) r
             (now («scan_counts» .exit)) ⌝ }
     {
@@ -395,10 +395,10 @@ impl State {
         ln: &[f64],
         f: &[f64],
     ) -> Look
-        requires { ⌜ (i < 2147483648) × (0 < self .window .len) × (entry / 2 < 4 ^ p .kmer) × (length (now «scan_counts») ≡ 4 ^ p .kmer) × (p .window < length (now f)) ⌝ }
+        requires { ⌜ (i < 2147483648) × (0 < self .window .len) × (entry / 2 < 4 ^ p .kmer) × (length (now «scan_counts») ≡ 4 ^ p .kmer) × (p .«window_size» < length (now f)) ⌝ }
         requires { ⌜ Windowed p (now queue) (self .window .head) (self .window .len) (now «window_counts»)
             (length (now ln)) ⌝ }
-        requires { ⌜ isSearched (p .least) (now «window_counts») (decode entry) ≡ true ⌝ }
+        requires { ⌜ isSearched (p .«min_start_cnt») (now «window_counts») (decode entry) ≡ true ⌝ }
         ensures { λ r. ⌜ ((saved : List Interval) → Looks (setupOf p (now (ln .entry)) (now (f .entry))) i
             (heldBy (self .window) (self .hand) (now (queue .entry)) (now («scan_counts» .entry)) saved) (decode entry)
             r (now («scan_counts» .exit))) ⌝ }
@@ -465,13 +465,13 @@ impl Reading {
 // Whether an entry is searched from: it is plain, and its count at least min_start_cnt.
 fn is_searched(p: scans::Params, entry: u32, window_counts: &[u16]) -> bool
     requires { ⌜ entry / 2 < length (now «window_counts») ⌝ }
-    ensures { λ r. ⌜ r ≡ isSearched (p .least) (now («window_counts» .entry)) (decode entry) ⌝ }
+    ensures { λ r. ⌜ r ≡ isSearched (p .«min_start_cnt») (now («window_counts» .entry)) (decode entry) ⌝ }
 {
     if entry & 1 != 0 {
         return false;
     }
     let kmer = (entry >> 1) as usize;
-    window_counts[kmer] >= p.least
+    window_counts[kmer] >= p.min_start_cnt
 }
 
 // Reads on to the next letter that is searched from, or to the end.
@@ -485,7 +485,7 @@ fn skim(
     window_counts: &mut [u16],
     scan_counts: &mut [u16],
 ) -> Reading
-    requires { ⌜ (p .kmer ≤ 12) × (length (now codes) < 2147483648) × (p .window < length (now f)) × (length (now «scan_counts») ≡ 4 ^ p .kmer) ⌝ }
+    requires { ⌜ (p .kmer ≤ 12) × (length (now codes) < 2147483648) × (p .«window_size» < length (now f)) × (length (now «scan_counts») ≡ 4 ^ p .kmer) ⌝ }
     requires { ⌜ Read p (now codes) (now ln) (now f) (at .i) (at .kmer) (at .window) (now queue) (now «window_counts») (now «scan_counts») ⌝ }
     ensures { λ r. ⌜ Skimmed p (now (codes .entry)) (now (ln .entry)) (now (f .entry)) at r
         (now (queue .entry)) (now («scan_counts» .entry)) (now (queue .exit)) (now («window_counts» .exit)) (now («scan_counts» .exit)) ⌝ }

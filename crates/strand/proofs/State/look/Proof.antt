@@ -25,11 +25,11 @@ A b saved = heldBy (b .args .self .window) (b .args .self .hand) (b .args .queue
 
 -- The entry is plain, and stands often enough to be searched from.
 is-plain : (b : tie.Start) → decode (b .args .entry) ≡ plain (b .args .entry / 2)
-is-plain b = searched-plain (b .args .p .least) (b .args .entry) (b .args .window-counts .now) (b .pre .1 .1)
+is-plain b = searched-plain (b .args .p .«min_start_cnt») (b .args .entry) (b .args .window-counts .now) (b .pre .1 .1)
 
-stands : (b : tie.Start) (saved : List Interval) → b .args .p .least ≤ count (b .args .entry / 2) (A b saved .window)
+stands : (b : tie.Start) (saved : List Interval) → b .args .p .«min_start_cnt» ≤ count (b .args .entry / 2) (A b saved .window)
 stands b saved =
-    omega (arith, searched-often (b .args .p .least) (b .args .entry) (b .args .window-counts .now) (b .pre .1 .1), b .pre .1 .0 .counted (b .args .entry / 2))
+    omega (arith, searched-often (b .args .p .«min_start_cnt») (b .args .entry) (b .args .window-counts .now) (b .pre .1 .1), b .pre .1 .0 .counted (b .args .entry / 2))
 
 abbrev start-of : tie.After-extended → tie.Start
 start-of c = c .before .before .before .before .before .before .before
