@@ -18,30 +18,6 @@ Inv-loop f₀ ln k w d l₀ f l = (l ≤ w + 2) × (length f ≡ length f₀) ×
 abbrev μ-loop : tie.MeasureT-loop
 μ-loop f₀ ln k w d l₀ f l = w + 2 - l
 
-loop-holds : tie.Need-loop-holds Inv-loop μ-loop
-loop-holds c = search needs
-
-add-loop : tie.Need-add-loop Inv-loop μ-loop
-add-loop c = search needs
-
-cast-calculate-f-internal : tie.Need-cast-calculate-f-internal Inv-loop μ-loop
-cast-calculate-f-internal c = search needs
-
-calculate-f-internal-requires : tie.Need-calculate-f-internal-requires Inv-loop μ-loop
-calculate-f-internal-requires c κs = search needs
-
-mul-f : tie.Need-mul-f Inv-loop μ-loop
-mul-f c = search needs
-
-slice-write-f : tie.Need-slice-write-f Inv-loop μ-loop
-slice-write-f c = search needs
-
-add-l : tie.Need-add-l Inv-loop μ-loop
-add-l c = search needs
-
-loop-less : tie.Need-loop-less Inv-loop μ-loop
-loop-less c = search needs
-
 loop-again : tie.Need-loop-again Inv-loop μ-loop
 unfolding fTable
 loop-again c =
@@ -52,9 +28,6 @@ loop-again c =
       simp length-set (l .inv .1),
       tabulate-store (fOf (a .k) (a .d)) (a .w + 2) (a .f .now) zero64 (s .pre .1 .0) (l .l) (l .f) (l .inv .2) _ (omega arith) (c .calculate-f-internal .ensures),
     )
-
-same-length : tie.Need-same-length Inv-loop μ-loop
-same-length c = search needs
 
 returns : tie.Need-returns Inv-loop μ-loop
 unfolding fTable
@@ -70,14 +43,14 @@ fill-f-spec =
     (tie.spec
     Inv-loop
     μ-loop
-    loop-holds
-    add-loop
-    cast-calculate-f-internal
-    calculate-f-internal-requires
-    mul-f
-    slice-write-f
-    add-l
-    loop-less
+    (λ c. search needs)
+    (λ c. search needs)
+    (λ c. search needs)
+    (λ c κs. search needs)
+    (λ c. search needs)
+    (λ c. search needs)
+    (λ c. search needs)
+    (λ c. search needs)
     loop-again
-    same-length
+    (λ c. search needs)
     returns)

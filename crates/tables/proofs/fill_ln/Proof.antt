@@ -18,30 +18,6 @@ Inv-loop ln₀ w n₀ ln n = (n ≤ w + 1) × (length ln ≡ length ln₀) × (l
 abbrev μ-loop : tie.MeasureT-loop
 μ-loop ln₀ w n₀ ln n = w + 1 - n
 
-loop-holds : tie.Need-loop-holds Inv-loop μ-loop
-loop-holds c = search needs
-
-cast-ln : tie.Need-cast-ln Inv-loop μ-loop
-cast-ln c = search needs
-
-int-to-float-ln : tie.Need-int-to-float-ln Inv-loop μ-loop
-int-to-float-ln c = search needs
-
-ln-requires : tie.Need-ln-requires Inv-loop μ-loop
-ln-requires c κs = search needs
-
-mul-ln : tie.Need-mul-ln Inv-loop μ-loop
-mul-ln c = search needs
-
-slice-write-ln : tie.Need-slice-write-ln Inv-loop μ-loop
-slice-write-ln c = search needs
-
-add-n : tie.Need-add-n Inv-loop μ-loop
-add-n c = search needs
-
-loop-less : tie.Need-loop-less Inv-loop μ-loop
-loop-less c = search needs
-
 loop-again : tie.Need-loop-again Inv-loop μ-loop
 unfolding lnTable
 loop-again c =
@@ -51,9 +27,6 @@ loop-again c =
       simp length-set (l .inv .1),
       tabulate-store (λ (n : ℕ). lnOf (number n)) (s .args .w + 1) (s .args .ln .now) zero64 (s .pre .1) (l .n) (l .ln) (l .inv .2) _ (omega arith) (c .ln .ensures),
     )
-
-same-length : tie.Need-same-length Inv-loop μ-loop
-same-length c = search needs
 
 returns : tie.Need-returns Inv-loop μ-loop
 unfolding lnTable
@@ -68,14 +41,14 @@ fill-ln-spec =
     (tie.spec
     Inv-loop
     μ-loop
-    loop-holds
-    cast-ln
-    int-to-float-ln
-    ln-requires
-    mul-ln
-    slice-write-ln
-    add-n
-    loop-less
+    (λ c. search needs)
+    (λ c. search needs)
+    (λ c. search needs)
+    (λ c κs. search needs)
+    (λ c. search needs)
+    (λ c. search needs)
+    (λ c. search needs)
+    (λ c. search needs)
     loop-again
-    same-length
+    (λ c. search needs)
     returns)

@@ -11,12 +11,6 @@ use Rattle.tables.proofs.fill_tables.Tie as tie
 abbrev start : tie.After-classes → tie.Start
 start c = c .before .before .before .before .before .before .before .before .before .before
 
-fill-ln-requires : tie.Need-fill-ln-requires
-fill-ln-requires c κs = search needs
-
-classes-requires : tie.Need-classes-requires
-classes-requires c κs = search needs
-
 fill-f-requires : tie.Need-fill-f-requires
 fill-f-requires c κs =
     let s = start c in
@@ -24,12 +18,6 @@ fill-f-requires c κs =
       (s .pre .0 .0, s .pre .0 .1, classes-fit (a .k) (a .gc) (a .codes .now) (c .classes .result) (s .pre .0 .0) (c .classes .ensures)),
       (s .pre .1 .1, ln-held (a .w) (a .ln .now) _ (c .before .before .before .before .before .fill-ln .ensures)),
     )
-
-same-length : tie.Need-same-length
-same-length c = search needs
-
-same-length-2 : tie.Need-same-length-2
-same-length-2 c = search needs
 
 returns : tie.Need-returns
 returns c =
@@ -40,4 +28,4 @@ returns c =
 pub fill-tables-spec : {M : Type 1} → statement M
 fill-tables-spec =
     tie.close
-    (tie.spec fill-ln-requires classes-requires fill-f-requires same-length same-length-2 returns)
+    (tie.spec (λ c κs. search needs) (λ c κs. search needs) fill-f-requires (λ c. search needs) (λ c. search needs) returns)

@@ -7,27 +7,6 @@ use borrow.Author.Needs.{needs}
 use Rattle.tables.proofs.background.classes.Statement.{statement}
 use Rattle.tables.proofs.background.classes.Tie as tie
 
-enum-told : tie.Need-enum-told
-enum-told c = search needs
-
-calculate-f-requires : tie.Need-calculate-f-requires
-calculate-f-requires c κs = search needs
-
-enum-known-gc : tie.Need-enum-known-gc
-enum-known-gc c = search needs
-
-calculate-f-gc-requires : tie.Need-calculate-f-gc-requires
-calculate-f-gc-requires c κs = search needs
-
-enum-told-2 : tie.Need-enum-told-2
-enum-told-2 c = search needs
-
-compute-gc-content-requires : tie.Need-compute-gc-content-requires
-compute-gc-content-requires c κs = search needs
-
-calculate-f-gc-requires-2 : tie.Need-calculate-f-gc-requires-2
-calculate-f-gc-requires-2 c κs = search needs
-
 returns : tie.Need-returns
 unfolding density
 returns c =
@@ -52,13 +31,13 @@ pub classes-spec : {M : Type 1} → statement M
 classes-spec =
     tie.close
     (tie.spec
-    enum-told
-    calculate-f-requires
-    enum-known-gc
-    calculate-f-gc-requires
-    enum-told-2
-    compute-gc-content-requires
-    calculate-f-gc-requires-2
+    (λ c. search needs)
+    (λ c κs. search needs)
+    (λ c. search needs)
+    (λ c κs. search needs)
+    (λ c. search needs)
+    (λ c κs. search needs)
+    (λ c κs. search needs)
     returns
     returns-2
     returns-3)

@@ -24,36 +24,12 @@ loop-holds : tie.Need-loop-holds Inv-loop μ-loop
 unfolding Density.binomial
 loop-holds c = search needs
 
-shl-nearest-u64-to-f64 : tie.Need-shl-nearest-u64-to-f64 Inv-loop μ-loop
-shl-nearest-u64-to-f64 c = search needs
-
-nearest-u64-to-f64-requires : tie.Need-nearest-u64-to-f64-requires Inv-loop μ-loop
-nearest-u64-to-f64-requires c κs = search needs
-
-mul-count : tie.Need-mul-count Inv-loop μ-loop
-mul-count c = search needs
-
-array-write-count : tie.Need-array-write-count Inv-loop μ-loop
-array-write-count c = search needs
-
 mul-binomial : tie.Need-mul-binomial Inv-loop μ-loop
 mul-binomial c =
     let l = c .before .before .loop in
     let s = c .before .before .before in
     let k = s .args .k in
     record { fits = product-fits k (l .i) (k - l .i) (l .binomial) (s .pre) (omega arith) (omega arith) (l .inv .2) }
-
-add-binomial : tie.Need-add-binomial Inv-loop μ-loop
-add-binomial c = search needs
-
-div-binomial : tie.Need-div-binomial Inv-loop μ-loop
-div-binomial c = search needs
-
-add-i : tie.Need-add-i Inv-loop μ-loop
-add-i c = search needs
-
-loop-less : tie.Need-loop-less Inv-loop μ-loop
-loop-less c = search needs
 
 loop-again : tie.Need-loop-again Inv-loop μ-loop
 loop-again c =
@@ -82,14 +58,14 @@ counts-spec =
     Inv-loop
     μ-loop
     loop-holds
-    shl-nearest-u64-to-f64
-    nearest-u64-to-f64-requires
-    mul-count
-    array-write-count
+    (λ c. search needs)
+    (λ c κs. search needs)
+    (λ c. search needs)
+    (λ c. search needs)
     mul-binomial
-    add-binomial
-    div-binomial
-    add-i
-    loop-less
+    (λ c. search needs)
+    (λ c. search needs)
+    (λ c. search needs)
+    (λ c. search needs)
     loop-again
     returns)

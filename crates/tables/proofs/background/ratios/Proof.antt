@@ -19,27 +19,6 @@ Inv-loop k gc ratio₀ i₀ ratio i = (i ≤ k + 1) × (length ratio ≡ 13) × 
 abbrev μ-loop : tie.MeasureT-loop
 μ-loop k gc ratio₀ i₀ ratio i = k + 1 - i
 
-loop-holds : tie.Need-loop-holds Inv-loop μ-loop
-loop-holds c = search needs
-
-powi-requires : tie.Need-powi-requires Inv-loop μ-loop
-powi-requires c κs = search needs
-
-powi-requires-2 : tie.Need-powi-requires-2 Inv-loop μ-loop
-powi-requires-2 c κs = search needs
-
-mul-ratio : tie.Need-mul-ratio Inv-loop μ-loop
-mul-ratio c = search needs
-
-array-write-ratio : tie.Need-array-write-ratio Inv-loop μ-loop
-array-write-ratio c = search needs
-
-add-i : tie.Need-add-i Inv-loop μ-loop
-add-i c = search needs
-
-loop-less : tie.Need-loop-less Inv-loop μ-loop
-loop-less c = search needs
-
 loop-again : tie.Need-loop-again Inv-loop μ-loop
 unfolding ratioAt
 loop-again c =
@@ -66,12 +45,12 @@ ratios-spec =
     (tie.spec
     Inv-loop
     μ-loop
-    loop-holds
-    powi-requires
-    powi-requires-2
-    mul-ratio
-    array-write-ratio
-    add-i
-    loop-less
+    (λ c. search needs)
+    (λ c κs. search needs)
+    (λ c κs. search needs)
+    (λ c. search needs)
+    (λ c. search needs)
+    (λ c. search needs)
+    (λ c. search needs)
     loop-again
     returns)

@@ -19,15 +19,6 @@ abbrev μ-loop : tie.MeasureT-loop
 returns : tie.Need-returns Inv-loop μ-loop
 returns c = f-none _ _ _ (c .if1 .taken)
 
-int-to-float-share : tie.Need-int-to-float-share Inv-loop μ-loop
-int-to-float-share c = search needs
-
-n-kmers-requires : tie.Need-n-kmers-requires Inv-loop μ-loop
-n-kmers-requires c κs = search needs
-
-nearest-u64-to-f64-requires : tie.Need-nearest-u64-to-f64-requires Inv-loop μ-loop
-nearest-u64-to-f64-requires c κs = search needs
-
 loop-holds : tie.Need-loop-holds Inv-loop μ-loop
 loop-holds c =
     let a = c .before .before .before .before .before .args in
@@ -38,27 +29,6 @@ loop-holds c =
       ap (λ (n : ℕ). classesFrom n 0 d (number (a .l) ⊘ all .result) zero64) e
           ∙ f-some (a .k) d (a .l) (all .result) (c .before .before .before .if1 .left) (all .ensures ∙ ap number (c .before .n-kmers .ensures)),
     )
-
-mul-f-class : tie.Need-mul-f-class Inv-loop μ-loop
-mul-f-class c = search needs
-
-element-copy-out-f-class : tie.Need-element-copy-out-f-class Inv-loop μ-loop
-element-copy-out-f-class c = search needs
-
-f-class-requires : tie.Need-f-class-requires Inv-loop μ-loop
-f-class-requires c κs = search needs
-
-mul-accum : tie.Need-mul-accum Inv-loop μ-loop
-mul-accum c = search needs
-
-element-copy-out-accum : tie.Need-element-copy-out-accum Inv-loop μ-loop
-element-copy-out-accum c = search needs
-
-add-i : tie.Need-add-i Inv-loop μ-loop
-add-i c = search needs
-
-loop-less : tie.Need-loop-less Inv-loop μ-loop
-loop-less c = search needs
 
 loop-again : tie.Need-loop-again Inv-loop μ-loop
 loop-again c =
@@ -80,16 +50,16 @@ calculate-f-internal-spec =
     Inv-loop
     μ-loop
     returns
-    int-to-float-share
-    n-kmers-requires
-    nearest-u64-to-f64-requires
+    (λ c. search needs)
+    (λ c κs. search needs)
+    (λ c κs. search needs)
     loop-holds
-    mul-f-class
-    element-copy-out-f-class
-    f-class-requires
-    mul-accum
-    element-copy-out-accum
-    add-i
-    loop-less
+    (λ c. search needs)
+    (λ c. search needs)
+    (λ c κs. search needs)
+    (λ c. search needs)
+    (λ c. search needs)
+    (λ c. search needs)
+    (λ c. search needs)
     loop-again
     returns-2)

@@ -6,15 +6,6 @@ use borrow.Author.Needs.{needs}
 use Rattle.tables.proofs.expected.f_class.Statement.{statement}
 use Rattle.tables.proofs.expected.f_class.Tie as tie
 
-terms-requires : tie.Need-terms-requires
-terms-requires c κs = search needs
-
-exp-neg-requires : tie.Need-exp-neg-requires
-exp-neg-requires c κs = search needs
-
-f-large-requires : tie.Need-f-large-requires
-f-large-requires c κs = search needs
-
 returns : tie.Need-returns
 unfolding fClass
 returns c = rw (c .before .before .if1 .taken) (ap₂ _⊗_ (c .before .terms .ensures) (c .exp-neg .ensures))
@@ -25,4 +16,4 @@ returns-2 c = rw (c .before .if1 .left) (c .f-large .ensures)
 
 pub f-class-spec : {M : Type 1} → statement M
 f-class-spec =
-    tie.close (tie.spec terms-requires exp-neg-requires f-large-requires returns returns-2)
+    tie.close (tie.spec (λ c κs. search needs) (λ c κs. search needs) (λ c κs. search needs) returns returns-2)

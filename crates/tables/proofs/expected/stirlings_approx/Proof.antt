@@ -4,15 +4,9 @@ use borrow.Author.Needs.{needs}
 use Rattle.tables.proofs.expected.stirlings_approx.Statement.{statement}
 use Rattle.tables.proofs.expected.stirlings_approx.Tie as tie
 
-ln-requires : tie.Need-ln-requires
-ln-requires c κs = search needs
-
-ln-requires-2 : tie.Need-ln-requires-2
-ln-requires-2 c κs = search needs
-
 returns : tie.Need-returns
 unfolding stirlingsApprox
 returns c = rw (c .ln2 .ensures, c .before .ln .ensures)
 
 pub stirlings-approx-spec : {M : Type 1} → statement M
-stirlings-approx-spec = tie.close (tie.spec ln-requires ln-requires-2 returns)
+stirlings-approx-spec = tie.close (tie.spec (λ c κs. search needs) (λ c κs. search needs) returns)

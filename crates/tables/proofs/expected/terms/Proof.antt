@@ -19,23 +19,11 @@ loop-holds : tie.Need-loop-holds Inv-loop μ-loop
 unfolding F.terms
 loop-holds c = (omega arith, omega arith, refl)
 
-ln-at-requires : tie.Need-ln-at-requires Inv-loop μ-loop
-ln-at-requires c κs = search needs
-
-int-to-float-y : tie.Need-int-to-float-y Inv-loop μ-loop
-int-to-float-y c = search needs
-
 returns : tie.Need-returns Inv-loop μ-loop
 returns c =
     let l = c .before .before .before .before .loop in
     let e : 10001 - l .n ≡ suc (10001 - (l .n + 1)) = omega arith in
     term-last (10001 - (l .n + 1)) (10001 - l .n) (l .n) _ (l .x) (l .sn) (l .y) _ e (c .before .before .ln-at .ensures) (c .if1 .taken) ∙ l .inv .2
-
-add-n : tie.Need-add-n Inv-loop μ-loop
-add-n c = search needs
-
-loop-less : tie.Need-loop-less Inv-loop μ-loop
-loop-less c = search needs
 
 loop-again : tie.Need-loop-again Inv-loop μ-loop
 loop-again c =
@@ -58,10 +46,10 @@ terms-spec =
     Inv-loop
     μ-loop
     loop-holds
-    ln-at-requires
-    int-to-float-y
+    (λ c κs. search needs)
+    (λ c. search needs)
     returns
-    add-n
-    loop-less
+    (λ c. search needs)
+    (λ c. search needs)
     loop-again
     returns-2)

@@ -19,9 +19,6 @@ loop-holds : tie.Need-loop-holds Inv-loop μ-loop
 unfolding expNeg
 loop-holds c = (omega arith, refl)
 
-add-a : tie.Need-add-a Inv-loop μ-loop
-add-a c = search needs
-
 loop-less : tie.Need-loop-less Inv-loop μ-loop
 loop-less c = let l = c .before .loop in omega (arith, again (l .a) (l .rest) (c .loop-test .taken) .0)
 
@@ -30,12 +27,6 @@ loop-again c =
     let l = c .before .loop in
     let t = again (l .a) (l .rest) (c .loop-test .taken) in
     (omega arith, t .1 ∙ l .inv .1)
-
-series-requires : tie.Need-series-requires Inv-loop μ-loop
-series-requires c κs = search needs
-
-times-requires : tie.Need-times-requires Inv-loop μ-loop
-times-requires c κs = search needs
 
 returns : tie.Need-returns Inv-loop μ-loop
 returns c =
@@ -52,9 +43,9 @@ exp-neg-spec =
     Inv-loop
     μ-loop
     loop-holds
-    add-a
+    (λ c. search needs)
     loop-less
     loop-again
-    series-requires
-    times-requires
+    (λ c κs. search needs)
+    (λ c κs. search needs)
     returns)

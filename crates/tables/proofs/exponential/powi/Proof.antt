@@ -4,12 +4,9 @@ use borrow.Author.Needs.{needs}
 use Rattle.tables.proofs.exponential.powi.Statement.{statement}
 use Rattle.tables.proofs.exponential.powi.Tie as tie
 
-times-requires : tie.Need-times-requires
-times-requires c κs = search needs
-
 returns : tie.Need-returns
 unfolding powi
 returns c = c .times .ensures
 
 pub powi-spec : {M : Type 1} → statement M
-powi-spec = tie.close (tie.spec times-requires returns)
+powi-spec = tie.close (tie.spec (λ c κs. search needs) returns)

@@ -19,18 +19,6 @@ loop-holds : tie.Need-loop-holds Inv-loop μ-loop
 unfolding expSeries
 loop-holds c = (omega arith, refl)
 
-sub-j : tie.Need-sub-j Inv-loop μ-loop
-sub-j c = search needs
-
-add-h : tie.Need-add-h Inv-loop μ-loop
-add-h c = search needs
-
-int-to-float-h : tie.Need-int-to-float-h Inv-loop μ-loop
-int-to-float-h c = search needs
-
-loop-less : tie.Need-loop-less Inv-loop μ-loop
-loop-less c = search needs
-
 loop-again : tie.Need-loop-again Inv-loop μ-loop
 unfolding expStep
 loop-again c = let l = c .before .before .loop in (omega arith, turn _ (l .j) (l .h) (omega arith) ∙ l .inv .1)
@@ -41,4 +29,4 @@ returns c = let l = c .before .loop in ended _ (l .j) (l .h) (omega arith) ∙ l
 pub series-spec : {M : Type 1} → statement M
 series-spec =
     tie.close
-    (tie.spec Inv-loop μ-loop loop-holds sub-j add-h int-to-float-h loop-less loop-again returns)
+    (tie.spec Inv-loop μ-loop loop-holds (λ c. search needs) (λ c. search needs) (λ c. search needs) (λ c. search needs) loop-again returns)

@@ -21,12 +21,6 @@ loop-holds : tie.Need-loop-holds Inv-loop μ-loop
 unfolding times
 loop-holds c = search needs
 
-sub-left : tie.Need-sub-left Inv-loop μ-loop
-sub-left c = search needs
-
-loop-less : tie.Need-loop-less Inv-loop μ-loop
-loop-less c = search needs
-
 loop-again : tie.Need-loop-again Inv-loop μ-loop
 loop-again c = let l = c .before .loop in turn _ (l .left) (l .y) (omega arith) ∙ l .inv
 
@@ -34,4 +28,4 @@ returns : tie.Need-returns Inv-loop μ-loop
 returns c = let l = c .before .loop in ended _ (l .left) (l .y) (omega arith) ∙ l .inv
 
 pub times-spec : {M : Type 1} → statement M
-times-spec = tie.close (tie.spec Inv-loop μ-loop loop-holds sub-left loop-less loop-again returns)
+times-spec = tie.close (tie.spec Inv-loop μ-loop loop-holds (λ c. search needs) (λ c. search needs) loop-again returns)

@@ -7,15 +7,6 @@ use borrow.Author.Needs.{needs}
 use Rattle.tables.proofs.logarithm.difference.Statement.{statement}
 use Rattle.tables.proofs.logarithm.difference.Tie as tie
 
-int-to-float-result : tie.Need-int-to-float-result
-int-to-float-result c = search needs
-
-sub-result : tie.Need-sub-result
-sub-result c = search needs
-
-int-to-float-result-2 : tie.Need-int-to-float-result-2
-int-to-float-result-2 c = search needs
-
 returns : tie.Need-returns
 returns c = ap (λ (z : ℤ). ofInt binary64 z) (sym (minus-le _ _ (c .before .if1 .taken)))
 
@@ -24,4 +15,4 @@ returns-2 c = of-minus _ _ (c .before .if1 .left)
 
 pub difference-spec : {M : Type 1} → statement M
 difference-spec =
-    tie.close (tie.spec int-to-float-result sub-result int-to-float-result-2 returns returns-2)
+    tie.close (tie.spec (λ c. search needs) (λ c. search needs) (λ c. search needs) returns returns-2)

@@ -26,9 +26,6 @@ ln-digits-requires c κs =
 add-ln-digits : tie.Need-add-ln-digits
 add-ln-digits c = omega (arith, digits (c .before .args .b))
 
-sub-ln-digits : tie.Need-sub-ln-digits
-sub-ln-digits c = search needs
-
 ln-digits-requires-2 : tie.Need-ln-digits-requires-2
 ln-digits-requires-2 c κs =
     let b = c .before .args .b in
@@ -61,7 +58,7 @@ ln-bits-spec =
     cast-field
     ln-digits-requires
     add-ln-digits
-    sub-ln-digits
+    (λ c. search needs)
     ln-digits-requires-2
     returns
     returns-2)

@@ -35,9 +35,6 @@ float-from-bits-m c =
 add-ln-scaled : tie.Need-add-ln-scaled
 add-ln-scaled c = omega (arith, shifted c .few)
 
-ln-scaled-requires : tie.Need-ln-scaled-requires
-ln-scaled-requires c κs = search needs
-
 returns : tie.Need-returns
 returns c =
     let s = c .before in
@@ -51,4 +48,4 @@ returns c =
 pub ln-digits-spec : {M : Type 1} → statement M
 ln-digits-spec =
     tie.close
-    (tie.spec sub-z cast-m shl-m add-m float-from-bits-m add-ln-scaled ln-scaled-requires returns)
+    (tie.spec sub-z cast-m shl-m add-m float-from-bits-m add-ln-scaled (λ c κs. search needs) returns)

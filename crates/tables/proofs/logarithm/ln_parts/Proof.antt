@@ -4,15 +4,9 @@ use borrow.Author.Needs.{needs}
 use Rattle.tables.proofs.logarithm.ln_parts.Statement.{statement}
 use Rattle.tables.proofs.logarithm.ln_parts.Tie as tie
 
-difference-requires : tie.Need-difference-requires
-difference-requires c κs = search needs
-
-series-requires : tie.Need-series-requires
-series-requires c κs = search needs
-
 returns : tie.Need-returns
 unfolding lnParts
 returns c = rw (c .series .ensures, c .before .difference .ensures)
 
 pub ln-parts-spec : {M : Type 1} → statement M
-ln-parts-spec = tie.close (tie.spec difference-requires series-requires returns)
+ln-parts-spec = tie.close (tie.spec (λ c κs. search needs) (λ c κs. search needs) returns)

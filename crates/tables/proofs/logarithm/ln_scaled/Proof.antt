@@ -5,15 +5,6 @@ use borrow.Author.Needs.{needs}
 use Rattle.tables.proofs.logarithm.ln_scaled.Statement.{statement}
 use Rattle.tables.proofs.logarithm.ln_scaled.Tie as tie
 
-add-ln-parts : tie.Need-add-ln-parts
-add-ln-parts c = search needs
-
-ln-parts-requires : tie.Need-ln-parts-requires
-ln-parts-requires c κs = search needs
-
-ln-parts-requires-2 : tie.Need-ln-parts-requires-2
-ln-parts-requires-2 c κs = search needs
-
 returns : tie.Need-returns
 unfolding lnScaled
 returns c = rw (c .before .if1 .taken, minus-add) (c .ln-parts .ensures)
@@ -24,4 +15,4 @@ returns-2 c = rw (c .before .if1 .left) (c .ln-parts2 .ensures)
 
 pub ln-scaled-spec : {M : Type 1} → statement M
 ln-scaled-spec =
-    tie.close (tie.spec add-ln-parts ln-parts-requires ln-parts-requires-2 returns returns-2)
+    tie.close (tie.spec (λ c. search needs) (λ c κs. search needs) (λ c κs. search needs) returns returns-2)

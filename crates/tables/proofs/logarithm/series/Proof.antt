@@ -19,21 +19,6 @@ loop-holds : tie.Need-loop-holds Inv-loop μ-loop
 unfolding lnSeries
 loop-holds c = (omega arith, refl)
 
-sub-j : tie.Need-sub-j Inv-loop μ-loop
-sub-j c = search needs
-
-mul-h : tie.Need-mul-h Inv-loop μ-loop
-mul-h c = search needs
-
-add-h : tie.Need-add-h Inv-loop μ-loop
-add-h c = search needs
-
-int-to-float-h : tie.Need-int-to-float-h Inv-loop μ-loop
-int-to-float-h c = search needs
-
-loop-less : tie.Need-loop-less Inv-loop μ-loop
-loop-less c = search needs
-
 loop-again : tie.Need-loop-again Inv-loop μ-loop
 unfolding lnStep
 loop-again c = let l = c .before .before .loop in (omega arith, turn _ (l .j) (l .h) (omega arith) ∙ l .inv .1)
@@ -48,10 +33,10 @@ series-spec =
     Inv-loop
     μ-loop
     loop-holds
-    sub-j
-    mul-h
-    add-h
-    int-to-float-h
-    loop-less
+    (λ c. search needs)
+    (λ c. search needs)
+    (λ c. search needs)
+    (λ c. search needs)
+    (λ c. search needs)
     loop-again
     returns)
