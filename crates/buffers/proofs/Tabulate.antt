@@ -5,8 +5,8 @@ use Prim.Native.Nat.{ℕ, zero, suc, _+_, _≤_, _<_}
 use native.Mathlib.Nat.{add-zero}
 use native.Mathlib.Omega.{arith}
 use lib.ListN.{length, getD, set}
-use Rattle.buffers.specs.Fill.{put, tabulate, tabulateFrom}
-use Rattle.buffers.proofs.Filling.{part, fill-store, fill-full}
+use Rattle.buffers.specs.Fill.{tabulate, tabulateFrom}
+use Rattle.buffers.proofs.Filling.{Fills, fill-start, fill-turn}
 
 from-length {ℓ} : {A : Type ℓ} (f : ℕ → A) (n i : ℕ) → length (tabulateFrom f n i) ≡ n
 unfolding tabulateFrom
@@ -27,14 +27,13 @@ pub tabulate-at {ℓ} : {A : Type ℓ} (f : ℕ → A) (n j : ℕ) (z : A) → j
 unfolding tabulate
 tabulate-at f n j z h = from-at f n 0 j z h ∙ ap f (let e : 0 + j ≡ j = omega arith in e)
 
--- The loop's turn and its end, l being the buffer d after i turns.
-module _ {ℓ} {A : Type ℓ} (f : ℕ → A) (n : ℕ) (d : List A) (z : A) (room : n ≤ length d) (i : ℕ) (l : List A) (now : l ≡ part (tabulate f n) d i) where
-  pub tabulate-store : (v : A) → i < n → v ≡ f i → set l i v ≡ part (tabulate f n) d (i + 1)
-  tabulate-store v h g =
-      let e : length (tabulate f n) ≡ n = tabulate-length f n in
-      fill-store (tabulate f n) d (omega arith) i l now z v (omega arith) (g ∙ sym (tabulate-at f n i z h))
+-- A loop that fills a buffer d with f 0, f 1 .. f (n - 1).
+abbrev pub Tabulates : {A : Type 0} → (ℕ → A) → List A → ℕ → ℕ → List A → Type 0
+Tabulates f d n i l = Fills (tabulate f n) d n i l
 
-  pub tabulate-full : i ≡ n → l ≡ put (tabulate f n) d
-  tabulate-full b =
-      let e : length (tabulate f n) ≡ n = tabulate-length f n in
-      fill-full (tabulate f n) d (omega arith) i l now (b ∙ sym e)
+module _ {A : Type 0} (f : ℕ → A) {d : List A} {n : ℕ} where
+  pub tabulate-start : n ≤ length d → Tabulates f d n 0 d
+  tabulate-start h = fill-start (tabulate-length f n) h
+
+  pub tabulate-turn : {i : ℕ} {l : List A} → Tabulates f d n i l → (z v : A) → i < n → v ≡ f i → Tabulates f d n (i + 1) (set l i v)
+  tabulate-turn {i = i} a z v h g = fill-turn a z v h (g ∙ sym (tabulate-at f n i z h))

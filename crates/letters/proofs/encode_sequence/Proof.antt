@@ -1,60 +1,31 @@
 -- `letters::encode_sequence` meets its contract: after i turns the buffer is `part (codes sequence) encoded₀ i`.
-use mathlib.Core.Path.{_≡_, sym, _∙_}
-use Prim.Native.Nat.{_-_, _≤_}
+use mathlib.Core.Path.{sym, _∙_}
+use Prim.Native.Nat.{_-_}
 use native.Mathlib.Omega.{arith}
 use borrow.Author.Needs.{needs}
-use lib.ListN.{length, length-set}
-use Rattle.buffers.proofs.Filling.{part, fill-store, fill-full}
+use lib.ListN.{length}
+use Rattle.buffers.proofs.Filling.{Fills, fill-start, fill-turn, fill-end}
 use Rattle.letters.specs.Code.{codes}
 use Rattle.letters.proofs.Codes.{codes-length, codes-at}
 use Rattle.letters.proofs.encode_sequence.Statement.{statement}
 use Rattle.letters.proofs.encode_sequence.Tie as tie
 
 abbrev Inv-loop : tie.InvT-loop
-Inv-loop sequence encoded₀ i₀ encoded i = (i ≤ length sequence) × (length sequence ≤ length encoded₀) × (length encoded ≡ length encoded₀) × (encoded ≡ part (codes sequence) encoded₀ i)
+Inv-loop sequence encoded₀ i₀ encoded i = Fills (codes sequence) encoded₀ (length sequence) i encoded
 
 abbrev μ-loop : tie.MeasureT-loop
 μ-loop sequence encoded₀ i₀ encoded i = length sequence - i
 
 loop-holds : tie.Need-loop-holds Inv-loop μ-loop
-loop-holds c = search needs
-
-shared-slice-read-encode : tie.Need-shared-slice-read-encode Inv-loop μ-loop
-shared-slice-read-encode c = search needs
-
-encode-requires : tie.Need-encode-requires Inv-loop μ-loop
-encode-requires c κs = search needs
-
-slice-write-encoded : tie.Need-slice-write-encoded Inv-loop μ-loop
-slice-write-encoded c = search needs
-
-add-i : tie.Need-add-i Inv-loop μ-loop
-add-i c = search needs
-
-loop-less : tie.Need-loop-less Inv-loop μ-loop
-loop-less c = search needs
+loop-holds c = fill-start (codes-length _) (omega arith)
 
 loop-again : tie.Need-loop-again Inv-loop μ-loop
 loop-again c =
     let l = c .before .before .before .loop in
-    let a = c .before .before .before .before .before .before .args in
-    let s = a .sequence .now in
-    let n = codes-length s in (
-      search needs,
-      search needs,
-      simp length-set (omega arith),
-      fill-store (codes s) (a .encoded .now) (omega arith) (l .i) _ (l .inv .3) 4 _ (omega arith) (c .encode .ensures ∙ sym (codes-at s (l .i) (omega arith))),
-    )
-
-same-length : tie.Need-same-length Inv-loop μ-loop
-same-length c = search needs
+    fill-turn (l .inv) 4 _ (omega arith) (c .encode .ensures ∙ sym (codes-at _ (l .i) (omega arith)))
 
 returns : tie.Need-returns Inv-loop μ-loop
-returns c =
-    let l = c .before .loop in
-    let a = c .before .before .before .before .args in
-    let n = codes-length (a .sequence .now) in
-    fill-full (codes (a .sequence .now)) (a .encoded .now) (omega arith) (l .i) _ (l .inv .3) (omega arith)
+returns c = fill-end (c .before .loop .inv) (omega arith)
 
 pub encode-sequence-spec : {M : Type 1} → statement M
 encode-sequence-spec =
@@ -63,11 +34,11 @@ encode-sequence-spec =
     Inv-loop
     μ-loop
     loop-holds
-    shared-slice-read-encode
-    encode-requires
-    slice-write-encoded
-    add-i
-    loop-less
+    (λ c. search needs)
+    (λ c κs. search needs)
+    (λ c. search needs)
+    (λ c. search needs)
+    (λ c. search needs)
     loop-again
-    same-length
+    (λ c. search needs)
     returns)
