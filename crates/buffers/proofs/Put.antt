@@ -96,6 +96,14 @@ module _ {ℓ} {A : Type ℓ} where
       putAt-store (length xs) x (put xs d) (omega (arith, put-length xs d (omega arith)))
       ∙ put-next xs (x ∷ []) d
 
+  -- The first k entries again, and one after them.
+  pub put-store : (k : ℕ) (x : A) (d : List A) → k < length d → set d k x ≡ put (take k d ++ (x ∷ [])) d
+  put-store k x d h =
+      let t = length-take-le k d (omega arith) in
+      ap₂ (λ (l : List A) (i : ℕ). set l i x)
+      (sym (ap (λ (i : ℕ). take k d ++ drop i d) t ∙ take-append-drop k d)) (sym t)
+      ∙ put-more (take k d) x d (omega arith)
+
   -- A copy of xs to index i on: its store after j turns.
   pub putAt-copy : (i : ℕ) (xs d : List A) (j : ℕ) (z : A) → i + length xs ≤ length d → j < length xs
       → set (putAt i (take j xs) d) (i + j) (getD xs j z) ≡ putAt i (take (j + 1) xs) d
