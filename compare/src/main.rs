@@ -23,8 +23,8 @@ use port::{Buffers, Port};
 use request::{Answer, Request};
 use std::{env, fs, process};
 
-/// The original's own limit, which it reads from the root of its crate.
-const MAX_LONGDUST_WINDOW_SIZE: usize = 65535;
+// The original's limits, which it reads from the root of its crate.
+include!(concat!(env!("OUT_DIR"), "/limits.rs"));
 
 const USAGE: &str = "\
 compare answer FILE        one request (its form: src/request.rs), answered by the port
