@@ -91,8 +91,8 @@ pub fn call(request: &Request, lent: &mut Buffers) -> (i64, u32) {
     // SAFETY: each pointer is to a live slice at least as long as the length behind it; none overlap.
     let result = unsafe {
         process(
-            request.sequence.as_ptr(),
-            request.sequence.len(),
+            lent.sequence.as_mut_ptr(),
+            lent.sequence.len(),
             request.kmer,
             request.window_size,
             request.score_threshold,

@@ -30,6 +30,7 @@ const USAGE: &str = "\
 compare answer FILE        one request (its form: src/request.rs), answered by the port
 compare original FILE      the same by the original
 compare random SEED COUNT  both on random requests, every result and buffer compared
+compare long SEED COUNT    the same on long sequences or wide windows; 240 are one round of every k and size
 compare cases              both on the paper's cases
 compare tables             filled tables bit by bit, over k, w and GC
 compare large [quick]      windows of 65,535 letters; quick: narrower ones
@@ -45,7 +46,8 @@ fn main() {
         ["bench"] => return bench::command(port(), false),
         ["bench", "quick"] => return bench::command(port(), true),
         ["record"] => return print!("{}", record::list()),
-        ["random", seed, count] => random::command(port(), number(seed), number(count)),
+        ["random", seed, count] => random::command(port(), generate::request, number(seed), number(count)),
+        ["long", seed, count] => random::command(port(), generate::long, number(seed), number(count)),
         ["cases"] => sets::cases(port()),
         ["tables"] => sets::tables(port()),
         ["large"] => sets::large(port(), false),

@@ -30,6 +30,8 @@ pub const NAMES: [&str; SLICES] = [
 ];
 pub const LN: usize = 0;
 pub const F: usize = 1;
+/// The final list's.
+pub const FINAL: usize = 12;
 /// Places in NAMES of slices that are the second of a pair.
 const SECOND: [usize; 3] = [9, 11, 13];
 
