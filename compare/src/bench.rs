@@ -27,20 +27,38 @@ const ROWS: [Row; 3] = [
     Row { kmer: 12, quick: [8000, 1200, 2_000_000], whole: [40_000, 3000, 8_000_000], aims: [50.0, 30.0, 1.0] },
 ];
 
+/// Both on the same request, one after the other.
+pub struct Turn {
+    pub original_seconds: f64,
+    pub port_seconds: f64,
+    /// The original's mask.
+    pub mask: Vec<(usize, usize)>,
+    pub same: bool,
+}
+
+/// A turn on a request that hands tables in; the buffers may be left from the turn before.
+pub fn turn(port: Port, request: &Request, buffers: &mut Buffers) -> Turn {
+    let Tables::Given { ln, f } = &request.tables else { unreachable!("a turn hands tables in") };
+    let (ln, f) = (floats(ln), floats(f));
+    let start = Instant::now();
+    let mask = handed::Longdust::process(&request.sequence, handed::options(request), ln, f);
+    let original_seconds = start.elapsed().as_secs_f64();
+    let start = Instant::now();
+    let said = port(request, buffers);
+    let port_seconds = start.elapsed().as_secs_f64();
+    let expected = Answer::Accepted { in_range: true, intervals: mask.clone() };
+    Turn { original_seconds, port_seconds, mask, same: buffers.answer(said) == Ok(expected) }
+}
+
 /// Median seconds of both on the same request, turns taken.
 fn turns(port: Port, request: &Request, turns: usize) -> (f64, f64) {
-    let Tables::Given { ln, f } = &request.tables else { unreachable!("bench hands tables in") };
     let mut buffers = Buffers::new(request);
     let (mut original, mut ported) = (Vec::new(), Vec::new());
     for _ in 0..turns {
-        let (ln, f) = (floats(ln), floats(f));
-        let start = Instant::now();
-        let mask = handed::Longdust::process(&request.sequence, handed::options(request), ln, f);
-        original.push(start.elapsed().as_secs_f64());
-        let start = Instant::now();
-        let result = port(request, &mut buffers);
-        ported.push(start.elapsed().as_secs_f64());
-        assert_eq!(buffers.answer(result), Ok(Answer::Accepted { in_range: true, intervals: mask }));
+        let turn = turn(port, request, &mut buffers);
+        assert!(turn.same, "both give the same mask");
+        original.push(turn.original_seconds);
+        ported.push(turn.port_seconds);
     }
     (median(original), median(ported))
 }
@@ -50,7 +68,8 @@ fn median(mut seconds: Vec<f64>) -> f64 {
     seconds[seconds.len() / 2]
 }
 
-fn request(kmer: usize, sequence: Vec<u8>) -> Request {
+/// The usual options but for k, and the formulas' tables.
+pub fn request(kmer: usize, sequence: Vec<u8>) -> Request {
     let request = Request { kmer, sequence, ..Request::default() };
     let (ln, f) = formulas::tables(&request);
     Request { tables: Tables::Given { ln, f }, ..request }

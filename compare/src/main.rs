@@ -7,6 +7,7 @@ mod common {
 #[cfg(port)]
 mod archive;
 mod bench;
+mod fasta;
 mod formulas;
 mod generate;
 mod genomes;
@@ -34,6 +35,8 @@ compare long SEED COUNT    the same on long sequences or wide windows; 240 are o
 compare cases              both on the paper's cases
 compare tables             filled tables bit by bit, over k, w and GC
 compare large [quick]      windows of 65,535 letters; quick: narrower ones
+compare fasta FILE..       both on every record of FASTA files, with intervals, share masked and seconds;
+                           before the files, k=K sets k, and letters=N cuts a record after N letters
 compare bench [quick]      letters per second of both, as ratios; quick: under a minute
 compare record             the recorded list for crates/replay (its form: src/record.rs)";
 
@@ -48,6 +51,7 @@ fn main() {
         ["record"] => return print!("{}", record::list()),
         ["random", seed, count] => random::command(port(), generate::request, number(seed), number(count)),
         ["long", seed, count] => random::command(port(), generate::long, number(seed), number(count)),
+        ["fasta", ref words @ ..] => fasta::command(port(), words).unwrap_or_else(|error| stop(&error)),
         ["cases"] => sets::cases(port()),
         ["tables"] => sets::tables(port()),
         ["large"] => sets::large(port(), false),

@@ -186,7 +186,7 @@ impl Request {
     }
 }
 
-fn number<N: std::str::FromStr>(word: &str) -> Result<N, String> {
+pub fn number<N: std::str::FromStr>(word: &str) -> Result<N, String> {
     word.parse().map_err(|_| format!("not a number in range: {word}"))
 }
 
