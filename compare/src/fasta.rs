@@ -71,7 +71,9 @@ pub fn command(port: Port, words: &[&str]) -> Result<(u64, u64), String> {
         }
     }
     let (mut passed, mut failed, mut sum) = (0, 0, Sum::default());
-    println!("k {kmer}, other options the defaults, formula tables lent to both, one thread, one turn, original first");
+    println!(
+        "k {kmer}, other options the defaults, formula tables lent to both; one turn, original first; processor time"
+    );
     println!("    letters intervals  masked%  original s    port s  ratio  record");
     for file in files {
         let text = fs::read(file).map_err(|error| format!("{file}: {error}"))?;
