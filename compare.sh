@@ -1,6 +1,6 @@
 #!/usr/bin/env bash
 # Holds the port against the original: builds the archive and both programs, runs them, sums up.
-# Some minutes. The last line is `N passed, M failed`; the exit status is 1 if anything differs.
+# Two minutes once the archive is proved. The last line is `N passed, M failed`; the exit status is 1 if anything differs.
 # The original is read from ../shared/docs/src, or from the folder that LONGDUST_SRC names.
 set -euo pipefail
 cd "$(dirname "$0")"
@@ -27,34 +27,56 @@ run() {
   fi
 }
 
-# The C example against the header: letters in, expected lines out.
-mask() {
-  local got
-  got=$(printf '%s' "$1" | "$example" || true)
-  if [[ "$got" == "$2" ]]; then
+# Counts a check: its name, and a command that must succeed.
+check() {
+  local name=$1
+  shift
+  if "$@"; then
     passed=$((passed + 1))
   else
     failed=$((failed + 1))
-    echo "mask $1: $got"
+    echo "failed: $name"
   fi
 }
 
-echo "== examples/mask.c"
-cc -std=c99 -Wall -Wextra -Werror -O2 -Iinclude examples/mask.c -o "$example" target/staticlib/liblongdust_c.a
-mask AAAAAAAAAAAAAAAAAAAA $'0\t20'
-mask AAAAAAAAA ""
-mask ACGTACG "refused 3"
+# The C example: letters in, the exit status and the lines that must come out.
+mask() {
+  local got status=0
+  got=$(printf '%b' "$1" | "$example") || status=$?
+  check "mask $1: status $status, $got" test "$status $got" = "$2"
+}
+
+# The same program, built with further options of the compiler.
+masks() {
+  echo "== examples/mask.c $*"
+  cc -std=c99 -Wall -Wextra -Werror "$@" -Iinclude examples/mask.c -o "$example" target/staticlib/liblongdust_c.a
+  mask AAAAAAAAAAAAAAAAAAAA $'0 0\t20'
+  mask 'AAAAA\nAAAAA\n' $'0 0\t10'
+  mask 'AAAAA\r\nAAAAA\r\n' '0 '
+  mask AAAAAAAAA '0 '
+  mask ACGTACG '1 refused 3'
+  mask '' '1 refused 3'
+  mask '\0303\0244AAAAAAAAAA' '1 refused 2'
+  check "a directory as input" test "$("$example" < . 2>&1 || echo "status $?")" = $'cannot read: Is a directory\nstatus 2'
+  check "a full disk" test "$(printf AAAAAAAAAA | "$example" 2>&1 > /dev/full || echo "status $?")" \
+    = $'cannot write: No space left on device\nstatus 2'
+}
+
+masks -O2
+check "no memory" test "$(ulimit -v 20000 && head -c 9999999 /dev/zero | "$example" 2>&1 || echo "status $?")" \
+  = $'no memory: Cannot allocate memory\nstatus 2'
+masks -O1 -g -fsanitize=address,leak,undefined -fno-sanitize-recover
+
+echo "== the tests of compare itself"
+check "cargo test" bash -c 'cd compare && cargo test --release --offline --quiet'
 
 echo "== the recorded list of crates/replay"
-if "$program" record | cmp - crates/replay/stdin; then
-  passed=$((passed + 1))
-else
-  failed=$((failed + 1))
-fi
+check "compare record" cmp <("$program" record) crates/replay/stdin
 
 run "$program" cases
 run "$program" tables
 run "$program" random 1 200000
+run "$program" long 1 240
 run "$program" large quick
 echo "$passed passed, $failed failed"
 [[ $failed -eq 0 ]]

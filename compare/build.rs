@@ -1,5 +1,6 @@
 //! Makes the modules that `src/original.rs` includes from the original's files, and links the port.
 //!
+//! The masker is taken whole and changed in places; of lib.rs only the checks of its options are cut out.
 //! The original is read from ../shared/docs/src, or from the folder that the variable LONGDUST_SRC
 //! names, both seen from the repository. A change names the text it replaces, which must stand exactly
 //! once; otherwise the build stops and says which place has moved.
@@ -69,6 +70,12 @@ const WRONG: &[Change] = &[
     Change("order_of_sums", "sw += sw_val - self", "sw = sw + sw_val - self"),
 ];
 
+/// The parts of lib.rs that check the options, each from its first line to the first line that is `}`.
+const CHECKS: [&str; 3] = ["trait Validate {", "fn validate_base_params(", "impl Validate for LongdustOptions {"];
+
+/// The lines of lib.rs that hold its limits, which its other files read from the root of the crate.
+const LIMITS: [&str; 2] = ["const MAX_LONGDUST_KMER: ", "const MAX_LONGDUST_WINDOW_SIZE: "];
+
 fn main() {
     let here = PathBuf::from(env::var("CARGO_MANIFEST_DIR").unwrap());
     let out = PathBuf::from(env::var("OUT_DIR").unwrap());
@@ -77,7 +84,11 @@ fn main() {
     println!("cargo:rerun-if-env-changed=LONGDUST_SRC");
 
     let longdust = read(&folder.join("longdust.rs.txt"));
+    let lib = read(&folder.join("lib.rs.txt"));
     let handed = changed(&longdust, HANDED);
+    write(&out.join("limits.rs"), &LIMITS.map(|part| cut(&lib, part, "\n")).concat());
+    // A sequence is bytes here, of which an original's string is a part.
+    write(&out.join("checks.rs"), &CHECKS.map(|part| cut(&lib, part, "\n}\n")).concat().replace("&str", "&[u8]"));
     write(&out.join("common.rs"), &read(&folder.join("common.rs.txt")));
     write(&out.join("unmodified.rs"), &longdust);
     write(&out.join("formulas.rs"), &changed(&longdust, FORMULAS));
@@ -117,6 +128,17 @@ fn changed(text: &str, changes: &[Change]) -> String {
         text = text.replacen(old, new, 1);
     }
     text
+}
+
+/// From a text that stands once at the start of a line to the next end.
+fn cut<'a>(text: &'a str, start: &str, end: &str) -> &'a str {
+    let parts: Vec<_> = text.match_indices(&format!("\n{start}")).collect();
+    let [(before, _)] = parts[..] else {
+        stop(&format!("lib.rs.txt: `{start}` begins {} lines, not one", parts.len()))
+    };
+    let part = &text[before + 1..];
+    let length = part.find(end).unwrap_or_else(|| stop(&format!("lib.rs.txt: `{start}` has no end")));
+    &part[..length + end.len()]
 }
 
 fn read(file: &Path) -> String {

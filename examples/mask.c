@@ -1,12 +1,17 @@
 /* A contig on standard input, its masked intervals on standard output, with the usual options.
+ * Line ends (byte 10) are dropped; every other byte is a letter.
  *
  *   rt staticlib longdust_c
  *   cc -O2 -Iinclude examples/mask.c -o mask target/staticlib/liblongdust_c.a
  *   printf AAAAAAAAAAAAAAAAAAAA | ./mask
+ *
+ * The exit status is 0, or 1 if the contig is refused, or 2 if reading, writing or memory failed.
  */
+#include <errno.h>
 #include <inttypes.h>
 #include <stdio.h>
 #include <stdlib.h>
+#include <string.h>
 
 #include "longdust.h"
 
@@ -17,40 +22,49 @@ static uint32_t queue[WINDOW];
 static struct longdust_forward_position candidates[WINDOW];
 static uint16_t window_counts[KMERS], scan_counts[KMERS];
 
-static void *room(size_t count, size_t size) {
-    void *memory = calloc(count + 1, size);
-    if (memory == NULL) {
-        fputs("out of memory\n", stderr);
-        exit(2);
-    }
-    return memory;
+/* What depends on the contig's length. */
+static uint8_t *contig, *codes, *reverse_codes;
+static uint32_t *list[6];
+
+static void free_all(void) {
+    free(contig);
+    free(codes);
+    free(reverse_codes);
+    for (int i = 0; i < 6; i++) free(list[i]);
+}
+
+static void stop(const char *what) {
+    fprintf(stderr, "%s: %s\n", what, strerror(errno));
+    exit(2);
+}
+
+/* The memory, moved to where this many bytes have room; one at least, so that null means that there is none. */
+static void *room(void *memory, size_t bytes) {
+    void *moved = realloc(memory, bytes == 0 ? 1 : bytes);
+    if (moved == NULL) stop("no memory");
+    return moved;
 }
 
 /* All letters up to the end of the input, without line ends. */
-static uint8_t *read_contig(size_t *length) {
+static size_t read_contig(void) {
     size_t capacity = 1 << 16, n = 0;
-    uint8_t *letters = room(capacity, 1);
+    contig = room(NULL, capacity);
     for (int c; (c = getchar()) != EOF;) {
-        if (c == '\n' || c == '\r') continue;
-        if (n == capacity) {
-            uint8_t *longer = realloc(letters, capacity *= 2);
-            if (longer == NULL) exit(2);
-            letters = longer;
-        }
-        letters[n++] = (uint8_t)c;
+        if (c == '\n') continue;
+        if (n == capacity) contig = room(contig, capacity *= 2);
+        contig[n++] = (uint8_t)c;
     }
-    *length = n;
-    return letters;
+    if (ferror(stdin)) stop("cannot read");
+    return n;
 }
 
-int main(void) {
-    size_t n;
-    const uint8_t *contig = read_contig(&n);
+/* Masks the contig and prints its intervals; 1 if it is refused, else 0. */
+static int mask(size_t n) {
     size_t rows = (n + 1) / (KMER + 1);
-    uint8_t *codes = room(n, 1), *reverse_codes = room(n, 1);
-    uint32_t *list[6];
-    for (int i = 0; i < 6; i++) list[i] = room(rows, sizeof *list[i]);
-    uint32_t *starts = list[4], *ends = list[5], in_range;
+    uint32_t in_range;
+    codes = room(NULL, n);
+    reverse_codes = room(NULL, n);
+    for (int i = 0; i < 6; i++) list[i] = room(NULL, rows * sizeof *list[i]);
 
     int64_t count = longdust_process(
         contig, n, KMER, WINDOW, 0.6,
@@ -60,13 +74,17 @@ int main(void) {
         ln, WINDOW + 1, f, WINDOW + 2, queue, WINDOW,
         window_counts, KMERS, scan_counts, KMERS,
         candidates, WINDOW, codes, n, reverse_codes, n,
-        list[0], rows, list[1], rows, list[2], rows, list[3], rows, starts, rows, ends, rows,
+        list[0], rows, list[1], rows, list[2], rows, list[3], rows, list[4], rows, list[5], rows,
         &in_range);
 
-    if (count < 0) {
-        printf("refused %" PRId64 "\n", -count);
-        return 1;
-    }
-    for (int64_t i = 0; i < count; i++) printf("%" PRIu32 "\t%" PRIu32 "\n", starts[i], ends[i]);
-    return 0;
+    if (count < 0) printf("refused %" PRId64 "\n", -count);
+    for (int64_t i = 0; i < count; i++) printf("%" PRIu32 "\t%" PRIu32 "\n", list[4][i], list[5][i]);
+    return count < 0;
+}
+
+int main(void) {
+    atexit(free_all);
+    int refused = mask(read_contig());
+    if (fflush(stdout) != 0 || ferror(stdout)) stop("cannot write");
+    return refused;
 }

@@ -2,10 +2,13 @@
  *
  * Link target/staticlib/liblongdust_c.a, which `rt staticlib longdust_c` makes for x86-64. Neither
  * call allocates, keeps state or reads anything but its arguments, so threads may call at once, each
- * with its own buffers.
+ * with its own buffers. A call takes less than 16 KB of stack.
  *
  * Write n for sequence_len, k for kmer, w for window_size, and R for (n + 1) / (k + 1) rounded down.
- * Every slice is a pointer and its number of elements. No two of the slices may overlap.
+ * Every slice is a pointer and its number of elements. The pointer is aligned as its element type asks,
+ * and may be null where the length is 0 (no request with an empty slice is accepted). A slice that a call
+ * writes may overlap no other slice; those that it only reads may overlap each other. in_range points to
+ * one aligned number outside all slices; it is written by every call and must not be null.
  *
  * Options, with the usual values:
  *   kmer             k-mer size, 1 to 12                                                    7
@@ -22,7 +25,8 @@
  *
  * Slices and how long they must be at least; longer ones are accepted, and entries past these
  * lengths do not change:
- *   sequence                          n letters, A C G T in either case; other bytes below 128 are ambiguous
+ *   sequence                          n letters, A C G T in either case; other bytes below 128, line ends
+ *                                     among them, are letters too, ambiguous ones
  *   ln                                w + 1; entry i stands for ln i
  *   f                                 w + 2; entry L is what a random stretch of L places scores
  *   queue                             w

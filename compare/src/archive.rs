@@ -2,6 +2,7 @@
 
 use crate::port::{Buffers, Candidate, Lent};
 use crate::request::{Gc, Request, Tables};
+use std::ptr;
 
 /// Both calls are declared with tables that may be written, so that one expression calls either; that
 /// the call on lent tables leaves them alone is checked.
@@ -67,8 +68,13 @@ fn gc_numbers(gc: Gc) -> (u32, f64) {
     }
 }
 
+/// An empty slice is null, as a host may lend it.
+fn pointer<T>(slice: &mut [T], length: usize) -> (*mut T, usize) {
+    (if length == 0 { ptr::null_mut() } else { slice.as_mut_ptr() }, length)
+}
+
 fn raw<T>(lent: &mut Lent<T>) -> (*mut T, usize) {
-    (lent.now.as_mut_ptr(), lent.length)
+    pointer(&mut lent.now, lent.length)
 }
 
 pub fn call(request: &Request, lent: &mut Buffers) -> (i64, u32) {
@@ -78,6 +84,8 @@ pub fn call(request: &Request, lent: &mut Buffers) -> (i64, u32) {
     };
     let yes = |said: bool| if said { request.yes } else { 0 };
     let (gc_kind, gc_value) = gc_numbers(request.gc);
+    let letters = lent.sequence.len();
+    let (sequence, sequence_len) = pointer(&mut lent.sequence, letters);
     let (ln, ln_len) = raw(&mut lent.ln);
     let (f, f_len) = raw(&mut lent.f);
     let (queue, queue_len) = raw(&mut lent.queue);
@@ -88,11 +96,11 @@ pub fn call(request: &Request, lent: &mut Buffers) -> (i64, u32) {
     let (reverse_codes, reverse_codes_len) = raw(&mut lent.reverse_codes);
     let [forward_starts, forward_ends, reverse_starts, reverse_ends, starts, ends] = lent.lists.each_mut().map(raw);
     let mut in_range = 0xdead;
-    // SAFETY: each pointer is to a live slice at least as long as the length behind it; none overlap.
+    // SAFETY: each pointer is null with length 0, or to a live slice at least as long as its length; none overlap.
     let result = unsafe {
         process(
-            request.sequence.as_ptr(),
-            request.sequence.len(),
+            sequence,
+            sequence_len,
             request.kmer,
             request.window_size,
             request.score_threshold,

@@ -4,7 +4,6 @@ use crate::genomes;
 use crate::original::{floats, formulas, handed};
 use crate::port::{Buffers, Port};
 use crate::request::{Answer, Request, Tables};
-use std::time::Instant;
 
 /// A synthetic genome of this seed and number of letters.
 type Genome = fn(u64, usize) -> Vec<u8>;
@@ -27,20 +26,57 @@ const ROWS: [Row; 3] = [
     Row { kmer: 12, quick: [8000, 1200, 2_000_000], whole: [40_000, 3000, 8_000_000], aims: [50.0, 30.0, 1.0] },
 ];
 
+#[repr(C)]
+struct Timespec {
+    seconds: i64,
+    nanoseconds: i64,
+}
+
+extern "C" {
+    fn clock_gettime(clock: i32, time: *mut Timespec) -> i32;
+}
+
+/// How long this thread has had a processor, so that other programs of the machine count little.
+fn processor_seconds() -> f64 {
+    const CLOCK_THREAD_CPUTIME_ID: i32 = 3;
+    let mut time = Timespec { seconds: 0, nanoseconds: 0 };
+    // SAFETY: the pointer is to a live record of the C library's form on 64-bit Linux.
+    let failed = unsafe { clock_gettime(CLOCK_THREAD_CPUTIME_ID, &mut time) };
+    assert_eq!(failed, 0, "the thread's clock");
+    time.seconds as f64 + time.nanoseconds as f64 * 1e-9
+}
+
+/// Both on the same request, one after the other.
+pub struct Turn {
+    pub original_seconds: f64,
+    pub port_seconds: f64,
+    /// The original's mask.
+    pub mask: Vec<(usize, usize)>,
+    pub same: bool,
+}
+
+/// A turn on a request that hands tables in; the buffers may be left from the turn before.
+pub fn turn(port: Port, request: &Request, buffers: &mut Buffers) -> Turn {
+    let Tables::Given { ln, f } = &request.tables else { unreachable!("a turn hands tables in") };
+    let (ln, f) = (floats(ln), floats(f));
+    let start = processor_seconds();
+    let mask = handed::Longdust::process(&request.sequence, handed::options(request), ln, f);
+    let between = processor_seconds();
+    let said = port(request, buffers);
+    let (original_seconds, port_seconds) = (between - start, processor_seconds() - between);
+    let expected = Answer::Accepted { in_range: true, intervals: mask.clone() };
+    Turn { original_seconds, port_seconds, mask, same: buffers.answer(said) == Ok(expected) }
+}
+
 /// Median seconds of both on the same request, turns taken.
 fn turns(port: Port, request: &Request, turns: usize) -> (f64, f64) {
-    let Tables::Given { ln, f } = &request.tables else { unreachable!("bench hands tables in") };
     let mut buffers = Buffers::new(request);
     let (mut original, mut ported) = (Vec::new(), Vec::new());
     for _ in 0..turns {
-        let (ln, f) = (floats(ln), floats(f));
-        let start = Instant::now();
-        let mask = handed::Longdust::process(&request.sequence, handed::options(request), ln, f);
-        original.push(start.elapsed().as_secs_f64());
-        let start = Instant::now();
-        let result = port(request, &mut buffers);
-        ported.push(start.elapsed().as_secs_f64());
-        assert_eq!(buffers.answer(result), Ok(Answer::Accepted { in_range: true, intervals: mask }));
+        let turn = turn(port, request, &mut buffers);
+        assert!(turn.same, "both give the same mask");
+        original.push(turn.original_seconds);
+        ported.push(turn.port_seconds);
     }
     (median(original), median(ported))
 }
@@ -50,7 +86,8 @@ fn median(mut seconds: Vec<f64>) -> f64 {
     seconds[seconds.len() / 2]
 }
 
-fn request(kmer: usize, sequence: Vec<u8>) -> Request {
+/// The usual options but for k, and the formulas' tables.
+pub fn request(kmer: usize, sequence: Vec<u8>) -> Request {
     let request = Request { kmer, sequence, ..Request::default() };
     let (ln, f) = formulas::tables(&request);
     Request { tables: Tables::Given { ln, f }, ..request }
@@ -60,7 +97,7 @@ fn request(kmer: usize, sequence: Vec<u8>) -> Request {
 pub fn command(port: Port, quick: bool) {
     let times = if quick { 3 } else { 5 };
     println!("two strands, w 5000, other options the defaults, formula tables lent to both, one thread");
-    println!("{times} turns each, original then port, medians");
+    println!("{times} turns each, original then port, medians of processor time");
     println!("buffers: the port's are lent as its turn before left them, the original allocates its own in its turn");
     println!("\n k  genome        letters   original/s       port/s   ratio  to reach");
     for Row { kmer, quick: few, whole, aims } in ROWS {

@@ -163,8 +163,8 @@ fn threshold(rng: &mut Rng, unit: f64) -> f64 {
     }
 }
 
-/// A request for this k, w and n that passes every check if these do.
-pub fn accepted(rng: &mut Rng, k: usize, w: usize, n: usize) -> Request {
+/// Options and tables for this k and w that pass every check if these do.
+fn options(rng: &mut Rng, k: usize, w: usize) -> Request {
     let gc = match rng.below(6) {
         0..=2 => Gc::Uniform,
         3 => Gc::Auto,
@@ -191,8 +191,25 @@ pub fn accepted(rng: &mut Rng, k: usize, w: usize, n: usize) -> Request {
         yes: rng.pick(&[1, 1, 2, 256, 0x8000_0000]),
         tables,
         garbage: rng.pick(&[0, 1, 2, 3, 4, 5]),
-        sequence: sequence(rng, n),
         ..Request::default()
+    }
+}
+
+/// A request for this k, w and n that passes every check if these do.
+pub fn accepted(rng: &mut Rng, k: usize, w: usize, n: usize) -> Request {
+    let mut request = options(rng, k, w);
+    request.sequence = sequence(rng, n);
+    request
+}
+
+/// Now and then an option with any value, not one of the few that `options` picks from.
+fn vary(rng: &mut Rng, request: &mut Request) {
+    if rng.one_in(4) {
+        let most = rng.pick(&[10, 300, u32::MAX as usize]);
+        request.xdrop = Some(1 + rng.below(most) as u32);
+    }
+    if rng.one_in(6) {
+        request.min_start_cnt = 2 + rng.below(30) as u16;
     }
 }
 
@@ -264,6 +281,7 @@ pub fn request(seed: u64, number: u64) -> Request {
     let rng = &mut Rng::new(seed, number);
     let (k, w, n) = measures(rng);
     let mut request = accepted(rng, k, w, n);
+    vary(rng, &mut request);
     if rng.one_in(3) {
         for slice in 0..SLICES {
             if rng.one_in(2) {
@@ -283,5 +301,59 @@ pub fn request(seed: u64, number: u64) -> Request {
     if original::refusal_before_sizes(&request).is_some() {
         request.sizes = [0; SLICES].map(|_| Some(rng.below(20)));
     }
+    request
+}
+
+/// Sizes of long requests: a window and a number of letters, each between two numbers. Where k is small
+/// every letter is searched from, so that the product of both is what a request costs.
+struct Sizes {
+    w: [usize; 2],
+    n: [usize; 2],
+}
+
+const LONGEST: Sizes = Sizes { w: [20, 300], n: [131_072, 200_000] };
+const LONGER: Sizes = Sizes { w: [20, 600], n: [65_537, 131_071] };
+const LONG: Sizes = Sizes { w: [300, 5000], n: [4001, 12_000] };
+const WIDE: Sizes = Sizes { w: [40_001, 65_535], n: [1000, 6000] };
+/// The window is wide and gets full.
+const FULL: Sizes = Sizes { w: [40_001, 41_000], n: [41_500, 42_000] };
+
+/// Each k takes its turn with each of these, the dearest first.
+const TURNS: [&Sizes; 20] = [
+    &FULL, &LONGEST, &LONGER, &LONG, &LONG, &WIDE, &LONGEST, &LONGER, &LONG, &LONG, &WIDE, &LONGEST, &LONGER, &LONG,
+    &LONG, &WIDE, &LONGEST, &LONGER, &LONG, &WIDE,
+];
+
+/// Random letters with repeats planted among them, at either end too, at most this many letters of them.
+fn planted(rng: &mut Rng, n: usize, most: usize) -> Vec<u8> {
+    let mut all = letters(rng, n, b"ACGT");
+    let longest = (most / rng.pick(&[1, 2, 3, 6])).max(40);
+    let mut left = most;
+    while left >= 40 {
+        let length = 40 + rng.below(longest.min(left) - 39);
+        let period = 1 + rng.below((length / 8).min(40));
+        let unit = letters(rng, period, b"ACGT");
+        let errors = rng.pick(&[0, 30, 10]);
+        let piece = tandem(rng, &unit, length, errors);
+        let anywhere = rng.below(n - length + 1);
+        let start = rng.pick(&[0, n - length, anywhere, anywhere]);
+        all[start..start + length].copy_from_slice(&piece);
+        left -= length;
+    }
+    all
+}
+
+/// The long request of this number in a seed's list.
+pub fn long(seed: u64, number: u64) -> Request {
+    let rng = &mut Rng::new(seed, !number);
+    let k = 1 + (number % 12) as usize;
+    let sizes = TURNS[(number / 12) as usize % TURNS.len()];
+    let mut between = |[low, high]: [usize; 2]| low + rng.below(high - low + 1);
+    let (w, n) = (between(sizes.w), between(sizes.n));
+    let mut request = options(rng, k, w);
+    vary(rng, &mut request);
+    request.forward_only |= k < 9 && n > w && w > 5000;
+    // The original clears 4^k counts for each letter of a repeat, some times over.
+    request.sequence = planted(rng, n, (n / 3).min(2_000_000_000 >> (2 * k)).min(50_000_000 / w));
     request
 }

@@ -7,6 +7,7 @@ mod common {
 #[cfg(port)]
 mod archive;
 mod bench;
+mod fasta;
 mod formulas;
 mod generate;
 mod genomes;
@@ -23,16 +24,19 @@ use port::{Buffers, Port};
 use request::{Answer, Request};
 use std::{env, fs, process};
 
-/// The original's own limit, which it reads from the root of its crate.
-const MAX_LONGDUST_WINDOW_SIZE: usize = 65535;
+// The original's limits, which it reads from the root of its crate.
+include!(concat!(env!("OUT_DIR"), "/limits.rs"));
 
 const USAGE: &str = "\
 compare answer FILE        one request (its form: src/request.rs), answered by the port
 compare original FILE      the same by the original
 compare random SEED COUNT  both on random requests, every result and buffer compared
+compare long SEED COUNT    the same on long sequences or wide windows; 240 are one round of every k and size
 compare cases              both on the paper's cases
 compare tables             filled tables bit by bit, over k, w and GC
 compare large [quick]      windows of 65,535 letters; quick: narrower ones
+compare fasta FILE..       both on every record of FASTA files, with intervals, share masked and seconds;
+                           before the files, k=K sets k, and letters=N cuts a record after N letters
 compare bench [quick]      letters per second of both, as ratios; quick: under a minute
 compare record             the recorded list for crates/replay (its form: src/record.rs)";
 
@@ -45,7 +49,9 @@ fn main() {
         ["bench"] => return bench::command(port(), false),
         ["bench", "quick"] => return bench::command(port(), true),
         ["record"] => return print!("{}", record::list()),
-        ["random", seed, count] => random::command(port(), number(seed), number(count)),
+        ["random", seed, count] => random::command(port(), generate::request, number(seed), number(count)),
+        ["long", seed, count] => random::command(port(), generate::long, number(seed), number(count)),
+        ["fasta", ref words @ ..] => fasta::command(port(), words).unwrap_or_else(|error| stop(&error)),
         ["cases"] => sets::cases(port()),
         ["tables"] => sets::tables(port()),
         ["large"] => sets::large(port(), false),

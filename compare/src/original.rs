@@ -1,10 +1,10 @@
-//! The reference: the paper's list of refusals, then the original itself, in three variants.
+//! The reference: the original's checks and the paper's two more, then the original itself, in three variants.
 //!
 //! `unmodified` is the original's text as it stands; `formulas` takes ln, exp and powi by the paper's
 //! formulas; `handed` takes both tables as arguments. build.rs makes them.
 
 use crate::port::Buffers;
-use crate::request::{Answer, Gc, Request, Tables, SLICES};
+use crate::request::{Answer, Request, Tables, SLICES};
 
 /// Gives a variant its options, and the two tables it would make for a request, as float bits.
 macro_rules! variant {
@@ -20,9 +20,11 @@ macro_rules! variant {
                     score_threshold: request.score_threshold,
                     kmer: request.kmer,
                     gc: match request.gc {
+                        Gc::Uniform => GcOption::Uniform,
                         Gc::Fixed(value) => GcOption::Fixed(value),
                         Gc::Auto => GcOption::Auto,
-                        _ => GcOption::Uniform,
+                        // No kind of the original's: refused as a fixed GC that is no number.
+                        Gc::Kind(..) => GcOption::Fixed(f64::NAN),
                     },
                     xdrop: request.xdrop.map(|length| length as usize),
                     min_start_cnt: request.min_start_cnt,
@@ -59,10 +61,44 @@ pub fn floats(bits: &[u64]) -> Vec<f64> {
     bits.iter().map(|&x| f64::from_bits(x)).collect()
 }
 
+/// The original's `validate_inputs`, cut in by build.rs.
+mod checks {
+    use super::unmodified::{GcOption, LongdustOptions};
+    use crate::{MAX_LONGDUST_KMER, MAX_LONGDUST_WINDOW_SIZE};
+
+    include!(concat!(env!("OUT_DIR"), "/checks.rs"));
+
+    /// Its errors in the paper's order; what they hold is for messages.
+    #[allow(dead_code)]
+    pub enum InputError {
+        KmerSizeError(usize, usize),
+        NonAsciiSequenceError,
+        SequenceLengthError(usize, usize),
+        WindowSizeError(usize, usize),
+        WindowSizeLimitError(usize, usize),
+        LongdustScoreThresholdError(f64),
+        GcError(f64),
+        MinStartCntError(u16),
+        XdropLenError(usize),
+    }
+
+    /// The paper's number of the check that refuses.
+    pub fn refusal(options: &LongdustOptions, sequence: &[u8]) -> Option<u32> {
+        options.validate_inputs(sequence).err().map(|error| match error {
+            InputError::KmerSizeError(..) => 1,
+            InputError::NonAsciiSequenceError => 2,
+            InputError::SequenceLengthError(..) => 3,
+            InputError::WindowSizeError(..) => 4,
+            InputError::WindowSizeLimitError(..) => 5,
+            InputError::LongdustScoreThresholdError(..) => 6,
+            InputError::GcError(..) => 7,
+            InputError::MinStartCntError(..) => 8,
+            InputError::XdropLenError(..) => 9,
+        })
+    }
+}
+
 /// The number of the first check that refuses a request, if its slices have these lengths.
-///
-/// Checks 1 to 9 are the original's `validate_inputs` in its order, with the same comparisons. The
-/// paper adds 10 and 11; the C interface adds a GC kind that is none of the three to 7.
 fn refusal(request: &Request, lengths: &[usize; SLICES]) -> Option<u32> {
     refusal_before_sizes(request).or_else(|| {
         let short = lengths.iter().zip(request.listed()).any(|(length, listed)| *length < listed);
@@ -70,28 +106,10 @@ fn refusal(request: &Request, lengths: &[usize; SLICES]) -> Option<u32> {
     })
 }
 
+/// Checks 1 to 9 are the original's own; the paper adds 10.
 pub fn refusal_before_sizes(request: &Request) -> Option<u32> {
-    let (k, w, n, t) = (request.kmer, request.window_size, request.sequence.len(), request.score_threshold);
-    if !(1..=12).contains(&k) {
-        return Some(1);
-    }
-    let gc_refused = match request.gc {
-        Gc::Uniform | Gc::Auto => false,
-        Gc::Fixed(value) => !(0.0..=1.0).contains(&value),
-        Gc::Kind(..) => true,
-    };
-    let checks = [
-        (2, !request.sequence.is_ascii()),
-        (3, n < k + 1),
-        (4, w < k + 1),
-        (5, w > 65535),
-        (6, !t.is_finite() || t <= 0.0),
-        (7, gc_refused),
-        (8, request.min_start_cnt < 2),
-        (9, request.xdrop == Some(0)),
-        (10, n > 2147483647),
-    ];
-    checks.iter().find(|(_, refused)| *refused).map(|(number, _)| *number)
+    let too_long = request.sequence.len() > 2147483647;
+    checks::refusal(&unmodified::options(request), &request.sequence).or(too_long.then_some(10))
 }
 
 /// The flag: T at most 16, ln entries 1..w in 0..16 and f entries 1..w in 0..1,048,576.

@@ -1,10 +1,12 @@
 //! The port: buffers to lend it, the call, and what must be true of the buffers afterwards.
 
 use crate::original::{self, Reference};
-use crate::request::{Answer, Request, Tables, F, LN, NAMES, SLICES};
+use crate::request::{Answer, Request, Tables, F, FINAL, LN, NAMES, SLICES};
 
-/// Something that answers as the C interface does: a count or minus a refusal, and the flag.
-pub type Port = fn(&Request, &mut Buffers) -> (i64, u32);
+/// What the C interface answers: a count or minus a refusal, and the flag.
+pub type Said = (i64, u32);
+/// Something that answers as the C interface does.
+pub type Port = fn(&Request, &mut Buffers) -> Said;
 
 /// Elements that stand behind each lent slice and are no part of it.
 const GUARD: usize = 8;
@@ -54,6 +56,7 @@ pub struct Candidate {
 
 /// All lent slices; floats as their bits.
 pub struct Buffers {
+    pub sequence: Vec<u8>,
     pub ln: Lent<u64>,
     pub f: Lent<u64>,
     pub queue: Lent<u32>,
@@ -78,6 +81,18 @@ fn garbage(kind: u64, slice: usize, i: usize) -> u64 {
     }
 }
 
+/// A copy in which pages of zeros take no room, as in fresh memory that is only read.
+fn copy(letters: &[u8]) -> Vec<u8> {
+    const PAGE: usize = 4096;
+    let mut copy = vec![0; letters.len()];
+    for (page, letters) in copy.chunks_mut(PAGE).zip(letters.chunks(PAGE)) {
+        if letters.iter().fold(0, |any, letter| any | letter) != 0 {
+            page.copy_from_slice(letters);
+        }
+    }
+    copy
+}
+
 impl Buffers {
     /// As long as the request says, else as listed, and full of its garbage and tables.
     pub fn new(request: &Request) -> Buffers {
@@ -93,6 +108,7 @@ impl Buffers {
         let table =
             |slice: usize, words: &[u64]| Lent::new(length(slice), |i| words.get(i).copied().unwrap_or(any(slice, i)));
         Buffers {
+            sequence: copy(&request.sequence),
             ln: table(LN, &ln),
             f: table(F, &f),
             queue: Lent::new(length(2), |i| any(2, i) as u32),
@@ -129,30 +145,44 @@ impl Buffers {
         self.slices().map(|slice| slice.length())
     }
 
-    /// The port's result as an answer, or why it is none.
-    pub fn answer(&self, (result, flag): (i64, u32)) -> Result<Answer, String> {
+    /// This many intervals of the final list.
+    fn mask(&self, count: usize) -> Result<Vec<(usize, usize)>, String> {
         let [.., starts, ends] = &self.lists;
+        if count > starts.length.min(ends.length) {
+            return Err(format!("count {count} is past the list"));
+        }
+        let rows = starts.now.iter().zip(&ends.now).take(count);
+        Ok(rows.map(|(&start, &end)| (start as usize, end as usize)).collect())
+    }
+
+    /// Writes an interval of the final list.
+    #[cfg(test)]
+    pub fn put(&mut self, row: usize, (start, end): (usize, usize)) {
+        let [.., starts, ends] = &mut self.lists;
+        (starts.now[row], ends.now[row]) = (start as u32, end as u32);
+    }
+
+    /// The port's result as an answer, or why it is none.
+    pub fn answer(&self, (result, flag): Said) -> Result<Answer, String> {
         match result {
             _ if flag > 1 || result < 0 && flag != 0 => Err(format!("result {result} with flag {flag}")),
             ..=-1 => Ok(Answer::Refused(result.unsigned_abs() as u32)),
-            count if count as usize > starts.length.min(ends.length) => Err(format!("count {count} is past the list")),
-            count => {
-                let rows = starts.now.iter().zip(&ends.now).take(count as usize);
-                let intervals = rows.map(|(&start, &end)| (start as usize, end as usize)).collect();
-                Ok(Answer::Accepted { in_range: flag == 1, intervals })
-            }
+            count => Ok(Answer::Accepted { in_range: flag == 1, intervals: self.mask(count as usize)? }),
         }
     }
 
     /// The first place that should not have changed and did, or that should hold a formula and does not.
     fn damage(&self, request: &Request, reference: &Reference) -> Option<String> {
+        if self.sequence != request.sequence {
+            return Some("sequence changed".to_string());
+        }
         let Answer::Accepted { intervals, .. } = &reference.answer else {
             return self.changes(&[0; SLICES]);
         };
         let mut free = request.listed();
-        free[12..].fill(intervals.len());
+        free[FINAL..].fill(intervals.len());
         match &reference.filled {
-            None => free[..2].fill(0),
+            None => free[..=F].fill(0),
             Some((ln, f)) => {
                 for (name, lent, table) in [("ln", &self.ln, ln), ("f", &self.f, f)] {
                     if let Some(i) = (0..table.len()).find(|&i| lent.now[i] != table[i]) {
@@ -174,7 +204,7 @@ impl Buffers {
 }
 
 /// Runs both on a request: the reference, and how the port differs from it if it does.
-pub fn difference(port: Port, request: &Request) -> (Reference, Option<String>) {
+pub fn difference(port: impl Fn(&Request, &mut Buffers) -> Said, request: &Request) -> (Reference, Option<String>) {
     let mut buffers = Buffers::new(request);
     let reference = original::reference(request, &buffers);
     let result = port(request, &mut buffers);

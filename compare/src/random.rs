@@ -1,8 +1,8 @@
 //! Both sides on random requests, with a summary, and a small request for each of the first differences.
 
-use crate::generate;
 use crate::port::{difference, Port};
 use crate::request::{Answer, Request, Tables};
+use std::sync::atomic::{AtomicU64, Ordering};
 use std::thread;
 
 /// How many differing requests are printed.
@@ -67,13 +67,20 @@ impl Summary {
     }
 }
 
+/// The request of this number in the list of a seed.
+type List = fn(u64, u64) -> Request;
+
 /// The requests of a seed, shared out to all processors.
-pub fn run(port: Port, seed: u64, count: u64) -> Summary {
-    let workers = thread::available_parallelism().map_or(1, |n| n.get()) as u64;
-    let work = move |first: u64| {
+pub fn run(port: Port, list: List, seed: u64, count: u64) -> Summary {
+    let next = AtomicU64::new(0);
+    let work = || {
         let mut summary = Summary::default();
-        for number in (first..count).step_by(workers as usize) {
-            let request = generate::request(seed, number);
+        loop {
+            let number = next.fetch_add(1, Ordering::Relaxed);
+            if number >= count {
+                return summary;
+            }
+            let request = list(seed, number);
             let (reference, differs) = difference(port, &request);
             summary.add(&request, &reference.answer);
             match differs {
@@ -81,21 +88,22 @@ pub fn run(port: Port, seed: u64, count: u64) -> Summary {
                 Some(_) => summary.failed.push(number),
             }
         }
-        summary
     };
     thread::scope(|scope| {
-        let threads: Vec<_> = (0..workers).map(|first| scope.spawn(move || work(first))).collect();
+        let workers = thread::available_parallelism().map_or(1, |n| n.get());
+        let threads: Vec<_> = (0..workers).map(|_| scope.spawn(work)).collect();
         let summaries = threads.into_iter().map(|thread| thread.join().unwrap());
-        summaries.fold(Summary::default(), Summary::join)
+        let mut summary = summaries.fold(Summary::default(), Summary::join);
+        summary.failed.sort();
+        summary
     })
 }
 
-/// The `random` command.
-pub fn command(port: Port, seed: u64, count: u64) -> (u64, u64) {
-    let mut summary = run(port, seed, count);
-    summary.failed.sort();
+/// The `random` and the `long` command.
+pub fn command(port: Port, list: List, seed: u64, count: u64) -> (u64, u64) {
+    let summary = run(port, list, seed, count);
     for &number in summary.failed.iter().take(SHOWN) {
-        let request = shrink(generate::request(seed, number), |request| difference(port, request).1.is_some());
+        let request = shrink(list(seed, number), |request| difference(port, request).1.is_some());
         let differs = difference(port, &request).1.unwrap_or_default();
         println!(
             "# request {number} of seed {seed}, made smaller\n{request}# {}\n",

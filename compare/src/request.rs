@@ -18,6 +18,7 @@
 //!     yes N                the number that stands for a yes
 //!     garbage N            what the buffers hold before the call: 0 zeros, 1 ones, or a seed
 
+use crate::original::unmodified::{GcOption, LongdustOptions};
 use std::fmt::{self, Display, Formatter, Write};
 
 /// How many slices a call is lent.
@@ -29,6 +30,8 @@ pub const NAMES: [&str; SLICES] = [
 ];
 pub const LN: usize = 0;
 pub const F: usize = 1;
+/// The final list's.
+pub const FINAL: usize = 12;
 /// Places in NAMES of slices that are the second of a pair.
 const SECOND: [usize; 3] = [9, 11, 13];
 
@@ -69,17 +72,23 @@ pub struct Request {
     pub is_virtual: bool,
 }
 
+/// The original's own defaults, formula tables and buffers as listed.
 impl Default for Request {
     fn default() -> Self {
+        let usual = LongdustOptions::default();
         Request {
-            kmer: 7,
-            window_size: 5000,
-            score_threshold: 0.6,
-            gc: Gc::Uniform,
-            xdrop: Some(50),
-            min_start_cnt: 3,
-            approx: false,
-            forward_only: false,
+            kmer: usual.kmer,
+            window_size: usual.window_size,
+            score_threshold: usual.score_threshold,
+            gc: match usual.gc {
+                GcOption::Uniform => Gc::Uniform,
+                GcOption::Fixed(value) => Gc::Fixed(value),
+                GcOption::Auto => Gc::Auto,
+            },
+            xdrop: usual.xdrop.map(|length| length as u32),
+            min_start_cnt: usual.min_start_cnt,
+            approx: usual.approx,
+            forward_only: usual.forward_only,
             yes: 1,
             tables: Tables::Formula,
             sizes: [None; SLICES],
@@ -177,7 +186,7 @@ impl Request {
     }
 }
 
-fn number<N: std::str::FromStr>(word: &str) -> Result<N, String> {
+pub fn number<N: std::str::FromStr>(word: &str) -> Result<N, String> {
     word.parse().map_err(|_| format!("not a number in range: {word}"))
 }
 

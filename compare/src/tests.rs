@@ -3,11 +3,15 @@
 
 use crate::generate;
 use crate::original::{self, floats, formulas, handed, reference, unmodified, variant};
-use crate::port::{difference, Buffers, Port};
+use crate::port::{difference, Buffers, Port, Said};
 use crate::random::{run, shrink};
 use crate::record;
 use crate::request::{Answer, Gc, Request, Tables, SLICES};
 use crate::sets;
+
+/// As many requests of seed 1 as compare.sh runs.
+const RANDOM: u64 = 200_000;
+const LONG: u64 = 240;
 
 type Mask = Vec<(usize, usize)>;
 /// A wrong original: the mask it gives a request with these tables.
@@ -200,7 +204,7 @@ fn formula_tables_are_near_the_unmodified_ones() {
 }
 
 /// A port that answers as the original does, and leaves other garbage where it may.
-fn right(request: &Request, lent: &mut Buffers) -> (i64, u32) {
+fn right(request: &Request, lent: &mut Buffers) -> Said {
     let reference = reference(request, lent);
     let Answer::Accepted { in_range, intervals } = reference.answer else {
         let Answer::Refused(number) = reference.answer else { unreachable!() };
@@ -214,9 +218,8 @@ fn right(request: &Request, lent: &mut Buffers) -> (i64, u32) {
     lent.queue.now[..listed[2]].fill(7);
     lent.scan_counts.now[..listed[4]].fill(7);
     lent.lists[0].now[..listed[8]].fill(7);
-    for (row, (start, end)) in intervals.iter().enumerate() {
-        lent.lists[4].now[row] = *start as u32;
-        lent.lists[5].now[row] = *end as u32;
+    for (row, interval) in intervals.iter().enumerate() {
+        lent.put(row, *interval);
     }
     (intervals.len() as i64, in_range as u32)
 }
@@ -228,13 +231,13 @@ fn the_original_gives_the_paper_s_cases() {
 
 #[test]
 fn a_right_port_passes() {
-    let summary = run(right, 3, 20_000);
+    let summary = run(right, generate::request, 3, 20_000);
     assert_eq!((summary.passed, summary.failed), (20_000, vec![]));
 }
 
 #[test]
 fn a_wrong_port_is_found_and_the_request_made_small() {
-    let wrong: [Port; 8] = [
+    let wrong: [Port; 9] = [
         |r, lent| (right(r, lent).0, 1),
         |r, lent| (right(r, lent).0.max(-10), 0),
         |r, lent| (right(r, lent).0 + 1, 1),
@@ -245,7 +248,7 @@ fn a_wrong_port_is_found_and_the_request_made_small() {
         },
         |r, lent| {
             let result = right(r, lent);
-            lent.lists[5].now[result.0.max(0) as usize] ^= 1;
+            lent.put(result.0.max(0) as usize, (1, 2));
             result
         },
         |r, lent| {
@@ -261,6 +264,11 @@ fn a_wrong_port_is_found_and_the_request_made_small() {
             result
         },
         |r, lent| {
+            let result = right(r, lent);
+            lent.sequence.iter_mut().for_each(|letter| letter.make_ascii_uppercase());
+            result
+        },
+        |r, lent| {
             if r.sequence.windows(3).any(|three| three == b"CAT") && r.forward_only {
                 (0, 0)
             } else {
@@ -269,11 +277,65 @@ fn a_wrong_port_is_found_and_the_request_made_small() {
         },
     ];
     for (i, port) in wrong.into_iter().enumerate() {
-        let failed = run(port, 4, 2000).failed;
+        let failed = run(port, generate::request, 4, 2000).failed;
         assert!(!failed.is_empty(), "wrong port {i}");
         let request = shrink(generate::request(4, failed[0]), |request| difference(port, request).1.is_some());
         assert!(request.sequence.len() <= 20, "{request}");
         let again = Request::parse(request.to_string().as_bytes()).unwrap();
         assert!(difference(port, &again).1.is_some(), "{request}");
+    }
+}
+
+/// Where a port may be wrong and right everywhere else.
+type There = fn(&Request) -> bool;
+
+const THERE: &[(&str, There)] = &[
+    ("k 11, more than 60 letters", |r| r.kmer == 11 && r.sequence.len() > 60),
+    ("more than 4,000 letters, one strand", |r| r.sequence.len() > 4000 && r.forward_only),
+    ("more than 4,000 letters, approx", |r| r.sequence.len() > 4000 && r.approx),
+    ("more than 65,536 letters, GC auto", |r| r.sequence.len() > 65536 && r.gc == Gc::Auto),
+    ("more than 65,536 letters, GC fixed", |r| r.sequence.len() > 65536 && matches!(r.gc, Gc::Fixed(_))),
+    ("more than 65,536 letters, one strand", |r| r.sequence.len() > 65536 && r.forward_only),
+    ("more than 65,536 letters, approx", |r| r.sequence.len() > 65536 && r.approx),
+    ("131,072 letters or more, formula tables", |r| r.sequence.len() >= 131072 && r.tables == Tables::Formula),
+    ("131,072 letters or more, own tables", |r| r.sequence.len() >= 131072 && r.tables == Tables::Own),
+    ("131,072 letters or more, given tables", |r| {
+        r.sequence.len() >= 131072 && matches!(r.tables, Tables::Given { .. })
+    }),
+    ("xdrop of 6 to 49", |r| r.xdrop.is_some_and(|length| (6..50).contains(&length))),
+    ("xdrop above 50", |r| r.xdrop.is_some_and(|length| (51..u32::MAX).contains(&length))),
+    ("min_start_cnt above 6", |r| r.min_start_cnt > 6),
+    ("a wide window that gets full, small k", |r| {
+        r.window_size > 40000 && r.sequence.len() > r.window_size && r.kmer < 7
+    }),
+];
+
+/// Where a port may be wrong at any one k.
+const THERE_FOR_K: &[(&str, There)] = &[
+    ("more than 4,000 letters", |r| r.sequence.len() > 4000),
+    ("more than 65,536 letters", |r| r.sequence.len() > 65536),
+    ("a window of more than 40,000", |r| r.window_size > 40000),
+];
+
+#[test]
+fn a_port_that_is_wrong_only_there_is_found() {
+    let mut places: Vec<(String, Box<dyn Fn(&Request) -> bool>)> = Vec::new();
+    for (name, there) in THERE {
+        places.push((name.to_string(), Box::new(there)));
+    }
+    for (name, there) in THERE_FOR_K {
+        for k in 1..=12 {
+            places.push((format!("k {k}, {name}"), Box::new(move |r| r.kmer == k && there(r))));
+        }
+    }
+    let long: Vec<_> = (0..LONG).map(|number| generate::long(1, number)).collect();
+    for (name, there) in places {
+        let drops_the_last = |request: &Request, lent: &mut Buffers| {
+            let (count, in_range) = right(request, lent);
+            (count - (count > 0 && there(request)) as i64, in_range)
+        };
+        let is_told = |request: &Request| there(request) && difference(drops_the_last, request).1.is_some();
+        let told = long.iter().rev().any(is_told) || (0..RANDOM).any(|number| is_told(&generate::request(1, number)));
+        assert!(told, "{name}");
     }
 }
