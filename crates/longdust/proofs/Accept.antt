@@ -90,6 +90,7 @@ admitted o s b e =
             window-low = ltb-false w (k + 1) (p4 .0);
             window-high = ltb-false 65535 w (p5 .0);
             threshold-good = p6 .0;
+            start-low = ltb-false (o .«min_start_cnt») 2 (p8 .0);
           };
       letters-low = ltb-false n (k + 1) (p3 .0);
       letters-high = ltb-false 2147483647 n (p10 .0);

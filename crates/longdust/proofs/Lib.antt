@@ -6,6 +6,7 @@ pub mod Strands
 pub mod Parts
 pub mod Answers
 pub mod Calls
+pub mod Agreeing
 pub mod Theorems
 pub mod Examples
 pub mod FilledTablesProcessKinds

@@ -2,6 +2,7 @@
 -- Shape and evidence are fields of `Accepted`, in the contract of both calls.
 use mathlib.Core.Path.{_≡_, sym, ap, ap₂, _∙_}
 use Prim.Native.Nat.{ℕ, _+_, _<_}
+use native.Mathlib.Omega.{arith}
 use mathlib.Core.Bool.{Bool, false}
 use mathlib.Core.List.{List}
 use lib.ListN.{length, take, drop}
@@ -14,6 +15,7 @@ use Rattle.intervals.specs.Merge.{merge, backwards}
 use Rattle.intervals.specs.Rows.{rows}
 use Rattle.intervals.proofs.Theorems.{merge-mirror}
 use Rattle.scans.specs.Setup.{Setup}
+use Rattle.scans.proofs.Agreeing.{AgreeTo}
 use Rattle.strand.specs.Step.{intervalsOf}
 use Rattle.strand.proofs.Theorems.{strand-shape}
 use Rattle.tables.specs.declared.Density.{Density}
@@ -26,6 +28,7 @@ use Rattle.longdust.specs.Mask.{setup, maskOf, mask}
 use Rattle.longdust.specs.Call.{Buffers, lnRead, fRead, Answered, Kept, Filled}
 use Rattle.longdust.proofs.Accept.{admitted}
 use Rattle.longdust.proofs.Masks.{other-shape}
+use Rattle.longdust.proofs.Agreeing.{agree-equal, agree-take, mask-agree}
 
 -- For any tables, any float bits.
 pub mask-mirror : (S : Setup) (s : List ℕ) → 0 < S .kmer → maskOf S false (reverseComplement s) ≡ backwards (length s) (maskOf S false s)
@@ -53,30 +56,28 @@ filled-f {o} {s} {b} {b′} t =
 module _ (o : LongdustOptions) (s t : List ℕ) (both : o .«forward_only» ≡ false) (other : codes t ≡ reverseComplement (codes s)) where
   mirror : {Tables : LongdustOptions → List ℕ → Buffers → Buffers → Type 0} {b b′ c c′ : Buffers} {r q : Answer}
       → Answered Tables o s b b′ r → Answered Tables o t c c′ q → r .refusal ≡ 0 → q .refusal ≡ 0
-      → lnRead o c′ ≡ lnRead o b′ → fRead o c′ ≡ fRead o b′
+      → AgreeTo (o .«window_size») (lnRead o c′) (lnRead o b′) → AgreeTo (o .«window_size») (fRead o c′) (fRead o b′)
       → rows (q .count) (c′ .starts) (c′ .ends) ≡ backwards (length s) (rows (r .count) (b′ .starts) (b′ .ends))
   unfolding mask setup
   mirror {Tables} {b} {b′} {c} {c′} {r} {q} A B ra rb ln f =
       let S = setup o (lnRead o b′) (fRead o b′) in
-      let some = admitted o s _ (sym (A .number) ∙ ra) .bounds .kmer-low in
+      let bounds = admitted o s _ (sym (A .number) ∙ ra) .bounds in
       let one = A .accepted ra .buffers .list .list-is ∙ ap (λ (k : Bool). maskOf S k (codes s)) both in
       B .accepted rb .buffers .list .list-is
-      ∙ ap₂ (λ (x : List Float) (y : List Float). maskOf (setup o x y) (o .«forward_only») (codes t)) ln f
+      ∙ mask-agree o ln f (omega (arith, bounds .window-low)) (bounds .start-low) t
       ∙ ap₂ (λ (k : Bool) (z : List ℕ). maskOf S k z) both other
-      ∙ mask-mirror S (codes s) some
+      ∙ mask-mirror S (codes s) (bounds .kmer-low)
       ∙ ap₂ (λ (n : ℕ) (z : List Interval). backwards n z) (codes-length s) (sym one)
 
-  -- On the same tables.
+  -- On tables that agree on entries 1..w.
   pub process-tables-mirror : {b b′ c c′ : Buffers} {r q : Answer} → Answered Kept o s b b′ r → Answered Kept o t c c′ q
-      → r .refusal ≡ 0 → q .refusal ≡ 0 → lnRead o c ≡ lnRead o b → fRead o c ≡ fRead o b
+      → r .refusal ≡ 0 → q .refusal ≡ 0 → AgreeTo (o .«window_size») (c .ln) (b .ln) → AgreeTo (o .«window_size») (c .f) (b .f)
       → rows (q .count) (c′ .starts) (c′ .ends) ≡ backwards (length s) (rows (r .count) (b′ .starts) (b′ .ends))
   process-tables-mirror A B ra rb ln f =
       let w = o .«window_size» in
       let a = A .tables ra in
       let b = B .tables rb in
-      mirror A B ra rb
-      (ap (λ (z : List Float). take (w + 1) z) (b .ln) ∙ ln ∙ sym (ap (λ (z : List Float). take (w + 1) z) (a .ln)))
-      (ap (λ (z : List Float). take (w + 2) z) (b .f) ∙ f ∙ sym (ap (λ (z : List Float). take (w + 2) z) (a .f)))
+      mirror A B ra rb (rw (a .ln, b .ln) (agree-take (w + 1) (omega arith) ln)) (rw (a .f, b .f) (agree-take (w + 2) (omega arith) f))
 
   -- On the tables that the call fills: the GC is the same, and so are the tables.
   pub process-mirror : {b b′ c c′ : Buffers} {r q : Answer} → Answered Filled o s b b′ r → Answered Filled o t c c′ q
@@ -86,5 +87,5 @@ module _ (o : LongdustOptions) (s t : List ℕ) (both : o .«forward_only» ≡ 
       let w = o .«window_size» in
       let same : density (o .kmer) (o .gc) (codes t) ≡ density (o .kmer) (o .gc) (codes s) =
       ap (λ (z : List ℕ). density (o .kmer) (o .gc) z) other ∙ density-reverseComplement (o .kmer) (o .gc) (codes s) in
-      mirror A B ra rb (filled-ln (B .tables rb) ∙ sym (filled-ln (A .tables ra)))
-      (filled-f (B .tables rb) ∙ ap (λ (d : Density). fTable (o .kmer) w d) same ∙ sym (filled-f (A .tables ra)))
+      mirror A B ra rb (agree-equal (filled-ln (B .tables rb) ∙ sym (filled-ln (A .tables ra))))
+      (agree-equal (filled-f (B .tables rb) ∙ ap (λ (d : Density). fTable (o .kmer) w d) same ∙ sym (filled-f (A .tables ra))))

@@ -23,6 +23,7 @@ pub record Bounds (o : LongdustOptions) : Type 0 where
   pub window-low : o .kmer + 1 ≤ o .«window_size»
   pub window-high : o .«window_size» ≤ 65535
   pub threshold-good : thresholdBad (o .«score_threshold») ≡ false
+  pub start-low : 2 ≤ o .«min_start_cnt»
 
 -- Enough of each buffer for n letters.
 pub record Enough (n k w : ℕ) (b : Lent) : Type 0 where

@@ -5,6 +5,7 @@ pub mod Placing
 pub mod Evidence
 pub mod Shorter
 pub mod Range
+pub mod Agreeing
 pub mod Theorems
 pub mod Examples
 pub mod Signed
