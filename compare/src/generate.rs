@@ -324,17 +324,21 @@ const TURNS: [&Sizes; 20] = [
     &LONG, &WIDE, &LONGEST, &LONGER, &LONG, &WIDE,
 ];
 
-/// Random letters with repeats planted among them, at either end too, at most this many letters of them.
-fn planted(rng: &mut Rng, n: usize, most: usize) -> Vec<u8> {
-    let mut all = letters(rng, n, b"ACGT");
-    let longest = (most / rng.pick(&[1, 2, 3, 6])).max(40);
+/// Random letters with repeats and some N among them, at either end too; at most this many lie in repeats.
+fn with_repeats(rng: &mut Rng, n: usize, most: usize) -> Vec<u8> {
+    const SHORTEST: usize = 40;
+    let mut all = letters(rng, n, b"ACGTACGTACGTACGTacgt");
+    let longest = (most / rng.pick(&[1, 2, 3, 6])).max(SHORTEST);
     let mut left = most;
-    while left >= 40 {
-        let length = 40 + rng.below(longest.min(left) - 39);
+    while left >= SHORTEST {
+        let length = SHORTEST + rng.below(longest.min(left) - SHORTEST + 1);
         let period = 1 + rng.below((length / 8).min(40));
         let unit = letters(rng, period, b"ACGT");
         let errors = rng.pick(&[0, 30, 10]);
-        let piece = tandem(rng, &unit, length, errors);
+        let mut piece = tandem(rng, &unit, length, errors);
+        if rng.one_in(4) {
+            piece[length / 2] = b'N';
+        }
         let anywhere = rng.below(n - length + 1);
         let start = rng.pick(&[0, n - length, anywhere, anywhere]);
         all[start..start + length].copy_from_slice(&piece);
@@ -352,8 +356,9 @@ pub fn long(seed: u64, number: u64) -> Request {
     let (w, n) = (between(sizes.w), between(sizes.n));
     let mut request = options(rng, k, w);
     vary(rng, &mut request);
-    request.forward_only |= k < 9 && n > w && w > 5000;
+    // Where k is small, one strand has to do for a wide window that gets full.
+    request.forward_only |= k < 9 && n > w && w > 40_000;
     // The original clears 4^k counts for each letter of a repeat, some times over.
-    request.sequence = planted(rng, n, (n / 3).min(2_000_000_000 >> (2 * k)).min(50_000_000 / w));
+    request.sequence = with_repeats(rng, n, (n / 3).min(2_000_000_000 >> (2 * k)).min(50_000_000 / w));
     request
 }

@@ -69,7 +69,7 @@ mod checks {
     include!(concat!(env!("OUT_DIR"), "/checks.rs"));
 
     /// Its errors in the paper's order; what they hold is for messages.
-    #[allow(dead_code)]
+    #[allow(dead_code, clippy::enum_variant_names)]
     pub enum InputError {
         KmerSizeError(usize, usize),
         NonAsciiSequenceError,

@@ -4,11 +4,13 @@ use crate::port::{difference, Port};
 use crate::request::{Answer, Request, Tables};
 use std::sync::atomic::{AtomicU64, Ordering};
 use std::thread;
+use std::time::{Duration, Instant};
 
 /// How many differing requests are printed.
 const SHOWN: usize = 3;
-/// How many smaller requests are tried for each.
+/// How many smaller requests are tried for each, and for how long.
 const TRIES: usize = 3000;
+const LONGEST: Duration = Duration::from_secs(20);
 
 #[derive(Default)]
 pub struct Summary {
@@ -116,11 +118,11 @@ pub fn command(port: Port, list: List, seed: u64, count: u64) -> (u64, u64) {
 
 /// A smaller request that still fails.
 pub fn shrink(mut request: Request, fails: impl Fn(&Request) -> bool) -> Request {
-    let mut tries = 0;
+    let (mut tries, start) = (0, Instant::now());
     loop {
         let smaller = simpler(&request).into_iter().find(|simpler| {
             tries += 1;
-            tries <= TRIES && fails(simpler)
+            tries <= TRIES && start.elapsed() < LONGEST && fails(simpler)
         });
         match smaller {
             Some(simpler) => request = simpler,
