@@ -62,6 +62,11 @@ const WRONG: &[Change] = &[
     Change("merge_touching", "intv.start <= end", "intv.start < end"),
     Change("save_touching", "start <= self.results[k - 1].end", "start < self.results[k - 1].end"),
     Change("last_q_stays", "last_q -= 1", "last_q -= 0"),
+    Change(
+        "last_q_each_letter",
+        "self.window.push_back(packed);",
+        "last_q -= (last_q > 0 && i < self.options.window_size) as i64; self.window.push_back(packed);",
+    ),
     Change("scan_count_stays", "= ht_k - 1;", "= ht_k;"),
     Change("extend_early", "(i as i64) - start >= qlen", "(i as i64) - start + 1 >= qlen"),
     Change("never_extend", "j = self.extend();", "j = -1;"),
