@@ -14,7 +14,7 @@ use Rattle.floats.specs.Binary64.{slack}
 use Rattle.letters.specs.Place.{Place, Below}
 use Rattle.letters.specs.Entry.{decode}
 use Rattle.scans.specs.declared.Params.{Params}
-use Rattle.scans.specs.declared.BackwardState.{BackwardState}
+use Rattle.scans.specs.declared.backward.BackwardState.{BackwardState}
 use Rattle.scans.specs.declared.Carry.{Carry}
 use Rattle.scans.specs.declared.Scanned.{Scanned}
 use Rattle.scans.specs.Setup.{Setup, fAt, kmers, setupOf}

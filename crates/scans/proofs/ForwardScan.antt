@@ -13,7 +13,7 @@ use Rattle.floats.specs.Arithmetic.{_⊕_, _⊖_}
 use Rattle.floats.specs.Binary64.{slack}
 use Rattle.letters.specs.Place.{Place, ambiguous, plain}
 use Rattle.letters.specs.Entry.{decode}
-use Rattle.scans.specs.declared.ForwardState.{ForwardState}
+use Rattle.scans.specs.declared.forward.ForwardState.{ForwardState}
 use Rattle.scans.specs.declared.Params.{Params}
 use Rattle.scans.specs.Setup.{Setup, fAt, setupOf}
 use Rattle.scans.specs.Counts.{raise}

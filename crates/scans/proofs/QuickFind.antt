@@ -10,7 +10,7 @@ use Rattle.scans.specs.Setup.{Setup}
 use Rattle.scans.specs.Counts.{cleared}
 use Rattle.scans.specs.Scans.{backwardStart, Backward, backwardFrom, at, Forward, dustForward, dustBackward}
 use Rattle.scans.specs.Quick.{Quick, quickFrom}
-use Rattle.scans.proofs.Candidates.{backward-scanned}
+use Rattle.scans.proofs.Noting.{backward-scanned}
 use Rattle.scans.proofs.QuickScan.{Agrees, quick-backward, best-tried}
 
 module _ (S : Setup) (q : List Place) (r : Quick) (is : r ≡ quickFrom S q (length q) 1 backwardStart (cleared S)) (clear : r .tied ≡ false) where

@@ -20,7 +20,7 @@ use Rattle.scans.specs.Counts.{raise, cleared}
 use Rattle.scans.specs.Scans.{value, Candidate, candidate, noCandidate, secondValue, BackwardSums, backwardStart, isNoted, noted, isDropped, backwardJudged, Backward, backwardFrom, withBest, none, at, dustForward, tryFrom, tried}
 use Rattle.scans.specs.Quick.{Quick, isTied, quickFrom}
 use Rattle.scans.proofs.Test.{by-test, by-test-both}
-use Rattle.scans.proofs.Candidates.{first-not-noted}
+use Rattle.scans.proofs.Noting.{first-not-noted}
 
 -- The last candidate of a list.
 abbrev last : List Candidate → Candidate

@@ -11,7 +11,7 @@ use Rattle.letters.specs.Place.{Place, ambiguous, plain}
 use Rattle.letters.specs.Entry.{decode}
 use Rattle.letters.proofs.Entries.{decode-plain}
 use Rattle.scans.specs.declared.Params.{Params}
-use Rattle.scans.specs.declared.BackwardState.{BackwardState}
+use Rattle.scans.specs.declared.backward.BackwardState.{BackwardState}
 use Rattle.scans.specs.Setup.{Setup, fAt, kmers, setupOf}
 use Rattle.scans.specs.Counts.{count, raise, Counted}
 use Rattle.scans.specs.Scans.{value, secondValue}

@@ -11,15 +11,15 @@ use lib.Dec.{eqb, ltb}
 use borrow.Author.Tests.{eqb-true, eqb-false}
 use Rattle.letters.specs.Place.{Place}
 use Rattle.scans.specs.declared.ForwardPosition.{ForwardPosition}
-use Rattle.scans.specs.declared.BackwardState.{BackwardState}
-use Rattle.scans.specs.declared.Search.{Search}
+use Rattle.scans.specs.declared.backward.BackwardState.{BackwardState}
+use Rattle.scans.specs.declared.candidates.Search.{Search}
 use Rattle.scans.specs.Setup.{Setup, kmers}
 use Rattle.scans.specs.Counts.{cleared}
 use Rattle.scans.specs.Scans.{Candidate, candidate, noCandidate, BackwardSums, backwardStart, Backward, backwardFrom, withBest}
 use Rattle.scans.specs.Parts.{backwardOf, withPeak, resumed, BackwardPart}
 use Rattle.scans.specs.Search.{candidateOf, candidatesIn, FreshSearch, notingAt, restingAt, goneOn, finishedOf, toTry, withFresh, sought, Noted, Searches, NextCandidate, ScansBackward}
 use Rattle.scans.proofs.Test.{by-test, neither}
-use Rattle.scans.proofs.Candidates.{AllBelow, backward-scanned, candidates-fit}
+use Rattle.scans.proofs.Noting.{AllBelow, backward-scanned, candidates-fit}
 use Rattle.scans.proofs.Slices.{candidates-length, candidates-push}
 use Rattle.scans.proofs.BackwardScan.{backs-start}
 

@@ -10,10 +10,10 @@ use lib.Dec.{eqb}
 use lib.Ieee.{Float}
 use borrow.Author.Tests.{lt-ltb, le-ltb, eq-eqb, ne-eqb}
 use Rattle.letters.specs.Place.{Place}
-use Rattle.scans.specs.declared.ForwardState.{ForwardState}
+use Rattle.scans.specs.declared.forward.ForwardState.{ForwardState}
 use Rattle.scans.specs.declared.ForwardPosition.{ForwardPosition}
 use Rattle.scans.specs.declared.Scanned.{Scanned}
-use Rattle.scans.specs.declared.Trial.{Trial}
+use Rattle.scans.specs.declared.candidates.Trial.{Trial}
 use Rattle.scans.specs.Setup.{Setup}
 use Rattle.scans.specs.Counts.{cleared}
 use Rattle.scans.specs.Scans.{none, at, Outcome, ForwardSums, Candidate, noCandidate, larger, dustForward, tryFrom}

@@ -11,7 +11,7 @@ use Rattle.floats.specs.Binary64.{zero64}
 use Rattle.letters.specs.Place.{Place}
 use Rattle.scans.specs.declared.Carry.{Carry}
 use Rattle.scans.specs.declared.Scanned.{Scanned}
-use Rattle.scans.specs.declared.BackwardState.{BackwardState}
+use Rattle.scans.specs.declared.backward.BackwardState.{BackwardState}
 use Rattle.scans.specs.Setup.{Setup, fAt}
 use Rattle.scans.specs.Counts.{count, raise, cleared}
 use Rattle.scans.specs.Scans.{Find, none, at, Outcome, value, Forward, forwardStart, forwardFrom, dustBackward}

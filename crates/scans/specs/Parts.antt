@@ -8,8 +8,8 @@ use lib.Ieee.{Float, nan, lt}
 use Rattle.floats.specs.Arithmetic.{_⊕_, _⊖_}
 use Rattle.floats.specs.Binary64.{zero64}
 use Rattle.letters.specs.Place.{Place, ambiguous, plain}
-use Rattle.scans.specs.declared.ForwardState.{ForwardState}
-use Rattle.scans.specs.declared.BackwardState.{BackwardState}
+use Rattle.scans.specs.declared.forward.ForwardState.{ForwardState}
+use Rattle.scans.specs.declared.backward.BackwardState.{BackwardState}
 use Rattle.scans.specs.Setup.{Setup, kmers}
 use Rattle.scans.specs.Counts.{raise, Counted}
 use Rattle.scans.specs.Scans.{ForwardSums, Forward, forwardFrom, Candidate, candidate, BackwardSums, backwardStart, Backward, backwardFrom}

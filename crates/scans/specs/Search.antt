@@ -8,9 +8,9 @@ use lib.Dec.{eqb, ltb}
 use lib.Ieee.{nan}
 use Rattle.letters.specs.Place.{Place}
 use Rattle.scans.specs.declared.ForwardPosition.{ForwardPosition}
-use Rattle.scans.specs.declared.BackwardState.{BackwardState}
-use Rattle.scans.specs.declared.Search.{Search}
-use Rattle.scans.specs.declared.Trial.{Trial}
+use Rattle.scans.specs.declared.backward.BackwardState.{BackwardState}
+use Rattle.scans.specs.declared.candidates.Search.{Search}
+use Rattle.scans.specs.declared.candidates.Trial.{Trial}
 use Rattle.scans.specs.Setup.{Setup, kmers}
 use Rattle.scans.specs.Counts.{cleared}
 use Rattle.scans.specs.Scans.{Outcome, Candidate, candidate, noCandidate, backwardStart, Backward, backwardFrom, withBest, tryFrom}
