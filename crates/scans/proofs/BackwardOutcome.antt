@@ -15,7 +15,7 @@ use Rattle.scans.specs.Counts.{cleared}
 use Rattle.scans.specs.Scans.{none, Outcome, Candidate, noCandidate, backwardStart, Backward, backwardFrom, withBest, tryFrom, tried, dustBackward}
 use Rattle.scans.specs.Window.{Windowed, Roomy}
 use Rattle.scans.specs.Parts.{Ringed}
-use Rattle.scans.specs.Search.{candidatesIn, toTry, ScansBackward, Holds}
+use Rattle.scans.specs.Search.{candidatesIn, toTry, ScansBackward, HoldsCandidates}
 use Rattle.scans.specs.Carry.{Answers}
 use Rattle.scans.proofs.Noting.{AllBelow}
 use Rattle.scans.proofs.Walk.{windowed-queued}
@@ -43,7 +43,7 @@ to-tried S q b r counts t = go (eqb (b .found) 0) (withBest (b .best) (b .found)
     go false cs a = a
 
 -- What the slice holds can be tried.
-pub all-held : (S : Setup) (q : List Place) (len n : ℕ) (counts : List ℕ) (records : List ForwardPosition) → ScansBackward S q counts (candidatesIn n records) → length q ≡ len → 0 < len → len ≤ length records → Holds len n records
+pub all-held : (S : Setup) (q : List Place) (len n : ℕ) (counts : List ℕ) (records : List ForwardPosition) → ScansBackward S q counts (candidatesIn n records) → length q ≡ len → 0 < len → len ≤ length records → HoldsCandidates len n records
 all-held S q len n counts records h l some room =
     let k = candidates-length n records in
     let fit : (length (candidatesIn n records) ≤ length q) × AllBelow (length q) (candidatesIn n records) = rw (h .all) (to-try-fit S q (omega arith)) in

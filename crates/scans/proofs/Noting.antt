@@ -39,14 +39,14 @@ noted-below n a sl i cs h l =
 
 judged-in : (n : ℕ) (a : BackwardSums) (s sw sl : Float) (i : ℕ) → a .found ≤ n → i < n → backwardJudged a s sw sl i .found ≤ n
 judged-in n a s sw sl i h l =
-    by-test (λ (z : BackwardSums). z .found ≤ n) (le (a .best) sl) (record { s = s; sw = sw; last = sl; best = sl; found = i + 1 })
-    (record { s = s; sw = sw; last = sl; best = a .best; found = a .found })
+    by-test (λ (z : BackwardSums). z .found ≤ n) (le (a .best) sl) (record { s = s; sw = sw; previous = sl; best = sl; found = i + 1 })
+    (record { s = s; sw = sw; previous = sl; best = a .best; found = a .found })
     (λ _. omega arith) (λ _. h)
 
 -- The last score is -1.0 at first, which is no peak above 0.
 pub first-not-noted : (sl : Float) → isNoted backwardStart sl ≡ false
 unfolding lt neg ofBits ofFields
-first-not-noted sl = go (lt sl (backwardStart .last))
+first-not-noted sl = go (lt sl (backwardStart .previous))
   where
     go : (t : Bool) → t && false ≡ false
     go true = refl

@@ -1,59 +1,57 @@
-// The backward scan, from peak to peak.
+// The backward scan, which rests where it pauses, where it stops, and at the ring's ends.
 
 ghost use mathlib.Core.Path.{_≡_};
-ghost use mathlib.Core.Bool.{cond, not, _&&_, _||_};
-ghost use Prim.Native.Nat.{_/_, _%_, _^_, _<_, _≤_};
+ghost use mathlib.Core.Bool.{_||_};
+ghost use Prim.Native.Nat.{_+_, _-_, _/_, _%_, _^_, _<_, _≤_};
 ghost use lib.ListN.{length, getD};
-ghost use lib.Dec.{eqb, ltb};
-ghost use lib.Ieee.{lt};
-ghost use Rattle.floats.specs.Arithmetic.{_⊖_};
-ghost use Rattle.letters.specs.Entry.{decode};
+ghost use lib.Dec.{eqb};
+ghost use Rattle.letters.specs.Entry.{decode, decoded};
 ghost use Rattle.scans.specs.Setup.{setupOf};
 ghost use Rattle.scans.specs.Scans.{isNoted};
 ghost use Rattle.scans.specs.Window.{window, Windowed};
-ghost use Rattle.scans.specs.Parts.{Straight, backwardOf, AddsEntry, withBestAt, withLast, pausedAt, stoppedAt, Fresh, Backs, BackwardPart};
+ghost use Rattle.scans.specs.Parts.{backwardOf, AddsEntry, withBestAt, withPrevious, restsAt, Fresh, pauses, tooLow, goesOn, restOf, restOver, Coded, Room, Backs, GoesOn};
 use crate::Params;
-use crate::queue::seam;
 
-// The two sums of a backward scan, its last and its best score, one past the index that had the best (0: none),
-// the oldest entry read, whether that one left a peak, which stands one newer, and whether the scan has stopped, for a near tie or not.
+// A score less than this below the best is a near tie.
+const TINY: f64 = 1e-9;
+
+// The two sums of a backward scan, the score before and the best score, one past the index that had the best (0: none),
+// and where it rests: the oldest entry read, whether it paused there, and whether it has stopped.
 pub struct BackwardState {
     pub s: f64,
     pub sw: f64,
-    pub last: f64,
+    pub previous: f64,
     pub best: f64,
     pub found: usize,
     pub low: usize,
-    pub peak: bool,
+    pub paused: bool,
     pub done: bool,
-    pub tied: bool,
 }
 
 impl BackwardState {
-    // A scan that has read no entry; `low` is one past the first to read. A quick scan sets it only where it stops, and begins with 0.
+    // A scan that has read no entry; `low` is one past the first to read.
     pub fn new(low: usize) -> Self
         ensures { λ r. ⌜ Fresh low r ⌝ }
     {
         Self {
             s: 0.0,
             sw: 0.0,
-            last: -1.0,
+            previous: -1.0,
             best: 0.0,
             found: 0,
             low: low,
-            peak: false,
+            paused: false,
             done: false,
-            tied: false,
         }
     }
 
     // Counts an entry, and adds to both sums.
-    pub fn add_entry(
+    fn add_entry(
         mut self,
         threshold: f64,
+        entry: u32,
         window_counts: &[u16],
         ln: &[f64],
-        entry: u32,
         scan_counts: &mut [u16],
     ) -> Self
         requires { ⌜ (entry / 2 < length (now «window_counts»)) × (entry / 2 < length (now «scan_counts»)) × (getD (now «window_counts») (entry / 2) 0 ≤ 65535) × (getD (now «window_counts») (entry / 2) 0 < length (now ln)) ⌝ }
@@ -74,62 +72,64 @@ impl BackwardState {
         self
     }
 
-    pub fn raised(mut self, sl: f64, i: usize) -> Self
+    // The score of entry i is the new best.
+    fn raised(mut self, sl: f64, i: usize) -> Self
         requires { ⌜ i < 65535 ⌝ }
         ensures { λ r. ⌜ r ≡ withBestAt self sl i ⌝ }
     {
-        self.last = sl;
+        self.previous = sl;
         self.best = sl;
         self.found = i + 1;
         self
     }
 
-    pub fn fallen(mut self, sl: f64) -> Self
-        ensures { λ r. ⌜ r ≡ withLast self sl ⌝ }
+    // The score is below the best.
+    fn fallen(mut self, sl: f64) -> Self
+        ensures { λ r. ⌜ r ≡ withPrevious self sl ⌝ }
     {
-        self.last = sl;
+        self.previous = sl;
         self
     }
 
     // Whether the score falls from a peak above 0 and within 1e-9 of the best.
-    pub fn leaves_peak(self, sl: f64) -> bool
+    fn leaves_peak(self, sl: f64) -> bool
         ensures { λ r. ⌜ r ≡ isNoted (backwardOf self) sl ⌝ }
     {
-        if floats::near_zero(self.last - self.best) {
-            if sl < self.last {
-                return self.last > 0.0;
+        if floats::near_zero(self.previous - self.best) {
+            if sl < self.previous {
+                return self.previous > 0.0;
             }
         }
         false
     }
 
-    // Whether the score is too far below the best.
-    pub fn too_low(self, sl: f64, limit: f64) -> bool
-        ensures { λ r. ⌜ r ≡ (not (eqb (self .found) 0) && lt limit (self .best ⊖ sl)) ⌝ }
+    // Whether a score below the best makes the scan pause: the fall from a peak, or, of a quick scan, a near tie.
+    fn pauses(self, quick: bool, sl: f64) -> bool
+        ensures { λ r. ⌜ r ≡ pauses quick (backwardOf self) sl ⌝ }
     {
-        if self.best - sl > limit {
+        if quick {
+            return self.best - sl < TINY;
+        }
+        self.leaves_peak(sl)
+    }
+
+    // Whether the score is too far below the best.
+    fn too_low(self, sl: f64, drop_limit: f64) -> bool
+        ensures { λ r. ⌜ r ≡ tooLow «drop_limit» (backwardOf self) sl ⌝ }
+    {
+        if self.best - sl > drop_limit {
             return self.found != 0;
         }
         false
     }
 
-    // The scan rests at entry i, which left a peak or not, and has stopped or not.
-    pub fn paused(mut self, i: usize, peak: bool, done: bool) -> Self
-        ensures { λ r. ⌜ r ≡ pausedAt self i peak done ⌝ }
+    // The scan rests at entry i, where it paused or not, and has stopped or not.
+    fn resting(mut self, i: usize, paused: bool, done: bool) -> Self
+        ensures { λ r. ⌜ r ≡ restsAt self i paused done ⌝ }
     {
         self.low = i;
-        self.peak = peak;
+        self.paused = paused;
         self.done = done;
-        self
-    }
-
-    // The scan stops at entry i, for a near tie or not.
-    pub fn stopped(mut self, i: usize, tied: bool) -> Self
-        ensures { λ r. ⌜ r ≡ stoppedAt self i tied ⌝ }
-    {
-        self.low = i;
-        self.done = true;
-        self.tied = tied;
         self
     }
 
@@ -142,97 +142,105 @@ impl BackwardState {
         }
         self.low == 0
     }
+
+    // Whether a scan that rests where it pauses has entries left to read.
+    pub fn goes_on(self) -> bool
+        ensures { λ r. ⌜ r ≡ goesOn self ⌝ }
+    {
+        if self.paused {
+            return false;
+        }
+        if self.done {
+            return false;
+        }
+        0 < self.low
+    }
 }
 
-// A backward scan goes on down to entry `from`, or until it stops or leaves a peak; entry i stands at index head + i - turn.
+// A backward scan goes on over a straight part of the ring, the newest entry first, until it pauses or stops; the part's entries are those before `state.low`.
 fn backward_part(
     p: Params,
-    ring: &[u32],
-    head: usize,
-    len: usize,
-    turn: usize,
-    from: usize,
+    quick: bool,
     state: BackwardState,
+    part: &[u32],
+    len: usize,
     window_counts: &[u16],
     ln: &[f64],
     f: &[f64],
     scan_counts: &mut [u16],
 ) -> BackwardState
-    requires { ⌜ Windowed p (now ring) head len (now «window_counts») (length (now ln)) ⌝ }
-    requires { ⌜ Straight (length (now ring)) head from (state .low) turn ⌝ }
-    requires { ⌜ (from < state .low) × (p .«window_size» < length (now f)) ⌝ }
-    requires { ⌜ Backs (4 ^ p .kmer) (window (now ring) head len) state (now «scan_counts») ⌝ }
-    ensures { λ r. ⌜ BackwardPart (setupOf p (now (ln .entry)) (now (f .entry))) (window (now (ring .entry)) head len) state r (now («scan_counts» .entry)) (now («scan_counts» .exit)) ⌝ }
+    requires { ⌜ (length (now part) ≤ state .low) × (state .low ≤ len) × (len ≤ 65535) × (len < length (now ln)) × (len < length (now f)) ⌝ }
+    requires { ⌜ Coded (now part) (length (now «scan_counts»)) × (length (now «window_counts») ≡ length (now «scan_counts»)) ⌝ }
+    requires { ⌜ Room len (now «window_counts») (now «scan_counts») (decoded (now part)) ⌝ }
+    ensures { λ r. ⌜ restOf r (now («scan_counts» .exit)) ≡ restOver (setupOf p (now (ln .entry)) (now (f .entry))) (now («window_counts» .entry)) quick
+        len (decoded (now (part .entry))) (state .low - length (now (part .entry))) (length (now (part .entry))) (backwardOf state) (now («scan_counts» .entry)) ⌝ }
 {
     let mut st = state;
-    let mut i = state.low;
-    while from < i {
+    let from = state.low - part.len();
+    let mut i = part.len();
+    while 0 < i {
         i -= 1;
-        let fl = f[len - i];
-        st = st.add_entry(
-            p.score_threshold,
-            window_counts,
-            ln,
-            ring[head + i - turn],
-            scan_counts,
-        );
+        let at = i + from;
+        let fl = f[len - at];
+        st = st.add_entry(p.score_threshold, part[i], window_counts, ln, scan_counts);
         if st.sw - fl < 0.0 {
-            return st.paused(i, false, true);
+            return st.resting(at, false, true);
         }
         let sl = st.s - fl;
         if sl >= st.best {
-            st = st.raised(sl, i);
+            st = st.raised(sl, at);
             continue;
         }
-        let peak = st.leaves_peak(sl);
+        let pause = st.pauses(quick, sl);
         let low = st.too_low(sl, p.drop_limit);
         st = st.fallen(sl);
-        if peak | low {
-            return st.paused(i, peak, low);
+        if pause | low {
+            return st.resting(at, pause, low);
         }
     }
-    st.paused(from, false, false)
-}
-
-// x if entries are left past the ring's end, that is, from `mid` on; else 0.
-fn if_past(mid: usize, low: usize, x: usize) -> usize
-    ensures { λ r. ⌜ r ≡ cond (ltb mid low) x 0 ⌝ }
-{
-    if mid < low {
-        return x;
-    }
-    0
+    st.resting(from, false, false)
 }
 
 // A backward scan goes on over what is left of the ring's newer part, or else of its older part.
 pub fn backward_on(
     p: Params,
-    ring: &[u32],
+    quick: bool,
+    state: BackwardState,
+    queue: &[u32],
     head: usize,
     len: usize,
-    state: BackwardState,
     window_counts: &[u16],
     ln: &[f64],
     f: &[f64],
     scan_counts: &mut [u16],
 ) -> BackwardState
-    requires { ⌜ Windowed p (now ring) head len (now «window_counts») (length (now ln)) ⌝ }
+    requires { ⌜ Windowed p (now queue) head len (now «window_counts») (length (now ln)) ⌝ }
     requires { ⌜ (0 < state .low) × (p .«window_size» < length (now f)) ⌝ }
-    requires { ⌜ Backs (4 ^ p .kmer) (window (now ring) head len) state (now «scan_counts») ⌝ }
-    ensures { λ r. ⌜ BackwardPart (setupOf p (now (ln .entry)) (now (f .entry))) (window (now (ring .entry)) head len) state r (now («scan_counts» .entry)) (now («scan_counts» .exit)) ⌝ }
+    requires { ⌜ Backs (4 ^ p .kmer) (window (now queue) head len) (restOf state (now «scan_counts»)) ⌝ }
+    ensures { λ r. ⌜ GoesOn (setupOf p (now (ln .entry)) (now (f .entry))) (now («window_counts» .entry)) quick (window (now (queue .entry)) head len)
+        (restOf state (now («scan_counts» .entry))) (restOf r (now («scan_counts» .exit))) ⌝ }
 {
-    let low = state.low;
-    let mid = seam(ring.len(), head, len, 0);
-    let turn = if_past(mid, low, ring.len());
-    let from = if_past(mid, low, mid);
+    let to = head + state.low;
+    if queue.len() < to {
+        let past = to - queue.len();
+        return backward_part(
+            p,
+            quick,
+            state,
+            &queue[..past],
+            len,
+            window_counts,
+            ln,
+            f,
+            scan_counts,
+        );
+    }
     backward_part(
         p,
-        ring,
-        head,
-        len,
-        turn,
-        from,
+        quick,
         state,
+        &queue[head..to],
+        len,
         window_counts,
         ln,
         f,

@@ -2,14 +2,14 @@
 
 ghost use mathlib.Core.Path.{_≡_};
 ghost use mathlib.Core.List.{List};
-ghost use Prim.Native.Nat.{ℕ, _^_, _<_, _≤_};
+ghost use Prim.Native.Nat.{ℕ, _^_, _<_, _≤_, max};
 ghost use lib.ListN.{length, getD, set, replicate};
 ghost use Rattle.scans.specs.Setup.{setupOf};
-ghost use Rattle.scans.specs.Scans.{larger, tryFrom};
+ghost use Rattle.scans.specs.Scans.{tryFrom};
 ghost use Rattle.scans.specs.Window.{window, Windowed, Roomy};
 ghost use Rattle.scans.specs.Carry.{Answers};
 ghost use Rattle.scans.specs.Parts.{Ringed};
-ghost use Rattle.scans.specs.Search.{noPosition, candidatesIn, FreshSearch, notingAt, goneOn, finishedOf, Searches, NextCandidate, ScansBackward, Holds, FreshTrial, NextTrial};
+ghost use Rattle.scans.specs.Search.{noPosition, candidatesIn, FreshSearch, notingAt, goneOn, finishedOf, Searches, NextCandidate, ScansBackward, HoldsCandidates, FreshTrial, NextTrial};
 use crate::Carry;
 use crate::ForwardPosition;
 use crate::Params;
@@ -68,7 +68,7 @@ impl Search {
     {
         self.scan = scan;
         self.fresh = false;
-        if scan.peak {
+        if scan.paused {
             return self.noting(scan.low + 2);
         }
         self
@@ -98,7 +98,7 @@ impl Search {
     fn next(
         self,
         p: Params,
-        ring: &[u32],
+        queue: &[u32],
         head: usize,
         len: usize,
         window_counts: &[u16],
@@ -106,18 +106,29 @@ impl Search {
         f: &[f64],
         scan_counts: &mut [u16],
     ) -> Self
-        requires { ⌜ Windowed p (now ring) head len (now «window_counts») (length (now ln)) ⌝ }
+        requires { ⌜ Windowed p (now queue) head len (now «window_counts») (length (now ln)) ⌝ }
         requires { ⌜ (p .«window_size» < length (now f)) × (length (now «scan_counts») ≡ 4 ^ p .kmer) ⌝ }
-        requires { ⌜ Searches (4 ^ p .kmer) (window (now ring) head len) self (now «scan_counts») ⌝ }
-        ensures { λ r. ⌜ NextCandidate (setupOf p (now (ln .entry)) (now (f .entry))) (window (now (ring .entry)) head len) self r (now («scan_counts» .entry)) (now («scan_counts» .exit)) ⌝ }
+        requires { ⌜ Searches (4 ^ p .kmer) (window (now queue) head len) self (now «scan_counts») ⌝ }
+        ensures { λ r. ⌜ NextCandidate (setupOf p (now (ln .entry)) (now (f .entry))) (window (now (queue .entry)) head len) self r (now («scan_counts» .entry)) (now («scan_counts» .exit)) ⌝ }
     {
         let scan = self.scan;
         if scan.ended() {
             let low = scan.low;
-            clear_from(ring, head, len, low, scan_counts);
+            clear_from(queue, head, len, low, scan_counts);
             return self.finished();
         }
-        let on = backward_on(p, ring, head, len, scan, window_counts, ln, f, scan_counts);
+        let on = backward_on(
+            p,
+            false,
+            scan,
+            queue,
+            head,
+            len,
+            window_counts,
+            ln,
+            f,
+            scan_counts,
+        );
         self.gone_on(on)
     }
 }
@@ -139,7 +150,7 @@ pub fn set_candidate(candidates: &mut [ForwardPosition], i: usize, c: ForwardPos
 // The candidates to try, from cleared counts, and how many; the counts are cleared again.
 pub fn scan_backward(
     p: Params,
-    ring: &[u32],
+    queue: &[u32],
     head: usize,
     len: usize,
     window_counts: &[u16],
@@ -148,14 +159,14 @@ pub fn scan_backward(
     scan_counts: &mut [u16],
     candidates: &mut [ForwardPosition],
 ) -> usize
-    requires { ⌜ Windowed p (now ring) head len (now «window_counts») (length (now ln)) ⌝ }
+    requires { ⌜ Windowed p (now queue) head len (now «window_counts») (length (now ln)) ⌝ }
     requires { ⌜ Roomy p (length (now f)) (length (now «scan_counts»)) (length (now candidates)) ⌝ }
     requires { ⌜ (0 < len) × (now «scan_counts» ≡ replicate (4 ^ p .kmer) 0) ⌝ }
-    ensures { λ r. ⌜ ScansBackward (setupOf p (now (ln .entry)) (now (f .entry))) (window (now (ring .entry)) head len) (now («scan_counts» .exit)) (candidatesIn r (now (candidates .exit))) ⌝ }
+    ensures { λ r. ⌜ ScansBackward (setupOf p (now (ln .entry)) (now (f .entry))) (window (now (queue .entry)) head len) (now («scan_counts» .exit)) (candidatesIn r (now (candidates .exit))) ⌝ }
 {
     let mut seek = Search::new(len);
     while seek.on {
-        seek = seek.next(p, ring, head, len, window_counts, ln, f, scan_counts);
+        seek = seek.next(p, queue, head, len, window_counts, ln, f, scan_counts);
         if seek.fresh {
             set_candidate(candidates, seek.noted - 1, seek.last);
         }
@@ -163,8 +174,8 @@ pub fn scan_backward(
     seek.noted
 }
 
-fn larger(a: usize, b: usize) -> usize
-    ensures { λ r. ⌜ r ≡ larger a b ⌝ }
+fn max(a: usize, b: usize) -> usize
+    ensures { λ r. ⌜ r ≡ max a b ⌝ }
 {
     if a < b {
         return b;
@@ -203,7 +214,7 @@ impl Trial {
     fn next(
         self,
         p: Params,
-        ring: &[u32],
+        queue: &[u32],
         head: usize,
         len: usize,
         c: ForwardPosition,
@@ -211,9 +222,9 @@ impl Trial {
         f: &[f64],
         scan_counts: &mut [u16],
     ) -> Self
-        requires { ⌜ Ringed (now ring) head len (length (now ln)) (length (now f)) (length (now «scan_counts»)) ⌝ }
+        requires { ⌜ Ringed (now queue) head len (length (now ln)) (length (now f)) (length (now «scan_counts»)) ⌝ }
         requires { ⌜ (0 < self .left) × (c .pos < len) × (now «scan_counts» ≡ replicate (4 ^ p .kmer) 0) ⌝ }
-        ensures { λ r. ⌜ NextTrial (setupOf p (now (ln .entry)) (now (f .entry))) (window (now (ring .entry)) head len) c self r (now («scan_counts» .entry)) (now («scan_counts» .exit)) ⌝ }
+        ensures { λ r. ⌜ NextTrial (setupOf p (now (ln .entry)) (now (f .entry))) (window (now (queue .entry)) head len) c self r (now («scan_counts» .entry)) (now («scan_counts» .exit)) ⌝ }
     {
         let left = self.left - 1;
         let furthest = self.furthest;
@@ -221,7 +232,7 @@ impl Trial {
         if place + 1 < furthest {
             return self.going(left, furthest);
         }
-        let st = dust_forward(p, ring, head, len, place, c.max_score, ln, f, scan_counts);
+        let st = dust_forward(p, place, c.max_score, queue, head, len, ln, f, scan_counts);
         if st.found == len {
             return Trial {
                 left: 0,
@@ -236,18 +247,18 @@ impl Trial {
                 },
             };
         }
-        clear_from(ring, head, len, place, scan_counts);
+        clear_from(queue, head, len, place, scan_counts);
         if p.approx {
             return self.going(0, len);
         }
-        self.going(left, larger(furthest, st.found))
+        self.going(left, max(furthest, st.found))
     }
 }
 
 // The candidates are tried from cleared counts, the last noted first, until the forward scan of one is best at the newest entry.
 pub fn try_candidates(
     p: Params,
-    ring: &[u32],
+    queue: &[u32],
     head: usize,
     len: usize,
     noted: usize,
@@ -256,15 +267,15 @@ pub fn try_candidates(
     candidates: &[ForwardPosition],
     scan_counts: &mut [u16],
 ) -> Scanned
-    requires { ⌜ Ringed (now ring) head len (length (now ln)) (length (now f)) (length (now «scan_counts»)) ⌝ }
+    requires { ⌜ Ringed (now queue) head len (length (now ln)) (length (now f)) (length (now «scan_counts»)) ⌝ }
     requires { ⌜ now «scan_counts» ≡ replicate (4 ^ p .kmer) 0 ⌝ }
-    requires { ⌜ Holds len noted (now candidates) ⌝ }
-    ensures { λ r. ⌜ ((before : List ℕ) → Answers (setupOf p (now (ln .entry)) (now (f .entry))) (window (now (ring .entry)) head len) (tryFrom (setupOf p (now (ln .entry)) (now (f .entry))) (window (now (ring .entry)) head len) (candidatesIn noted (now (candidates .entry))) noted 0 before) r (now («scan_counts» .exit))) ⌝ }
+    requires { ⌜ HoldsCandidates len noted (now candidates) ⌝ }
+    ensures { λ r. ⌜ ((before : List ℕ) → Answers (setupOf p (now (ln .entry)) (now (f .entry))) (window (now (queue .entry)) head len) (tryFrom (setupOf p (now (ln .entry)) (now (f .entry))) (window (now (queue .entry)) head len) (candidatesIn noted (now (candidates .entry))) noted 0 before) r (now («scan_counts» .exit))) ⌝ }
 {
     let mut trial = Trial::new(noted);
     while 0 < trial.left {
         let c = candidate_at(candidates, trial.left - 1);
-        trial = trial.next(p, ring, head, len, c, ln, f, scan_counts);
+        trial = trial.next(p, queue, head, len, c, ln, f, scan_counts);
     }
     trial.scanned
 }

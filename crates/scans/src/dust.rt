@@ -16,12 +16,12 @@ use crate::candidates::try_candidates;
 use crate::quick::find_quickly;
 
 // One past the index in the window from which a forward scan ends best at the newest entry, 0 where there is none, from cleared counts.
-// A carried scan is that of entries `last` to the newest but one.
+// A carried scan is that of entries `start` to the newest but one.
 pub fn dust_backward(
     p: Params,
     carry: Carry,
-    last: usize,
-    ring: &[u32],
+    start: usize,
+    queue: &[u32],
     head: usize,
     len: usize,
     window_counts: &[u16],
@@ -30,17 +30,17 @@ pub fn dust_backward(
     scan_counts: &mut [u16],
     candidates: &mut [ForwardPosition],
 ) -> Scanned
-    requires { ⌜ Windowed p (now ring) head len (now «window_counts») (length (now ln)) ⌝ }
+    requires { ⌜ Windowed p (now queue) head len (now «window_counts») (length (now ln)) ⌝ }
     requires { ⌜ Roomy p (length (now f)) (length (now «scan_counts»)) (length (now candidates)) ⌝ }
     requires { ⌜ (0 < len) × (now «scan_counts» ≡ replicate (4 ^ p .kmer) 0) ⌝ }
-    requires { ⌜ Carried (setupOf p (now ln) (now f)) (drop last (window (now ring) head (len - 1))) carry ⌝ }
-    ensures { λ r. ⌜ Answers (setupOf p (now (ln .entry)) (now (f .entry))) (window (now (ring .entry)) head len) (dustBackward (setupOf p (now (ln .entry)) (now (f .entry))) (window (now (ring .entry)) head len)) r (now («scan_counts» .exit)) ⌝ }
+    requires { ⌜ Carried (setupOf p (now ln) (now f)) (drop start (window (now queue) head (len - 1))) carry ⌝ }
+    ensures { λ r. ⌜ Answers (setupOf p (now (ln .entry)) (now (f .entry))) (window (now (queue .entry)) head len) (dustBackward (setupOf p (now (ln .entry)) (now (f .entry))) (window (now (queue .entry)) head len)) r (now («scan_counts» .exit)) ⌝ }
 {
     let quick = find_quickly(
         p,
         carry,
-        last,
-        ring,
+        start,
+        queue,
         head,
         len,
         window_counts,
@@ -53,7 +53,7 @@ pub fn dust_backward(
     }
     let noted = scan_backward(
         p,
-        ring,
+        queue,
         head,
         len,
         window_counts,
@@ -62,5 +62,5 @@ pub fn dust_backward(
         scan_counts,
         candidates,
     );
-    try_candidates(p, ring, head, len, noted, ln, f, candidates, scan_counts)
+    try_candidates(p, queue, head, len, noted, ln, f, candidates, scan_counts)
 }

@@ -1,13 +1,17 @@
-// The window's queue in its ring: where entries stand, and scan counts that only some of them touched.
+// The window's queue in its ring: where entries stand, and the scan counts of some of them cleared or taken out.
 
 ghost use mathlib.Core.Path.{_≡_};
 ghost use Prim.Native.Nat.{_<_, _≤_};
 ghost use lib.ListN.{length, drop, replicate};
+ghost use Rattle.letters.specs.Entry.{decoded};
 ghost use Rattle.scans.specs.Counts.{Counted};
-ghost use Rattle.scans.specs.Window.{ringIndex, window};
-ghost use Rattle.scans.specs.Carry.{Touched, Walked};
-ghost use Rattle.scans.specs.Parts.{Seam, Straight, Queued};
+ghost use Rattle.scans.specs.Window.{ringIndex, ringEnd, window};
+ghost use Rattle.scans.specs.Carry.{Touched};
+ghost use Rattle.scans.specs.Parts.{Queued, Coded, Walked};
 use crate::counts::lower_entry;
+
+// Setting one count costs as much as clearing this many in a row.
+const CLEARED_AT_ONCE: usize = 8;
 
 // Where the j-th entry of the queue from `head` on stands in a ring of `window` numbers.
 pub fn ring_index(window: usize, head: usize, j: usize) -> usize
@@ -21,68 +25,79 @@ pub fn ring_index(window: usize, head: usize, j: usize) -> usize
     i - window
 }
 
-// Where the entries from `start` on pass the ring's end: those before the answer stand before it.
-pub fn seam(window: usize, head: usize, len: usize, start: usize) -> usize
-    requires { ⌜ (head < window) × (start ≤ len) ⌝ }
-    ensures { λ r. ⌜ Seam window head len start r ⌝ }
+// The same, but the ring's end where the entry stands past it: entries `from` to `to - 1` stand from ring_end(from) to ring_end(to),
+// and from head + from - ring_end(from) to head + to - ring_end(to).
+pub fn ring_end(window: usize, head: usize, j: usize) -> usize
+    requires { ⌜ (head < window) × (j ≤ window) × (window ≤ 65535) ⌝ }
+    ensures { λ r. ⌜ r ≡ ringEnd window head j ⌝ }
 {
-    let before = window - head;
-    if before <= start {
-        return start;
+    let i = head + j;
+    if i < window {
+        return i;
     }
-    if before < len {
-        return before;
-    }
-    len
+    window
 }
 
-// Takes entries `from` to `to - 1` out of the scan counts.
-pub fn uncount(ring: &[u32], head: usize, from: usize, to: usize, scan_counts: &mut [u16])
-    requires { ⌜ Queued (now ring) head to (length (now «scan_counts»)) ⌝ }
-    requires { ⌜ from ≤ to ⌝ }
-    ensures { λ _. ⌜ Walked (Counted (length (now («scan_counts» .entry)))) (now (ring .entry)) head from to (now («scan_counts» .entry)) (now («scan_counts» .exit)) ⌝ }
+// Takes the entries of a straight part out of the scan counts.
+fn uncount_part(part: &[u32], scan_counts: &mut [u16])
+    requires { ⌜ Coded (now part) (length (now «scan_counts»)) ⌝ }
+    ensures { λ _. ⌜ Walked (Counted (length (now («scan_counts» .entry)))) (decoded (now (part .entry))) (now («scan_counts» .entry)) (now («scan_counts» .exit)) ⌝ }
 {
-    let mut i = from;
-    while i < to {
-        let at = ring_index(ring.len(), head, i);
-        lower_entry(scan_counts, ring[at]);
+    let mut i = 0;
+    while i < part.len() {
+        lower_entry(scan_counts, part[i]);
         i += 1;
     }
 }
 
-// The counts of entries `from` to `to - 1` are set to 0, entry i standing at index head + i - turn.
-fn clear_part(
-    ring: &[u32],
+// Takes entries `from` to `to - 1` out of the scan counts, which are those of the entries from `from` on.
+pub fn uncount(
+    queue: &[u32],
     head: usize,
-    turn: usize,
+    len: usize,
     from: usize,
     to: usize,
     scan_counts: &mut [u16],
 )
-    requires { ⌜ Queued (now ring) head to (length (now «scan_counts»)) ⌝ }
-    requires { ⌜ Straight (length (now ring)) head from to turn ⌝ }
-    requires { ⌜ from ≤ to ⌝ }
-    ensures { λ _. ⌜ Walked Touched (now (ring .entry)) head from to (now («scan_counts» .entry)) (now («scan_counts» .exit)) ⌝ }
+    requires { ⌜ Queued (now queue) head len (length (now «scan_counts»)) ⌝ }
+    requires { ⌜ (from ≤ to) × (to ≤ len) × Counted (length (now «scan_counts»)) (now «scan_counts») (drop from (window (now queue) head len)) ⌝ }
+    ensures { λ _. ⌜ Counted (length (now («scan_counts» .entry))) (now («scan_counts» .exit)) (drop to (window (now (queue .entry)) head len)) ⌝ }
 {
-    let mut i = from;
-    while i < to {
-        let kmer = (ring[head + i - turn] >> 1) as usize;
+    let a = ring_end(queue.len(), head, from);
+    let b = ring_end(queue.len(), head, to);
+    uncount_part(&queue[a..b], scan_counts);
+    let c = head + from - a;
+    let d = head + to - b;
+    uncount_part(&queue[c..d], scan_counts);
+}
+
+// The counts of a straight part's entries are set to 0.
+fn clear_part(part: &[u32], scan_counts: &mut [u16])
+    requires { ⌜ Coded (now part) (length (now «scan_counts»)) ⌝ }
+    ensures { λ _. ⌜ Walked Touched (decoded (now (part .entry))) (now («scan_counts» .entry)) (now («scan_counts» .exit)) ⌝ }
+{
+    let mut i = 0;
+    while i < part.len() {
+        let kmer = (part[i] >> 1) as usize;
         scan_counts[kmer] = 0;
         i += 1;
     }
 }
 
 // Clears the scan counts, which only entries from `from` on have touched: each of theirs, or all where these are fewer.
-pub fn clear_from(ring: &[u32], head: usize, len: usize, from: usize, scan_counts: &mut [u16])
-    requires { ⌜ Queued (now ring) head len (length (now «scan_counts»)) ⌝ }
-    requires { ⌜ (from ≤ len) × Touched (now «scan_counts») (drop from (window (now ring) head len)) ⌝ }
+pub fn clear_from(queue: &[u32], head: usize, len: usize, from: usize, scan_counts: &mut [u16])
+    requires { ⌜ Queued (now queue) head len (length (now «scan_counts»)) ⌝ }
+    requires { ⌜ (from ≤ len) × Touched (now «scan_counts») (drop from (window (now queue) head len)) ⌝ }
     ensures { λ _. ⌜ now («scan_counts» .exit) ≡ replicate (length (now («scan_counts» .entry))) 0 ⌝ }
 {
-    if (len - from) * 8 > scan_counts.len() {
+    if (len - from) * CLEARED_AT_ONCE > scan_counts.len() {
         buffers::clear(scan_counts);
         return;
     }
-    let mid = seam(ring.len(), head, len, from);
-    clear_part(ring, head, 0, from, mid, scan_counts);
-    clear_part(ring, head, ring.len(), mid, len, scan_counts);
+    let a = ring_end(queue.len(), head, from);
+    let b = ring_end(queue.len(), head, len);
+    clear_part(&queue[a..b], scan_counts);
+    let c = head + from - a;
+    let d = head + len - b;
+    clear_part(&queue[c..d], scan_counts);
 }

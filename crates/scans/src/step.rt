@@ -38,14 +38,14 @@ pub fn extend(
 
 pub fn if_backward(
     p: Params,
-    ring: &[u32],
+    queue: &[u32],
     head: usize,
     len: usize,
     window_counts: &[u16],
     ln: &[f64],
 ) -> bool
-    requires { ⌜ Windowed p (now ring) head len (now «window_counts») (length (now ln)) ⌝ }
-    ensures { λ r. ⌜ ((f : List Float) → r ≡ ifBackward (setupOf p (now (ln .entry)) f) (window (now (ring .entry)) head len)) ⌝ }
+    requires { ⌜ Windowed p (now queue) head len (now «window_counts») (length (now ln)) ⌝ }
+    ensures { λ r. ⌜ ((f : List Float) → r ≡ ifBackward (setupOf p (now (ln .entry)) f) (window (now (queue .entry)) head len)) ⌝ }
 {
     let mut s = 0.0;
     let mut left = p.max_steps(len);
@@ -53,8 +53,8 @@ pub fn if_backward(
     while 0 < left {
         left -= 1;
         i -= 1;
-        let at = ring_index(ring.len(), head, i);
-        let v = window_value(window_counts, ln, ring[at]);
+        let at = ring_index(queue.len(), head, i);
+        let v = window_value(window_counts, ln, queue[at]);
         s = s + (v - p.score_threshold);
         if s < 0.0 {
             return false;

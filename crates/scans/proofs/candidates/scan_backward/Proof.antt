@@ -14,10 +14,10 @@ mod Lts
 mod Tie
 
 abbrev Inv-loop : tie.InvT-loop
-Inv-loop p ring head len window-counts ln f scan-counts₀ candidates₀ seek₀ scan-counts candidates seek = Seeking (setupOf p ln f) (window ring head len) scan-counts₀ candidates₀ seek scan-counts candidates
+Inv-loop p queue head len window-counts ln f scan-counts₀ candidates₀ seek₀ scan-counts candidates seek = Seeking (setupOf p ln f) (window queue head len) scan-counts₀ candidates₀ seek scan-counts candidates
 
 abbrev μ-loop : tie.MeasureT-loop
-μ-loop p ring head len window-counts ln f scan-counts₀ candidates₀ seek₀ scan-counts candidates seek = turns seek
+μ-loop p queue head len window-counts ln f scan-counts₀ candidates₀ seek₀ scan-counts candidates seek = turns seek
 
 abbrev start : tie.At-loop Inv-loop μ-loop → tie.Start Inv-loop μ-loop
 start c = c .before .before .before .before .before .before .before

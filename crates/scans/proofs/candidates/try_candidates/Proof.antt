@@ -9,7 +9,7 @@ use Rattle.scans.specs.Setup.{setupOf}
 use Rattle.scans.specs.Scans.{noCandidate}
 use Rattle.scans.specs.Window.{window}
 use Rattle.scans.specs.Search.{candidateOf, candidatesIn}
-use Rattle.scans.proofs.ForwardScan.{ringed-less}
+use Rattle.scans.proofs.Walk.{ringed-as}
 use Rattle.scans.proofs.Slices.{candidates-at}
 use Rattle.scans.proofs.Trying.{Trying, trying-start, trying-next}
 use Rattle.scans.proofs.candidates.try_candidates.Statement.{statement}
@@ -18,10 +18,10 @@ mod Lts
 mod Tie
 
 abbrev Inv-loop : tie.InvT-loop
-Inv-loop p ring head len noted ln f candidates scan-counts₀ trial₀ scan-counts trial = Trying (setupOf p ln f) (window ring head len) (candidatesIn noted candidates) noted (length scan-counts₀) trial scan-counts
+Inv-loop p queue head len noted ln f candidates scan-counts₀ trial₀ scan-counts trial = Trying (setupOf p ln f) (window queue head len) (candidatesIn noted candidates) noted (length scan-counts₀) trial scan-counts
 
 abbrev μ-loop : tie.MeasureT-loop
-μ-loop p ring head len noted ln f candidates scan-counts₀ trial₀ scan-counts trial = trial .left
+μ-loop p queue head len noted ln f candidates scan-counts₀ trial₀ scan-counts trial = trial .left
 
 abbrev start : tie.At-loop Inv-loop μ-loop → tie.Start Inv-loop μ-loop
 start c = c .before .before .before .before .before .before
@@ -61,7 +61,7 @@ next-requires c κs =
     let b = g .before in
     let a = looping b in
     let s = start a .pre in
-    (ringed-less _ _ (omega arith) (a .loop .inv .same-counts) (s .0), (b .before .if1 .taken, inside g, a .loop .inv .leads [] .clear (b .before .if1 .taken)))
+    (ringed-as _ (a .loop .inv .same-counts) (s .0), (b .before .if1 .taken, inside g, a .loop .inv .leads [] .clear (b .before .if1 .taken)))
 
 loop-less : tie.Need-loop-less Inv-loop μ-loop
 loop-less c = c .before .before .next .ensures .less

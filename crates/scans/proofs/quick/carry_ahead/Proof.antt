@@ -1,9 +1,10 @@
-use mathlib.Core.Path.{refl}
-use Prim.Native.Nat.{_-_, _<_, _≤_}
+use mathlib.Core.Path.{sym, subst}
+use Prim.Native.Nat.{ℕ, _-_, _<_, _≤_}
 use native.Mathlib.Omega.{arith}
-use lib.ListN.{length}
-use Rattle.scans.proofs.ForwardScan.{queued-less}
-use Rattle.scans.proofs.CarriedFind.{carries-off, last-in, low-in, newest-at, newest-in, count-in, carries-ahead}
+use lib.ListN.{length, drop}
+use Rattle.scans.specs.Counts.{Counted}
+use Rattle.scans.specs.Window.{window}
+use Rattle.scans.proofs.CarriedFind.{carries-off, start-in, low-in, newest-at, newest-in, count-in, carries-ahead}
 use borrow.Author.Needs.{needs}
 use Rattle.scans.proofs.quick.carry_ahead.Statement.{statement}
 use Rattle.scans.proofs.quick.carry_ahead.Tie as tie
@@ -24,7 +25,7 @@ abbrev walked : tie.After-ring-index → tie.After-uncount
 walked c = c .before .before .before
 
 -- the best place lies in the window, and was read
-best-in : (d : tie.Else4) → (begun d .args .last < begun d .args .len) × (begun d .args .st .low ≤ begun d .args .last)
+best-in : (d : tie.Else4) → (begun d .args .start < begun d .args .len) × (begun d .args .st .low ≤ begun d .args .start)
 best-in d =
     let g = best d in
     let a = begun d in
@@ -32,12 +33,12 @@ best-in d =
     let ln = a .args .ln .now in
     let f = a .args .f .now in
     let n = a .pre .1 .0 in (
-      last-in p _ _ _ ln f _ (a .pre .0) (n .0) (n .2) _ (a .pre .1 .1 .0) (g .before .if1 .left) (g .if2 .left) _ (d .before .before .before .if3 .left),
+      start-in p _ _ _ ln f _ (a .pre .0) (n .0) (n .2) _ (a .pre .1 .1 .0) (g .before .if1 .left) (g .if2 .left) _ (d .before .before .before .if3 .left),
       low-in p _ _ _ ln f _ (a .pre .0) (n .0) (n .2) _ (a .pre .1 .1 .0) (g .before .if1 .left) (g .if2 .left) _ (d .before .before .before .if3 .left),
     )
 
 -- the newest entry's index
-newest : (c : tie.After-ring-index) → c .ring-index .result < length (begun (passed (walked c)) .args .ring .now)
+newest : (c : tie.After-ring-index) → c .ring-index .result < length (begun (passed (walked c)) .args .queue .now)
 newest c =
     let d = passed (walked c) in
     let g = best d in
@@ -75,7 +76,7 @@ returns-4 c = carries-off _ _ _ _ _ (start (c .before .before .before .before .b
 uncount-requires : tie.Need-uncount-requires
 uncount-requires c κs =
     let d = c .before in
-    (queued-less _ _ (omega (arith, best-in d .0)) refl (begun d .pre .0 .queued), best-in d .1)
+    (begun d .pre .0 .queued, (best-in d .1, omega (arith, best-in d .0), subst (λ (m : ℕ). Counted m (begun d .args .scan-counts .now) (drop (begun d .args .st .low) (window (begun d .args .queue .now) (begun d .args .head) (begun d .args .len)))) (sym (begun d .pre .1 .0 .2)) (begun d .pre .1 .1 .0 .here .counted)))
 
 sub-ring-index : tie.Need-sub-ring-index
 sub-ring-index c = search needs
@@ -105,7 +106,7 @@ ahead-requires c κs =
     let n = a .pre .1 .0 in
     let entry = newest-in p _ _ _ ln f _ (a .pre .0) (n .0) (n .2) _ (a .pre .1 .1 .0) (g .before .if1 .left) (g .if2 .left) _ (d .before .before .before .if3 .left) _ (i .ring-index .ensures) in
     let counted = count-in p _ _ _ ln f _ (a .pre .0) (n .0) (n .2) _ (a .pre .1 .1 .0) (g .before .if1 .left) (g .if2 .left) _ (d .before .before .before .if3 .left) _ (i .ring-index .ensures) _ (u .uncount .ensures) in
-    (omega (arith, entry, u .uncount .kept .1 .1 .1 .1 .0), counted _, omega (arith, a .pre .0 .queued .len-in, a .pre .0 .f-long))
+    (omega (arith, entry, u .uncount .kept .1 .1 .1 .1 .1 .0), counted _, omega (arith, a .pre .0 .queued .len-in, a .pre .0 .f-long))
 
 same-length : tie.Need-same-length
 same-length c = search needs

@@ -54,7 +54,7 @@ clear-from-requires c κs =
     let a = told d in
     let k = scanned a in
     let s = start (carried k) .pre in
-    (windowed-queued (s .0) (third a), (omega (arith, k .scan-quickly .ensures .over .ended .low-in, long (s .0)), a .carry-ahead .ensures .touched (d .if2 .left)))
+    (windowed-queued (s .0) (third a), (omega (arith, k .scan-quickly .ensures .here .low-in, long (s .0)), a .carry-ahead .ensures .touched (d .if2 .left)))
 
 nothing-requires : tie.Need-nothing-requires
 nothing-requires c κs = search needs

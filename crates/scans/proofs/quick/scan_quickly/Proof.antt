@@ -1,77 +1,60 @@
-use Prim.Native.Nat.{_^_}
-use native.Mathlib.Omega.{arith}
+use mathlib.Core.Path.{sym, _∙_}
 use borrow.Author.Needs.{needs}
+use Rattle.scans.specs.Setup.{setupOf}
+use Rattle.scans.specs.Window.{window}
 use Rattle.scans.proofs.Windows.{long}
-use Rattle.scans.proofs.ForwardScan.{before-seam, past-seam}
-use Rattle.scans.proofs.QuickLoop.{quick-start, quick-stopped, quick-both}
+use Rattle.scans.proofs.BackwardScan.{Going, going-start, going-some, going-turn, going-end, window-counts-are}
 use Rattle.scans.proofs.quick.scan_quickly.Statement.{statement}
 use Rattle.scans.proofs.quick.scan_quickly.Tie as tie
 
-abbrev start : tie.After-seam → tie.Start
+abbrev Inv-loop : tie.InvT-loop
+Inv-loop p queue head len window-counts ln f scan-counts₀ st₀ scan-counts st = Going (setupOf p ln f) window-counts (window queue head len) scan-counts₀ st scan-counts
+
+abbrev μ-loop : tie.MeasureT-loop
+μ-loop p queue head len window-counts ln f scan-counts₀ st₀ scan-counts st = st .low
+
+abbrev start : tie.After-new Inv-loop μ-loop → tie.Start Inv-loop μ-loop
 start c = c .before .before .before .before .before .before
 
-abbrev created : tie.After-quick-part → tie.After-new
-created c = c .before .before
+loop-holds : tie.Need-loop-holds Inv-loop μ-loop
+loop-holds c = let s = start c .pre in going-start _ _ _ _ _ _ (long (s .0)) (c .new .ensures) (s .1 .2)
 
-seam-requires : tie.Need-seam-requires
-seam-requires c κs = search needs
-
-new-requires : tie.Need-new-requires
-new-requires c κs = search needs
-
-quick-part-requires : tie.Need-quick-part-requires
-quick-part-requires c κs =
-    let n = c .before in
-    let s = n .before in
-    let w = start s .pre .0 in
-    let t = s .seam .ensures in (
-      w,
-      (
-        past-seam _ _ _ _ _ t (omega (arith, w .ring-is, w .head-in)) (omega (arith, w .ring-is, w .len-in)),
-        ((t .to, omega arith, start s .pre .1 .0), quick-start _ _ (4 ^ start s .args .p .kmer) _ _ (long w) (n .new .ensures) (start s .pre .1 .1)),
-      ),
-    )
-
-same-length : tie.Need-same-length
-same-length c = search needs
-
-returns : tie.Need-returns
-returns c =
-    let b = c .before .before .before in
-    let n = created b in
-    let s = n .before in
-    quick-stopped _ _ _ _ _ (long (start s .pre .0)) _ _ (n .new .ensures) (start s .pre .1 .1) _ _ _ (b .quick-part .ensures) (c .if1 .taken)
-
-quick-part-requires-2 : tie.Need-quick-part-requires-2
-quick-part-requires-2 c κs =
+backward-on-requires : tie.Need-backward-on-requires Inv-loop μ-loop
+backward-on-requires c κs =
     let d = c .before in
-    let b = d .before .before .before in
-    let s = created b .before in
-    let w = start s .pre .0 in
-    let t = s .seam .ensures in
-    (w, (before-seam _ _ _ _ _ t (omega (arith, w .ring-is, w .head-in)), ((omega arith, t .to, start s .pre .1 .0), b .quick-part .ensures .next (d .if1 .left))))
+    let a = d .before .before in
+    let s = start (a .before) .pre in
+    (s .0, ((going-some _ _ _ _ _ _ (a .loop .inv) (sym (d .before .goes-on .ensures) ∙ d .if1 .taken), s .1 .1), a .loop .inv .here))
 
-same-length-2 : tie.Need-same-length-2
-same-length-2 c = search needs
+loop-less : tie.Need-loop-less Inv-loop μ-loop
+loop-less c = c .before .before .backward-on .ensures .less
 
-returns-2 : tie.Need-returns-2
-returns-2 c =
-    let e = c .before .before in
-    let d = e .before .before in
-    let b = d .before .before .before in
-    let n = created b in
-    let s = n .before in
-    quick-both _ _ _ _ _ (long (start s .pre .0)) _ _ (n .new .ensures) (start s .pre .1 .1) _ _ _ (b .quick-part .ensures) (d .if1 .left) _ _ (e .quick-part2 .ensures)
+loop-again : tie.Need-loop-again Inv-loop μ-loop
+loop-again c =
+    let k = c .before .before in
+    let d = k .before .before in
+    let a = d .before .before in
+    going-turn _ _ _ _ _ _ (a .loop .inv) (sym (d .before .goes-on .ensures) ∙ d .if1 .taken) _ _ (k .backward-on .kept .1 .1 .1 .1 .1 .1 .1 .1 .1 .0) (k .backward-on .ensures)
+
+same-length : tie.Need-same-length Inv-loop μ-loop
+same-length c = c .before .before .loop .inv .same
+
+returns : tie.Need-returns Inv-loop μ-loop
+returns c =
+    let a = c .before .before in
+    going-end _ _ _ _ _ _ (a .loop .inv) (sym (c .before .goes-on .ensures) ∙ c .if1 .left) (window-counts-are (start (a .before) .pre .0))
 
 pub scan-quickly-spec : {M : Type 1} → statement M
 scan-quickly-spec =
     tie.close
     (tie.spec
-    seam-requires
-    new-requires
-    quick-part-requires
+    Inv-loop
+    μ-loop
+    (λ c κs. search needs)
+    loop-holds
+    (λ c κs. search needs)
+    backward-on-requires
+    loop-less
+    loop-again
     same-length
-    returns
-    quick-part-requires-2
-    same-length-2
-    returns-2)
+    returns)

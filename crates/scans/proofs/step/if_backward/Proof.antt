@@ -10,20 +10,20 @@ use Rattle.scans.proofs.step.if_backward.Statement.{statement}
 use Rattle.scans.proofs.step.if_backward.Tie as tie
 
 abbrev Inv-loop : tie.InvT-loop
-Inv-loop p ring head len window-counts ln s₀ left₀ i₀ s left i = Checking p ln (window ring head len) left i s
+Inv-loop p queue head len window-counts ln s₀ left₀ i₀ s left i = Checking p ln (window queue head len) left i s
 
 abbrev μ-loop : tie.MeasureT-loop
-μ-loop p ring head len window-counts ln s₀ left₀ i₀ s left i = left
+μ-loop p queue head len window-counts ln s₀ left₀ i₀ s left i = left
 
 abbrev start : tie.At-loop Inv-loop μ-loop → tie.Start Inv-loop μ-loop
 start c = c .before .before .before .before .before
 
 -- the entry before index i
-here : (c : tie.After-ring-index Inv-loop μ-loop) → At (length (start (c .before .before) .args .ring .now)) (start (c .before .before) .args .head) (c .before .before .loop .i - 1) (c .ring-index .result)
+here : (c : tie.After-ring-index Inv-loop μ-loop) → At (length (start (c .before .before) .args .queue .now)) (start (c .before .before) .args .head) (c .before .before .loop .i - 1) (c .ring-index .result)
 here c =
     let a = c .before .before in
     let w = start a .pre in
-    rw (c .ring-index .ensures) (ring-index-at (length (start a .args .ring .now)) (start a .args .head) (a .loop .i - 1) (omega (arith, w .ring-is, w .head-in)) (omega (arith, a .loop .inv .inside, long w, w .ring-is, w .len-in)))
+    rw (c .ring-index .ensures) (ring-index-at (length (start a .args .queue .now)) (start a .args .head) (a .loop .i - 1) (omega (arith, w .ring-is, w .head-in)) (omega (arith, a .loop .inv .inside, long w, w .ring-is, w .len-in)))
 
 max-steps-requires : tie.Need-max-steps-requires Inv-loop μ-loop
 max-steps-requires c κs = search needs

@@ -5,6 +5,7 @@ use lib.ListN.{replicate}
 use Rattle.scans.proofs.Windows.{long}
 use Rattle.scans.proofs.Touched.{counted-touched}
 use Rattle.scans.proofs.Walk.{windowed-queued}
+use Rattle.scans.proofs.BackwardScan.{window-counts-are, window-below}
 use Rattle.scans.proofs.Searching.{some-left, next-finished, next-on}
 use borrow.Author.Needs.{needs}
 use Rattle.scans.proofs.candidates.Search.next.Statement.{statement}
@@ -19,7 +20,7 @@ ended-requires c κs = search needs
 clear-from-requires : tie.Need-clear-from-requires
 clear-from-requires c κs =
     let s = start (c .before .before) .pre in
-    let e = s .1 .1 .scan .ended in
+    let e = s .1 .1 .scan in
     (windowed-queued (s .0) (s .1 .0 .1), (omega (arith, e .low-in, long (s .0)), counted-touched _ _ _ (e .counted)))
 
 finished-requires : tie.Need-finished-requires
@@ -49,7 +50,7 @@ gone-on-requires c κs =
     let b = c .before .before in
     let s = start (b .before .before .before) .pre in
     let w = s .0 in
-    (omega (arith, b .backward-on .ensures .less, s .1 .1 .scan .ended .low-in, long w, w .len-in, w .small), omega (arith, s .1 .1 .few, long w, w .len-in, w .small))
+    (omega (arith, b .backward-on .ensures .less, s .1 .1 .scan .low-in, long w, w .len-in, w .small), omega (arith, s .1 .1 .few, long w, w .len-in, w .small))
 
 same-length-2 : tie.Need-same-length-2
 same-length-2 c = search needs
@@ -59,7 +60,7 @@ returns-2 c =
     let b = c .before .before .before in
     let d = b .before .before in
     let s = start (d .before) .pre in
-    next-on _ _ _ _ (s .1 .1) (sym (d .before .ended .ensures) ∙ d .if1 .left) _ _ (b .backward-on .ensures) _ (c .gone-on .ensures)
+    next-on _ _ _ _ (s .1 .1) (sym (d .before .ended .ensures) ∙ d .if1 .left) _ _ (window-counts-are (s .0)) (window-below (s .0)) (b .backward-on .ensures) _ (c .gone-on .ensures)
 
 pub next-spec : {M : Type 1} → statement M
 next-spec =

@@ -4,7 +4,7 @@ use native.Mathlib.Omega.{arith}
 use lib.ListN.{length, replicate, length-replicate}
 use Rattle.scans.specs.Window.{window}
 use Rattle.scans.proofs.Ring.{window-length}
-use Rattle.scans.proofs.ForwardScan.{queued-less}
+use Rattle.scans.proofs.Walk.{queued-as}
 use Rattle.scans.proofs.Trying.{trial-skip, trial-found, trial-touched, trial-approx, trial-on}
 use borrow.Author.Needs.{needs}
 use Rattle.scans.proofs.candidates.Trial.next.Statement.{statement}
@@ -23,8 +23,8 @@ abbrev scanned : tie.Else2 → tie.After-dust-forward
 scanned c = c .before .before .before .before
 
 -- the window has `len` entries
-window-long : (c : tie.Start) → length (window (c .args .ring .now) (c .args .head) (c .args .len)) ≡ c .args .len
-window-long c = window-length (c .args .ring .now) (c .args .head) (c .args .len) (c .pre .0 .queued .head-in) (c .pre .0 .queued .len-in)
+window-long : (c : tie.Start) → length (window (c .args .queue .now) (c .args .head) (c .args .len)) ≡ c .args .len
+window-long c = window-length (c .args .queue .now) (c .args .head) (c .args .len) (c .pre .0 .queued .head-in) (c .pre .0 .queued .len-in)
 
 -- the counts are cleared again
 cleared : (c : tie.After-clear-from) → c .clear-from .last .1 .1 .1 .1 .0 ≡ replicate (4 ^ start (failed (scanned (c .before .before))) .args .p .kmer) 0
@@ -70,7 +70,7 @@ clear-from-requires c κs =
     let k = scanned (c .before) in
     let d = failed k in
     let s = start d .pre in
-    (queued-less _ _ (omega arith) (k .dust-forward .kept .1 .1 .1 .1 .1 .1 .1 .1 .0) (s .0 .queued), (omega (arith, s .1 .1), trial-touched _ _ _ _ _ _ (k .dust-forward .ensures)))
+    (queued-as _ (k .dust-forward .kept .1 .1 .1 .1 .1 .1 .1 .1 .0) (s .0 .queued), (omega (arith, s .1 .1), trial-touched _ _ _ _ _ _ (k .dust-forward .ensures)))
 
 going-requires-2 : tie.Need-going-requires-2
 going-requires-2 c κs = search needs
@@ -87,8 +87,8 @@ returns-3 c =
     let a = start d in
     trial-approx _ _ _ _ _ (a .pre .1 .0) (d .if1 .left) _ _ (k .dust-forward .ensures) (λ e. o .if2 .left (e ∙ window-long a)) _ (cleared f) (c .before .if3 .taken) _ _ (c .going2 .ensures)
 
-larger-requires : tie.Need-larger-requires
-larger-requires c κs = search needs
+max-requires : tie.Need-max-requires
+max-requires c κs = search needs
 
 going-requires-3 : tie.Need-going-requires-3
 going-requires-3 c κs = search needs
@@ -104,7 +104,7 @@ returns-4 c =
     let k = scanned o in
     let d = failed k in
     let a = start d in
-    trial-on _ _ _ _ _ (a .pre .1 .0) (d .if1 .left) _ _ (k .dust-forward .ensures) (λ e. o .if2 .left (e ∙ window-long a)) _ (cleared f) (g .before .if3 .left) _ (g .larger .ensures) _ (c .going3 .ensures)
+    trial-on _ _ _ _ _ (a .pre .1 .0) (d .if1 .left) _ _ (k .dust-forward .ensures) (λ e. o .if2 .left (e ∙ window-long a)) _ (cleared f) (g .before .if3 .left) _ (g .max .ensures) _ (c .going3 .ensures)
 
 pub next-spec : {M : Type 1} → statement M
 next-spec =
@@ -123,7 +123,7 @@ next-spec =
     going-requires-2
     same-length-2
     returns-3
-    larger-requires
+    max-requires
     going-requires-3
     same-length-3
     returns-4)

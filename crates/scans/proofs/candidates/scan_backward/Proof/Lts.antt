@@ -82,7 +82,7 @@ abbrev y1 : Syntax.Ty
 y1 = Syntax.tyInt Syntax.w64
 
 abbrev y2 : Syntax.Ty
-y2 = Syntax.tyStruct (115 ∷ 99 ∷ 97 ∷ 110 ∷ 115 ∷ 58 ∷ 58 ∷ 98 ∷ 97 ∷ 99 ∷ 107 ∷ 119 ∷ 97 ∷ 114 ∷ 100 ∷ 58 ∷ 58 ∷ 66 ∷ 97 ∷ 99 ∷ 107 ∷ 119 ∷ 97 ∷ 114 ∷ 100 ∷ 83 ∷ 116 ∷ 97 ∷ 116 ∷ 101 ∷ []) (Syntax.tcons y0 (Syntax.tcons y0 (Syntax.tcons y0 (Syntax.tcons y0 (Syntax.tcons y1 (Syntax.tcons y1 (Syntax.tcons Syntax.tyBool (Syntax.tcons Syntax.tyBool (Syntax.tcons Syntax.tyBool Syntax.tnil)))))))))
+y2 = Syntax.tyStruct (115 ∷ 99 ∷ 97 ∷ 110 ∷ 115 ∷ 58 ∷ 58 ∷ 98 ∷ 97 ∷ 99 ∷ 107 ∷ 119 ∷ 97 ∷ 114 ∷ 100 ∷ 58 ∷ 58 ∷ 66 ∷ 97 ∷ 99 ∷ 107 ∷ 119 ∷ 97 ∷ 114 ∷ 100 ∷ 83 ∷ 116 ∷ 97 ∷ 116 ∷ 101 ∷ []) (Syntax.tcons y0 (Syntax.tcons y0 (Syntax.tcons y0 (Syntax.tcons y0 (Syntax.tcons y1 (Syntax.tcons y1 (Syntax.tcons Syntax.tyBool (Syntax.tcons Syntax.tyBool Syntax.tnil))))))))
 
 abbrev y3 : Syntax.Ty
 y3 = Syntax.tyInt Syntax.w32
@@ -1232,7 +1232,7 @@ module _ (claims· : Claims) where
             in-mem = Local.mem-whole 𝓤 H A W (Declared.row Params.the-type);
             of-mem = Local.whole-mem 𝓤 H A W (Declared.row Params.the-type);
           })
-          pub ring : Kinds.Den {n = 6}
+          pub queue : Kinds.Den {n = 6}
               κs
               (ShrSlice.pShrS (Referent.rtF (Referent.fInt Syntax.w32)) 0 tt)
           pub head : Kinds.Den {n = 6} κs (Num.pNum Syntax.w64)
@@ -1254,7 +1254,7 @@ module _ (claims· : Claims) where
               (MutSlice.pMutS (ForwardPosition.the-row) 5 tt)
 
         abbrev pub dens : (a : Args) → Kinds.Dens κs ps
-        dens = λ a. (a .p, (a .ring, (a .head, (a .len, (a .window-counts, (a .ln, (a .f, (a .scan-counts, (a .candidates, tt)))))))))
+        dens = λ a. (a .p, (a .queue, (a .head, (a .len, (a .window-counts, (a .ln, (a .f, (a .scan-counts, (a .candidates, tt)))))))))
 
         module _ (args· : Args) where
           pub record Ranges : Type 0 where
@@ -1755,7 +1755,7 @@ module _ (claims· : Claims) where
               (pre : Pre· κs a) →
               (bs : List.List Nat.ℕ) →
               Φ (Any.wantQ 6 ps r xs m κs qs a (Post· κs a)) (Function.init 6 ps r xs m κs qs a)
-          asked = λ a good pre bs. laid record { κs = κs; args = record { p = a .0; ring = a .1 .0; head = a .1 .1 .0; len = a .1 .1 .1 .0; window-counts = a .1 .1 .1 .1 .0; ln = a .1 .1 .1 .1 .1 .0; f = a .1 .1 .1 .1 .1 .1 .0; scan-counts = a .1 .1 .1 .1 .1 .1 .1 .0; candidates = a .1 .1 .1 .1 .1 .1 .1 .1 .0 }; good = good; fits = record { head = record { fits = good .1 .1 .0 .1 }; len = record { fits = good .1 .1 .1 .0 .1 } }; pre = pre }
+          asked = λ a good pre bs. laid record { κs = κs; args = record { p = a .0; queue = a .1 .0; head = a .1 .1 .0; len = a .1 .1 .1 .0; window-counts = a .1 .1 .1 .1 .0; ln = a .1 .1 .1 .1 .1 .0; f = a .1 .1 .1 .1 .1 .1 .0; scan-counts = a .1 .1 .1 .1 .1 .1 .1 .0; candidates = a .1 .1 .1 .1 .1 .1 .1 .1 .0 }; good = good; fits = record { head = record { fits = good .1 .1 .0 .1 }; len = record { fits = good .1 .1 .1 .0 .1 } }; pre = pre }
 
         module _ {M : Type 1} (𝓤 : URA.URA M) (H : Wp.Heap 𝓤) (A : Atoms.Atoms 𝓤)
             (W : Kit.Given 𝓤 H A) (𝓣 : Wp.Tables 𝓤 H)

@@ -1032,7 +1032,7 @@ module _ (claims· : Claims) where
             in-mem = Local.mem-whole 𝓤 H A W (Declared.row Params.the-type);
             of-mem = Local.whole-mem 𝓤 H A W (Declared.row Params.the-type);
           })
-          pub ring : Kinds.Den {n = 5}
+          pub queue : Kinds.Den {n = 5}
               κs
               (ShrSlice.pShrS (Referent.rtF (Referent.fInt Syntax.w32)) 0 tt)
           pub head : Kinds.Den {n = 5} κs (Num.pNum Syntax.w64)
@@ -1052,7 +1052,7 @@ module _ (claims· : Claims) where
               (MutSlice.pMutS (Referent.rtF (Referent.fInt Syntax.w16)) 4 tt)
 
         abbrev pub dens : (a : Args) → Kinds.Dens κs ps
-        dens = λ a. (a .p, (a .ring, (a .head, (a .len, (a .noted, (a .ln, (a .f, (a .candidates, (a .scan-counts, tt)))))))))
+        dens = λ a. (a .p, (a .queue, (a .head, (a .len, (a .noted, (a .ln, (a .f, (a .candidates, (a .scan-counts, tt)))))))))
 
         module _ (args· : Args) where
           pub record Ranges : Type 0 where
@@ -1577,7 +1577,7 @@ module _ (claims· : Claims) where
               (pre : Pre· κs a) →
               (bs : List.List Nat.ℕ) →
               Φ bs (Any.wantQ 5 ps r xs m κs qs a (Post· κs a)) (Function.init 5 ps r xs m κs qs a)
-          asked = λ a good pre bs. laid record { κs = κs; args = record { p = a .0; ring = a .1 .0; head = a .1 .1 .0; len = a .1 .1 .1 .0; noted = a .1 .1 .1 .1 .0; ln = a .1 .1 .1 .1 .1 .0; f = a .1 .1 .1 .1 .1 .1 .0; candidates = a .1 .1 .1 .1 .1 .1 .1 .0; scan-counts = a .1 .1 .1 .1 .1 .1 .1 .1 .0 }; blocks = bs; good = good; fits = record { head = record { fits = good .1 .1 .0 .1 }; len = record { fits = good .1 .1 .1 .0 .1 }; noted = record { fits = good .1 .1 .1 .1 .0 .1 } }; pre = pre }
+          asked = λ a good pre bs. laid record { κs = κs; args = record { p = a .0; queue = a .1 .0; head = a .1 .1 .0; len = a .1 .1 .1 .0; noted = a .1 .1 .1 .1 .0; ln = a .1 .1 .1 .1 .1 .0; f = a .1 .1 .1 .1 .1 .1 .0; candidates = a .1 .1 .1 .1 .1 .1 .1 .0; scan-counts = a .1 .1 .1 .1 .1 .1 .1 .1 .0 }; blocks = bs; good = good; fits = record { head = record { fits = good .1 .1 .0 .1 }; len = record { fits = good .1 .1 .1 .0 .1 }; noted = record { fits = good .1 .1 .1 .1 .0 .1 } }; pre = pre }
 
         module _ {M : Type 1} (𝓤 : URA.URA M) (H : Wp.Heap 𝓤) (A : Atoms.Atoms 𝓤)
             (W : Kit.Given 𝓤 H A) (𝓣 : Wp.Tables 𝓤 H)

@@ -1762,8 +1762,8 @@ module _ (claims· : Claims) where
             in-mem = Local.mem-whole 𝓤 H A W (Declared.row Carry.the-type);
             of-mem = Local.whole-mem 𝓤 H A W (Declared.row Carry.the-type);
           })
-          pub last : Kinds.Den {n = 6} κs (Num.pNum Syntax.w64)
-          pub ring : Kinds.Den {n = 6}
+          pub start : Kinds.Den {n = 6} κs (Num.pNum Syntax.w64)
+          pub queue : Kinds.Den {n = 6}
               κs
               (ShrSlice.pShrS (Referent.rtF (Referent.fInt Syntax.w32)) 0 tt)
           pub head : Kinds.Den {n = 6} κs (Num.pNum Syntax.w64)
@@ -1785,11 +1785,11 @@ module _ (claims· : Claims) where
               (MutSlice.pMutS (Rec·type.the-row) 5 tt)
 
         abbrev pub dens : (a : Args) → Kinds.Dens κs ps
-        dens = λ a. (a .p, (a .carry, (a .last, (a .ring, (a .head, (a .len, (a .window-counts, (a .ln, (a .f, (a .scan-counts, (a .candidates, tt)))))))))))
+        dens = λ a. (a .p, (a .carry, (a .start, (a .queue, (a .head, (a .len, (a .window-counts, (a .ln, (a .f, (a .scan-counts, (a .candidates, tt)))))))))))
 
         module _ (args· : Args) where
           pub record Ranges : Type 0 where
-            pub last : Val.Fits Syntax.w64 (args· .last)
+            pub start : Val.Fits Syntax.w64 (args· .start)
             pub head : Val.Fits Syntax.w64 (args· .head)
             pub len : Val.Fits Syntax.w64 (args· .len)
 
@@ -2337,7 +2337,7 @@ module _ (claims· : Claims) where
               (pre : Pre· κs a) →
               (bs : List.List Nat.ℕ) →
               Φ (Any.wantQ 6 ps r xs m κs qs a (Post· κs a)) (Function.init 6 ps r xs m κs qs a)
-          asked = λ a good pre bs. laid record { κs = κs; args = record { p = a .0; carry = a .1 .0; last = a .1 .1 .0; ring = a .1 .1 .1 .0; head = a .1 .1 .1 .1 .0; len = a .1 .1 .1 .1 .1 .0; window-counts = a .1 .1 .1 .1 .1 .1 .0; ln = a .1 .1 .1 .1 .1 .1 .1 .0; f = a .1 .1 .1 .1 .1 .1 .1 .1 .0; scan-counts = a .1 .1 .1 .1 .1 .1 .1 .1 .1 .0; candidates = a .1 .1 .1 .1 .1 .1 .1 .1 .1 .1 .0 }; good = good; fits = record { last = record { fits = good .1 .1 .0 .1 }; head = record { fits = good .1 .1 .1 .1 .0 .1 }; len = record { fits = good .1 .1 .1 .1 .1 .0 .1 } }; pre = pre }
+          asked = λ a good pre bs. laid record { κs = κs; args = record { p = a .0; carry = a .1 .0; start = a .1 .1 .0; queue = a .1 .1 .1 .0; head = a .1 .1 .1 .1 .0; len = a .1 .1 .1 .1 .1 .0; window-counts = a .1 .1 .1 .1 .1 .1 .0; ln = a .1 .1 .1 .1 .1 .1 .1 .0; f = a .1 .1 .1 .1 .1 .1 .1 .1 .0; scan-counts = a .1 .1 .1 .1 .1 .1 .1 .1 .1 .0; candidates = a .1 .1 .1 .1 .1 .1 .1 .1 .1 .1 .0 }; good = good; fits = record { start = record { fits = good .1 .1 .0 .1 }; head = record { fits = good .1 .1 .1 .1 .0 .1 }; len = record { fits = good .1 .1 .1 .1 .1 .0 .1 } }; pre = pre }
 
         module _ {M : Type 1} (𝓤 : URA.URA M) (H : Wp.Heap 𝓤) (A : Atoms.Atoms 𝓤)
             (W : Kit.Given 𝓤 H A) (𝓣 : Wp.Tables 𝓤 H)
