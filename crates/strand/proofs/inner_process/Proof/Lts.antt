@@ -1031,7 +1031,7 @@ abbrev b38 : Syntax.Body
 b38 = Syntax.assign (Syntax.place 40 List.[]) (Syntax.aggregate ((Syntax.copy (Syntax.place 39 List.[])) ∷ (Syntax.copy (Syntax.place 8 ((Syntax.field 1) ∷ []))) ∷ []))
 
 abbrev b39 : Syntax.Body
-b39 = Syntax.call "scans::dust_backward" ((Syntax.copy (Syntax.place 1 List.[])) ∷ (Syntax.copy (Syntax.place 11 ((Syntax.field 0) ∷ (Syntax.field 1) ∷ (Syntax.field 5) ∷ []))) ∷ (Syntax.copy (Syntax.place 11 ((Syntax.field 2) ∷ []))) ∷ (Syntax.copy (Syntax.place 34 List.[])) ∷ (Syntax.copy (Syntax.place 11 ((Syntax.field 0) ∷ (Syntax.field 1) ∷ (Syntax.field 2) ∷ []))) ∷ (Syntax.copy (Syntax.place 11 ((Syntax.field 0) ∷ (Syntax.field 1) ∷ (Syntax.field 3) ∷ []))) ∷ (Syntax.copy (Syntax.place 36 List.[])) ∷ (Syntax.copy (Syntax.place 3 List.[])) ∷ (Syntax.copy (Syntax.place 4 List.[])) ∷ (Syntax.copy (Syntax.place 38 List.[])) ∷ (Syntax.copy (Syntax.place 40 List.[])) ∷ []) (Syntax.place 12 List.[])
+b39 = Syntax.call "scans::dust::dust_backward" ((Syntax.copy (Syntax.place 1 List.[])) ∷ (Syntax.copy (Syntax.place 11 ((Syntax.field 0) ∷ (Syntax.field 1) ∷ (Syntax.field 5) ∷ []))) ∷ (Syntax.copy (Syntax.place 11 ((Syntax.field 2) ∷ []))) ∷ (Syntax.copy (Syntax.place 34 List.[])) ∷ (Syntax.copy (Syntax.place 11 ((Syntax.field 0) ∷ (Syntax.field 1) ∷ (Syntax.field 2) ∷ []))) ∷ (Syntax.copy (Syntax.place 11 ((Syntax.field 0) ∷ (Syntax.field 1) ∷ (Syntax.field 3) ∷ []))) ∷ (Syntax.copy (Syntax.place 36 List.[])) ∷ (Syntax.copy (Syntax.place 3 List.[])) ∷ (Syntax.copy (Syntax.place 4 List.[])) ∷ (Syntax.copy (Syntax.place 38 List.[])) ∷ (Syntax.copy (Syntax.place 40 List.[])) ∷ []) (Syntax.place 12 List.[])
 
 abbrev b40 : Syntax.Body
 b40 = Syntax.assign (Syntax.place 41 List.[]) (Syntax.addrOf (Syntax.place 9 ((Syntax.field 0) ∷ (Syntax.deref y0) ∷ [])))
@@ -1944,7 +1944,7 @@ module _ (claims· : Claims) where
       (Post· : (κs : Lifetimes.Lfts 9) → (a : Kinds.Dens κs ps) → Kinds.Plain 9 ps r κs) where
     module _ (M : Type 1) where
       abbrev pub Closed : Type 2
-      Closed = (𝓤 : URA.URA M) (H : Wp.Heap 𝓤) (A : Atoms.Atoms 𝓤) (W : Kit.Given 𝓤 H A) (𝓣 : Wp.Tables 𝓤 H) (known0 : Plain.Known 𝓤 H A W 𝓣 2 ps·0 r·0 (claims· .0) (claims· .1) "strand::begin") (known1 : Plain.Known 𝓤 H A W 𝓣 8 ps·1 r·1 (claims· .2) (claims· .3) "strand::until_scan") (known2 : Plain.Known 𝓤 H A W 𝓣 2 ps·2 r·2 (claims· .4) (claims· .5) "strand::Open::close") (known3 : Plain.Known 𝓤 H A W 𝓣 6 ps·3 r·3 (claims· .6) (claims· .7) "scans::dust_backward") (known4 : Plain.Known 𝓤 H A W 𝓣 2 ps·4 r·4 (claims· .8) (claims· .9) "strand::Going::answered") → Statement.Triple 𝓤 (Wp.WpFn 𝓤 H (𝓣 .C) (𝓣 .Λ) (Function.fnOf 9 ps r xs m hs body)) (Function.plainOf 𝓤 H A 9 ps r Pre· Post·)
+      Closed = (𝓤 : URA.URA M) (H : Wp.Heap 𝓤) (A : Atoms.Atoms 𝓤) (W : Kit.Given 𝓤 H A) (𝓣 : Wp.Tables 𝓤 H) (known0 : Plain.Known 𝓤 H A W 𝓣 2 ps·0 r·0 (claims· .0) (claims· .1) "strand::begin") (known1 : Plain.Known 𝓤 H A W 𝓣 8 ps·1 r·1 (claims· .2) (claims· .3) "strand::until_scan") (known2 : Plain.Known 𝓤 H A W 𝓣 2 ps·2 r·2 (claims· .4) (claims· .5) "strand::Open::close") (known3 : Plain.Known 𝓤 H A W 𝓣 6 ps·3 r·3 (claims· .6) (claims· .7) "scans::dust::dust_backward") (known4 : Plain.Known 𝓤 H A W 𝓣 2 ps·4 r·4 (claims· .8) (claims· .9) "strand::Going::answered") → Statement.Triple 𝓤 (Wp.WpFn 𝓤 H (𝓣 .C) (𝓣 .Λ) (Function.fnOf 9 ps r xs m hs body)) (Function.plainOf 𝓤 H A 9 ps r Pre· Post·)
 
     module _ (Inv·0 : InvT-loop) (μ·0 : MeasureT-loop) where
       abbrev at0 : Typed.TF T82 O4
@@ -2325,7 +2325,7 @@ module _ (claims· : Claims) where
       module _ {M : Type 1} (𝓤 : URA.URA M) (H : Wp.Heap 𝓤) (A : Atoms.Atoms 𝓤)
           (W : Kit.Given 𝓤 H A) (𝓣 : Wp.Tables 𝓤 H) where
         abbrev Knowns : Type 1
-        Knowns = Plain.Known 𝓤 H A W 𝓣 2 ps·0 r·0 (claims· .0) (claims· .1) "strand::begin" × Plain.Known 𝓤 H A W 𝓣 8 ps·1 r·1 (claims· .2) (claims· .3) "strand::until_scan" × Plain.Known 𝓤 H A W 𝓣 2 ps·2 r·2 (claims· .4) (claims· .5) "strand::Open::close" × Plain.Known 𝓤 H A W 𝓣 6 ps·3 r·3 (claims· .6) (claims· .7) "scans::dust_backward" × Plain.Known 𝓤 H A W 𝓣 2 ps·4 r·4 (claims· .8) (claims· .9) "strand::Going::answered"
+        Knowns = Plain.Known 𝓤 H A W 𝓣 2 ps·0 r·0 (claims· .0) (claims· .1) "strand::begin" × Plain.Known 𝓤 H A W 𝓣 8 ps·1 r·1 (claims· .2) (claims· .3) "strand::until_scan" × Plain.Known 𝓤 H A W 𝓣 2 ps·2 r·2 (claims· .4) (claims· .5) "strand::Open::close" × Plain.Known 𝓤 H A W 𝓣 6 ps·3 r·3 (claims· .6) (claims· .7) "scans::dust::dust_backward" × Plain.Known 𝓤 H A W 𝓣 2 ps·4 r·4 (claims· .8) (claims· .9) "strand::Going::answered"
 
       module _ (κs : Lifetimes.Lfts 9) (qs : Lifetimes.Shares 9) where
         abbrev li0 : Row.Life
@@ -3199,7 +3199,7 @@ module _ (claims· : Claims) where
           d44 = Typed.g-pre 𝓤 H A W 𝓣 E G97 G98 b48 Δ3 (Typed.pass T97 T98 s95) at43 (Scalar.g-room 𝓤 H A W E G97 34 y16 (Shared.room-sslice 𝓤 H A W q3 y15 18)) d43
 
           d45 : Typed.Typed 𝓤 H A 𝓣 E G96 b49 Δ3 at45
-          d45 = Typed.s-seq 𝓤 H A W 𝓣 E G96 G97 b39 b48 Δ3 (Typed.both s94) at44 (Plain.t-call-plain 𝓤 H A W 𝓣 6 ps·3 r·3 (claims· .6) (claims· .7) "scans::dust_backward" (known .3) E (λ pos β. β) G96 (record { pos = 1; st = List.[]; d = 0; at = λ x. x }, (record { pos = 11; st = (Syntax.field 0) ∷ (Syntax.field 1) ∷ (Syntax.field 5) ∷ []; d = 56; at = λ x. Window.struct .as-values (Reading.struct .as-values (Going.struct .as-values x .0) .1 .0) .1 .1 .1 .1 .1 .0 }, (Num.vFld 11 ((Syntax.field 2) ∷ []) 120 λ x. Going.struct .as-values x .1 .1 .0, (record { pos = 34; ty = y15; ref = λ x. x }, (Num.vFld 11 ((Syntax.field 0) ∷ (Syntax.field 1) ∷ (Syntax.field 2) ∷ []) 32 λ x. Window.struct .as-values (Reading.struct .as-values (Going.struct .as-values x .0) .1 .0) .1 .1 .0, (Num.vFld 11 ((Syntax.field 0) ∷ (Syntax.field 1) ∷ (Syntax.field 3) ∷ []) 40 λ x. Window.struct .as-values (Reading.struct .as-values (Going.struct .as-values x .0) .1 .0) .1 .1 .1 .0, (record { pos = 36; ty = y17; ref = λ x. x }, (record { pos = 3; ty = y23; ref = λ x. x }, (record { pos = 4; ty = y24; ref = λ x. x }, (record { pos = 38; ty = y11; ref = λ x. x }, (record { pos = 40; ty = y19; ref = λ x. x }, tt))))))))))) 12 (18 ∷ 19 ∷ 1 ∷ 2 ∷ 20 ∷ 21 ∷ []) (Call.sub-id 𝓤 H A W (G96 .slots)) ((Yields.yields-copy 𝓤 H A W (λ ρ. Unit) q0 Path'.refl (Copies.cStruct Params.the-type Laws'.the-laws Laws'.the-copy .copy 𝓤 H A W) (Rows.whole q0) (λ x. x) (λ x. x) (λ ρ told. Local.mem-whole 𝓤 H A W q0 ρ) λ ρ told. Local.whole-mem 𝓤 H A W q0 ρ, Path'.refl), ((Yields'.yields-acc 𝓤 H A W (Rows.whole q5) q7 56 (λ x. Window.struct .as-values (Reading.struct .as-values (Going.struct .as-values x .0) .1 .0) .1 .1 .1 .1 .1 .0) Path'.refl (Copies.cStruct Carry.the-type Laws.the-laws Laws.the-copy .copy 𝓤 H A W) (Yields'.acc-record 𝓤 H A W (Rows.whole q5) Carry.the-type 56 (λ x. Window.struct .as-values (Reading.struct .as-values (Going.struct .as-values x .0) .1 .0) .1 .1 .1 .1 .1 .0) (Yields'.acc-part 𝓤 H A W (Rows.whole q5) q9 (Struct.Struct (Declared.shape Carry.the-type)) 16 40 (λ x. Reading.struct .as-values (Going.struct .as-values x .0) .1 .0) (λ y. Carry.the-type .to (Window.struct .as-values y .1 .1 .1 .1 .1 .0)) (Yields'.acc-record 𝓤 H A W (Rows.whole q5) Window.the-type 16 (λ x. Reading.struct .as-values (Going.struct .as-values x .0) .1 .0) (Yields'.acc-part 𝓤 H A W (Rows.whole q5) q10 (Struct.Struct (Declared.shape Window.the-type)) 0 16 (λ x. Going.struct .as-values x .0) (λ y. Window.the-type .to (Reading.struct .as-values y .1 .0)) (Yields'.acc-record 𝓤 H A W (Rows.whole q5) Reading.the-type 0 (λ x. Going.struct .as-values x .0) (Yields'.acc-part 𝓤 H A W (Rows.whole q5) q5 (Struct.Struct (Declared.shape Reading.the-type)) 0 0 (λ x. x) (λ y. Reading.the-type .to (Going.struct .as-values y .0)) (Yields'.acc-whole 𝓤 H A W q5) λ y a. Behind.look-at 𝓤 H A W TreeShare.fullShare Going.the-type Laws'3.the-laws 0 0 Path'.refl Path'.refl a y (Going.struct .as-values y) Path'.refl)) λ y a. Behind.look-at 𝓤 H A W TreeShare.fullShare Reading.the-type Laws'5.the-laws 1 16 Path'.refl Path'.refl a y (Reading.struct .as-values y) Path'.refl)) λ y a. Behind.look-at 𝓤 H A W TreeShare.fullShare Window.the-type Laws'6.the-laws 5 40 Path'.refl Path'.refl a y (Window.struct .as-values y) Path'.refl)), Path'.refl), ((Reads.reads-field 𝓤 H A W Going.the-type Laws'3.the-laws 2 y1 120 Path'.refl, Path'.refl), (ShrSlice.spares-sslice 𝓤 H A W q3 y15 18, Shared.reads-sslice 𝓤 H A W q3 y15 18, Path'.refl, ((Reads.reads-inner 𝓤 H A W Window.the-type Laws'6.the-laws (Rows.whole q5) 16 (λ x. Reading.struct .as-values (Going.struct .as-values x .0) .1 .0) (Reads.reads-inner 𝓤 H A W Reading.the-type Laws'5.the-laws (Rows.whole q5) 0 (λ x. Going.struct .as-values x .0) (Reads.reads-field 𝓤 H A W Going.the-type Laws'3.the-laws 0 y6 0 Path'.refl) 1 y5 16 Path'.refl) 2 y1 16 Path'.refl, Path'.refl), ((Reads.reads-inner 𝓤 H A W Window.the-type Laws'6.the-laws (Rows.whole q5) 16 (λ x. Reading.struct .as-values (Going.struct .as-values x .0) .1 .0) (Reads.reads-inner 𝓤 H A W Reading.the-type Laws'5.the-laws (Rows.whole q5) 0 (λ x. Going.struct .as-values x .0) (Reads.reads-field 𝓤 H A W Going.the-type Laws'3.the-laws 0 y6 0 Path'.refl) 1 y5 16 Path'.refl) 3 y1 24 Path'.refl, Path'.refl), (ShrSlice.spares-sslice 𝓤 H A W q4 y17 19, Shared.reads-sslice 𝓤 H A W q4 y17 19, Path'.refl, (ShrSlice.spares-sslice 𝓤 H A W q2 y23 1, Shared.reads-sslice 𝓤 H A W q2 y23 1, Path'.refl, (ShrSlice.spares-sslice 𝓤 H A W q2 y24 2, Shared.reads-sslice 𝓤 H A W q2 y24 2, Path'.refl, (Reads'.as-is 𝓤 H A (Mut.mslice q4 y11 20), Mut.reads-mslice 𝓤 H A W q4 y11 20, Path'.refl, (Reads'.as-is 𝓤 H A (Mut.mslice Rec·type.the-row y19 21), Mut.reads-mslice 𝓤 H A W Rec·type.the-row y19 21, Path'.refl, tt))))))))))) (Reads'.room-gone 𝓤 H A y9) (tt, (tt, (tt, (tt, (tt, (tt, tt)))))) Path'.refl) d44
+          d45 = Typed.s-seq 𝓤 H A W 𝓣 E G96 G97 b39 b48 Δ3 (Typed.both s94) at44 (Plain.t-call-plain 𝓤 H A W 𝓣 6 ps·3 r·3 (claims· .6) (claims· .7) "scans::dust::dust_backward" (known .3) E (λ pos β. β) G96 (record { pos = 1; st = List.[]; d = 0; at = λ x. x }, (record { pos = 11; st = (Syntax.field 0) ∷ (Syntax.field 1) ∷ (Syntax.field 5) ∷ []; d = 56; at = λ x. Window.struct .as-values (Reading.struct .as-values (Going.struct .as-values x .0) .1 .0) .1 .1 .1 .1 .1 .0 }, (Num.vFld 11 ((Syntax.field 2) ∷ []) 120 λ x. Going.struct .as-values x .1 .1 .0, (record { pos = 34; ty = y15; ref = λ x. x }, (Num.vFld 11 ((Syntax.field 0) ∷ (Syntax.field 1) ∷ (Syntax.field 2) ∷ []) 32 λ x. Window.struct .as-values (Reading.struct .as-values (Going.struct .as-values x .0) .1 .0) .1 .1 .0, (Num.vFld 11 ((Syntax.field 0) ∷ (Syntax.field 1) ∷ (Syntax.field 3) ∷ []) 40 λ x. Window.struct .as-values (Reading.struct .as-values (Going.struct .as-values x .0) .1 .0) .1 .1 .1 .0, (record { pos = 36; ty = y17; ref = λ x. x }, (record { pos = 3; ty = y23; ref = λ x. x }, (record { pos = 4; ty = y24; ref = λ x. x }, (record { pos = 38; ty = y11; ref = λ x. x }, (record { pos = 40; ty = y19; ref = λ x. x }, tt))))))))))) 12 (18 ∷ 19 ∷ 1 ∷ 2 ∷ 20 ∷ 21 ∷ []) (Call.sub-id 𝓤 H A W (G96 .slots)) ((Yields.yields-copy 𝓤 H A W (λ ρ. Unit) q0 Path'.refl (Copies.cStruct Params.the-type Laws'.the-laws Laws'.the-copy .copy 𝓤 H A W) (Rows.whole q0) (λ x. x) (λ x. x) (λ ρ told. Local.mem-whole 𝓤 H A W q0 ρ) λ ρ told. Local.whole-mem 𝓤 H A W q0 ρ, Path'.refl), ((Yields'.yields-acc 𝓤 H A W (Rows.whole q5) q7 56 (λ x. Window.struct .as-values (Reading.struct .as-values (Going.struct .as-values x .0) .1 .0) .1 .1 .1 .1 .1 .0) Path'.refl (Copies.cStruct Carry.the-type Laws.the-laws Laws.the-copy .copy 𝓤 H A W) (Yields'.acc-record 𝓤 H A W (Rows.whole q5) Carry.the-type 56 (λ x. Window.struct .as-values (Reading.struct .as-values (Going.struct .as-values x .0) .1 .0) .1 .1 .1 .1 .1 .0) (Yields'.acc-part 𝓤 H A W (Rows.whole q5) q9 (Struct.Struct (Declared.shape Carry.the-type)) 16 40 (λ x. Reading.struct .as-values (Going.struct .as-values x .0) .1 .0) (λ y. Carry.the-type .to (Window.struct .as-values y .1 .1 .1 .1 .1 .0)) (Yields'.acc-record 𝓤 H A W (Rows.whole q5) Window.the-type 16 (λ x. Reading.struct .as-values (Going.struct .as-values x .0) .1 .0) (Yields'.acc-part 𝓤 H A W (Rows.whole q5) q10 (Struct.Struct (Declared.shape Window.the-type)) 0 16 (λ x. Going.struct .as-values x .0) (λ y. Window.the-type .to (Reading.struct .as-values y .1 .0)) (Yields'.acc-record 𝓤 H A W (Rows.whole q5) Reading.the-type 0 (λ x. Going.struct .as-values x .0) (Yields'.acc-part 𝓤 H A W (Rows.whole q5) q5 (Struct.Struct (Declared.shape Reading.the-type)) 0 0 (λ x. x) (λ y. Reading.the-type .to (Going.struct .as-values y .0)) (Yields'.acc-whole 𝓤 H A W q5) λ y a. Behind.look-at 𝓤 H A W TreeShare.fullShare Going.the-type Laws'3.the-laws 0 0 Path'.refl Path'.refl a y (Going.struct .as-values y) Path'.refl)) λ y a. Behind.look-at 𝓤 H A W TreeShare.fullShare Reading.the-type Laws'5.the-laws 1 16 Path'.refl Path'.refl a y (Reading.struct .as-values y) Path'.refl)) λ y a. Behind.look-at 𝓤 H A W TreeShare.fullShare Window.the-type Laws'6.the-laws 5 40 Path'.refl Path'.refl a y (Window.struct .as-values y) Path'.refl)), Path'.refl), ((Reads.reads-field 𝓤 H A W Going.the-type Laws'3.the-laws 2 y1 120 Path'.refl, Path'.refl), (ShrSlice.spares-sslice 𝓤 H A W q3 y15 18, Shared.reads-sslice 𝓤 H A W q3 y15 18, Path'.refl, ((Reads.reads-inner 𝓤 H A W Window.the-type Laws'6.the-laws (Rows.whole q5) 16 (λ x. Reading.struct .as-values (Going.struct .as-values x .0) .1 .0) (Reads.reads-inner 𝓤 H A W Reading.the-type Laws'5.the-laws (Rows.whole q5) 0 (λ x. Going.struct .as-values x .0) (Reads.reads-field 𝓤 H A W Going.the-type Laws'3.the-laws 0 y6 0 Path'.refl) 1 y5 16 Path'.refl) 2 y1 16 Path'.refl, Path'.refl), ((Reads.reads-inner 𝓤 H A W Window.the-type Laws'6.the-laws (Rows.whole q5) 16 (λ x. Reading.struct .as-values (Going.struct .as-values x .0) .1 .0) (Reads.reads-inner 𝓤 H A W Reading.the-type Laws'5.the-laws (Rows.whole q5) 0 (λ x. Going.struct .as-values x .0) (Reads.reads-field 𝓤 H A W Going.the-type Laws'3.the-laws 0 y6 0 Path'.refl) 1 y5 16 Path'.refl) 3 y1 24 Path'.refl, Path'.refl), (ShrSlice.spares-sslice 𝓤 H A W q4 y17 19, Shared.reads-sslice 𝓤 H A W q4 y17 19, Path'.refl, (ShrSlice.spares-sslice 𝓤 H A W q2 y23 1, Shared.reads-sslice 𝓤 H A W q2 y23 1, Path'.refl, (ShrSlice.spares-sslice 𝓤 H A W q2 y24 2, Shared.reads-sslice 𝓤 H A W q2 y24 2, Path'.refl, (Reads'.as-is 𝓤 H A (Mut.mslice q4 y11 20), Mut.reads-mslice 𝓤 H A W q4 y11 20, Path'.refl, (Reads'.as-is 𝓤 H A (Mut.mslice Rec·type.the-row y19 21), Mut.reads-mslice 𝓤 H A W Rec·type.the-row y19 21, Path'.refl, tt))))))))))) (Reads'.room-gone 𝓤 H A y9) (tt, (tt, (tt, (tt, (tt, (tt, tt)))))) Path'.refl) d44
 
           d46 : Typed.Typed 𝓤 H A 𝓣 E G95 b50 Δ3 at46
           d46 = Typed.s-seq 𝓤 H A W 𝓣 E G95 G96 b38 b49 Δ3 (Typed.ask s93) at45 (Relend.t-sl-aggregate 𝓤 H A W E Rec·type.the-row 𝓣 (Relend.asMut Rec·type.the-row) G95 39 40 21 y19 y19 (λ x. x) (Scalar.oFld 8 ((Syntax.field 1) ∷ []) y1 8 λ v. Shared.lenV (v .0)) (Reads'.as-is 𝓤 H A (Relend.msptr Rec·type.the-row y19 21)) (Reads'.room-gone 𝓤 H A y20) (Relend.reads-owed-len 𝓤 H A W Rec·type.the-row y28 6 21 li5 8 Path'.refl, Path'.refl) Path'.refl Path'.refl λ b o k. tt) d45
@@ -4767,7 +4767,7 @@ module _ (claims· : Claims) where
             r·3
             (claims· .6)
             (claims· .7)
-            "scans::dust_backward")
+            "scans::dust::dust_backward")
             (known4 : Plain.Known
             𝓤
             H
