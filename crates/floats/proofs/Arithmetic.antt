@@ -10,9 +10,10 @@ use lib.Pow.{pow-pos}
 use lib.Ieee.{Float, nan, inf, fin, Format, prec, emax, low, up, down, unlike, round, sum, add, sub, neg, mul}
 use lib.Ieee.Fits.{round-fits, down-pos, neg-fits}
 use lib.Ieee.Scale.{grid}
-use Rattle.floats.specs.Value.{magnitude, posPart, negPart, Finite, Near}
+use Rattle.floats.specs.Value.{magnitude, Finite}
 use Rattle.floats.proofs.Value.{ifPos, ifNeg, magnitude-whole, over-one, order, parts-of-value, near-intro}
 use Rattle.floats.proofs.Rounding.{grid-near, grid-small, round-value, no-overflow}
+use Rattle.floats.proofs.Rounded.{posPart, negPart, Near}
 
 -- ---- a number of W units, however it is written as a fraction and whatever its sign, rounds to one that is within E of it
 abbrev Rounds : Format → ℕ → ℕ → Type 0

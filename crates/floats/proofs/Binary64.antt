@@ -11,10 +11,11 @@ use lib.Ieee.{Float, nan, inf, fin, Format, binary64, low, up, down, round, add,
 use lib.Ieee.Back.{round-whole}
 use lib.Ieee.Exact.{HasValue}
 use lib.Ieee.Fits.{round-fits}
-use Rattle.floats.specs.Value.{Finite, Near}
-use Rattle.floats.specs.Binary64.{one, eps, pos64, neg64, number}
+use Rattle.floats.specs.Value.{Finite}
+use Rattle.floats.specs.Binary64.{one, number}
 use Rattle.floats.proofs.Value.{parts-of-value}
 use Rattle.floats.proofs.Arithmetic.{add-near, sub-near, mul-near, NearProduct}
+use Rattle.floats.proofs.Rounded.{Near, eps, pos64, neg64}
 
 pub one-eps : one ≡ 18014398509481984 * eps
 unfolding one eps

@@ -12,8 +12,9 @@ use lib.Pow.{pow-pos}
 use lib.Ieee.{Float, nan, inf, fin, Format, low, up, down, below, level, lt, le, eq}
 use lib.Ieee.Scale.{finite}
 use lib.Ieee.Fits.{down-pos, and-i, and-l, and-r, eq→eqb}
-use Rattle.floats.specs.Value.{magnitude, sign, posPart, negPart, Finite}
+use Rattle.floats.specs.Value.{magnitude, sign, Finite}
 use Rattle.floats.proofs.Value.{ifPos, ifNeg, over-one, order}
+use Rattle.floats.proofs.Rounded.{posPart, negPart}
 
 -- ---- ±a against ±b
 below-is : (s t : Bool) (a b : ℕ) → T (below s a t b) ↔ (ifPos s a + ifNeg t b < ifPos t b + ifNeg s a)

@@ -5,10 +5,11 @@ use native.Mathlib.Omega.{arith}
 use lib.Dec.{T, lit<}
 use lib.Ieee.{Float, binary64, fits, le}
 use Rattle.floats.specs.Value.{Finite}
-use Rattle.floats.specs.Binary64.{pos64, neg64, Ranged, zero64, sixteen, twoTo20}
+use Rattle.floats.specs.Binary64.{zero64, sixteen, twoTo20}
 use Rattle.floats.proofs.Compare.{le-value, finite-between, not-negative}
 use Rattle.floats.proofs.Binary64.{IsNumber, int64}
 use Rattle.floats.proofs.Constants.{zero64-is, sixteen-is, twoTo20-is}
+use Rattle.floats.proofs.Rounded.{pos64, neg64, Ranged}
 
 pub zero-number : IsNumber 0 zero64
 zero-number = subst (λ (x : Float). IsNumber 0 x) (sym zero64-is) (int64 0 (lit< tt))

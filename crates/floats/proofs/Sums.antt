@@ -7,10 +7,10 @@ use native.Mathlib.Nat.{mul-le-mul-left, mul-le-mul-right}
 use native.Mathlib.Omega.{arith}
 use lib.Dec.{lit≤}
 use lib.Ieee.{Float, binary64, add, sub, mul}
-use Rattle.floats.specs.Value.{Near}
-use Rattle.floats.specs.Binary64.{one, eps, pos64, Ranged, number, zero64}
+use Rattle.floats.specs.Binary64.{one, number, zero64}
 use Rattle.floats.proofs.Binary64.{one-eps, int64, mul-int64, near-self, near-as, near-add, near-sub, count-add, count-sub}
 use Rattle.floats.proofs.Range.{zero-number}
+use Rattle.floats.proofs.Rounded.{Near, eps, pos64, Ranged}
 
 -- ---- i * 2 ^ -33, for i steps of two roundings each, and 2 ^ -34, for one rounding
 abbrev pub err : ℕ → ℕ

@@ -4,8 +4,8 @@ use Prim.Native.Nat.{ℕ, _+_, _≤_, _<_}
 use native.Mathlib.Omega.{arith}
 use lib.Dec.{T}
 use lib.Ieee.{Float, Format, lt, le}
-use Rattle.floats.specs.Value.{Near}
 use Rattle.floats.proofs.Compare.{lt-value, le-value}
+use Rattle.floats.proofs.Rounded.{Near}
 
 module _ {f : Format} {x y : Float} {P N E Q R F : ℕ} (X : Near f x P N E) (Y : Near f y Q R F) where
   pub le-near : T (le x y) → P + R ≤ Q + N + (E + F)

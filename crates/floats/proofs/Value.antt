@@ -13,7 +13,8 @@ use lib.Ieee.Digits.{back}
 use lib.Ieee.Fits.{and-l, and-r, down-pos}
 use lib.Ieee.Exact.{HasValue}
 use lib.Ieee.Scale.{finite}
-use Rattle.floats.specs.Value.{sign, magnitude, posPart, negPart, Near}
+use Rattle.floats.specs.Value.{sign, magnitude}
+use Rattle.floats.proofs.Rounded.{posPart, negPart, Near}
 
 -- the parts of a number of size g, by its sign
 abbrev pub ifPos : Bool → ℕ → ℕ

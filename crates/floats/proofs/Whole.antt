@@ -9,8 +9,9 @@ use lib.IntN.{ℤ, pos, negsuc, natAbs, negℤ, subℕ, _+ℤ_, _-ℤ_, _*ℤ_, 
 use lib.Signed.{_≤ℤ_}
 use lib.Dec.{T, ltb, leb→le, le→leb, ltb→lt, nltb→le}
 use lib.Ieee.{Float, Format, le}
-use Rattle.floats.specs.Value.{magnitude, sign, posPart, negPart, value}
+use Rattle.floats.specs.Value.{magnitude, sign, value}
 use Rattle.floats.proofs.Value.{ifPos, ifNeg}
+use Rattle.floats.proofs.Rounded.{posPart, negPart}
 
 -- z is a - b
 abbrev pub Is : ℤ → ℕ → ℕ → Type 0

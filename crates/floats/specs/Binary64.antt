@@ -1,34 +1,17 @@
 -- The paper, 'Records', 'Letters and places' and 'Step and scans': 64-bit floats in units of 2^-1074, the ranges of demand 3, the paper's numbers as floats, and the test 'within 1e-9'.
-use mathlib.Core.Path.{_≡_}
 use mathlib.Core.Bool.{Bool, _&&_}
-use Prim.Native.Nat.{ℕ, _*_, _^_, _≤_}
+use Prim.Native.Nat.{ℕ, _^_}
 use lib.IntN.{ℤ, pos}
 use lib.Ieee.{Float, binary64, ofBits, ofInt, lt, neg}
-use Rattle.floats.specs.Value.{posPart, negPart, value, Finite}
+use Rattle.floats.specs.Value.{value}
 
 -- ---- units of 2 ^ -1074
 -- the number 1
 unfoldable pub one : ℕ
 one = 2 ^ 1074
 
--- 2 ^ -54: a rounding of a number of size at most 2 ^ M is off by at most 2 ^ M of these
-unfoldable pub eps : ℕ
-eps = 2 ^ 1020
-
-abbrev pub pos64 : Float → ℕ
-pos64 x = posPart binary64 x
-
-abbrev pub neg64 : Float → ℕ
-neg64 x = negPart binary64 x
-
 abbrev pub value64 : Float → ℤ
 value64 x = value binary64 x
-
--- a number from 0 to B, -0 included
-pub record Ranged (B : ℕ) (x : Float) : Type 0 where
-  pub ok : Finite binary64 x
-  pub high : pos64 x ≤ B * one
-  pub low : neg64 x ≡ 0
 
 -- ---- numbers as floats
 abbrev pub number : ℕ → Float

@@ -1,7 +1,7 @@
 -- The paper, 'Letters and places', 'each float stands for its whole multiple of 2^-1074': what a finite float is worth, in units of its format's smallest positive value.
--- `posPart` and `negPart` say the same as two naturals of which one is 0, so that a fact on values is a linear fact on naturals. A NaN and an infinity are worth 0.
+-- A NaN and an infinity are worth 0.
 use mathlib.Core.Bool.{Bool, false, cond}
-use Prim.Native.Nat.{ℕ, _+_, _*_, _/_, _^_, _≤_}
+use Prim.Native.Nat.{ℕ, _*_, _/_, _^_}
 use lib.Dec.{T}
 use lib.IntN.{ℤ, pos, negℤ}
 use lib.Ieee.{Float, nan, inf, fin, Format, low, up, down, fits}
@@ -22,20 +22,7 @@ magnitude f (fin s m e) = m * up e * 2 ^ low f / down e
 unfoldable pub value : Format → Float → ℤ
 value f x = cond (sign x) (negℤ (pos (magnitude f x))) (pos (magnitude f x))
 
--- value = posPart - negPart
-unfoldable pub posPart : Format → Float → ℕ
-posPart f x = cond (sign x) 0 (magnitude f x)
-
-unfoldable pub negPart : Format → Float → ℕ
-negPart f x = cond (sign x) (magnitude f x) 0
-
 -- x is a number of the format: no NaN, no infinity
 pub record Finite (f : Format) (x : Float) : Type 0 where
   pub finite : T (finite x)
   pub fits : T (fits f x)
-
--- r is a number of the format, and at most E units away from P - N
-pub record Near (f : Format) (r : Float) (P N E : ℕ) : Type 0 where
-  pub ok : Finite f r
-  pub upper : posPart f r + N ≤ P + negPart f r + E
-  pub lower : P + negPart f r ≤ posPart f r + N + E

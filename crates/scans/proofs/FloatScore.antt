@@ -8,11 +8,11 @@ use lib.ListN.{length, take, drop, length-append, length-take, length-drop, leng
 use lib.Seq.{append-snoc, take-at}
 use lib.IntN.{ℤ, natAbs, _-ℤ_}
 use lib.Ieee.{Float, binary64}
-use Rattle.floats.specs.Value.{Near}
 use Rattle.floats.specs.Arithmetic.{_⊕_, _⊖_}
-use Rattle.floats.specs.Binary64.{pos64, neg64, value64, zero64}
+use Rattle.floats.specs.Binary64.{value64, zero64}
 use Rattle.floats.proofs.Whole.{Is, is-sub, is-size, value-is}
 use Rattle.floats.proofs.Sums.{err, err-units, After, after-as, after-start, after-step, after-score}
+use Rattle.floats.proofs.Rounded.{Near, pos64, neg64}
 use Rattle.letters.specs.Place.{Place, ambiguous, plain, BelowAt, Below}
 use Rattle.scans.specs.Setup.{Setup, lnAt, kmers}
 use Rattle.scans.specs.Counts.{raise, cleared}

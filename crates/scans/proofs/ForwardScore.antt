@@ -10,13 +10,13 @@ use lib.ListN.{length, take, drop, length-take, length-drop}
 use lib.Seq.{take-length}
 use lib.Dec.{T}
 use lib.Ieee.{Float, binary64, add, sub, lt, le}
-use Rattle.floats.specs.Value.{Near}
 use Rattle.floats.specs.Arithmetic.{_⊕_}
 use Rattle.floats.specs.Binary64.{zero64, slack}
 use Rattle.floats.proofs.Compare.{le-self}
 use Rattle.floats.proofs.Order.{le-trans, lt-le, nle-lt}
 use Rattle.floats.proofs.Sums.{err, zero-near}
 use Rattle.floats.proofs.Tests.{le-near, le-sure}
+use Rattle.floats.proofs.Rounded.{Near}
 use Rattle.letters.specs.Place.{Place, Below}
 use Rattle.scans.specs.Setup.{Setup, fAt, kmers}
 use Rattle.scans.specs.Counts.{raise, cleared}

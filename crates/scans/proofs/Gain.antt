@@ -6,9 +6,10 @@ use mathlib.Core.List.{List, [], _∷_, _++_}
 use lib.ListN.{length}
 use lib.IntN.{ℤ, pos, negsuc, natAbs, _+ℤ_, _-ℤ_, _*ℤ_}
 use lib.Ieee.{Float, binary64}
-use Rattle.floats.specs.Binary64.{one, pos64, value64, Ranged}
+use Rattle.floats.specs.Binary64.{one, value64}
 use Rattle.floats.proofs.Whole.{Is, is-as, is-sub, is-times, value-is-pos}
 use Rattle.floats.proofs.Sums.{zero-ranged}
+use Rattle.floats.proofs.Rounded.{pos64, Ranged}
 use Rattle.letters.specs.Place.{Place, ambiguous, plain, BelowAt, Below}
 use Rattle.scans.specs.Setup.{Setup, lnAt, fAt, kmers}
 use Rattle.scans.specs.Counts.{count}

@@ -8,9 +8,9 @@ use mathlib.Core.List.{List, [], _∷_}
 use lib.ListN.{length, take, drop, length-take, length-drop}
 use lib.IntN.{pos, _+ℤ_, _*ℤ_}
 use lib.Ieee.{Float}
-use Rattle.floats.specs.Binary64.{eps}
 use Rattle.floats.proofs.Sums.{err, err-units}
 use Rattle.floats.proofs.Whole.{is-add, is-scaled, is-le}
+use Rattle.floats.proofs.Rounded.{eps}
 use Rattle.letters.specs.Place.{Place, Below}
 use Rattle.scans.specs.Setup.{Setup, kmers}
 use Rattle.scans.specs.Scans.{Find, none, at, dustForward, dustBackward}

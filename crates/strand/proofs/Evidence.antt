@@ -11,11 +11,10 @@ use lib.Dec.{T, leb, leb→le, nleb→lt, ltb→lt}
 use lib.IntN.{ℤ, pos, negsuc}
 use lib.Signed.{ltZ}
 use lib.Ieee.{binary64}
-use Rattle.floats.specs.Value.{Near}
-use Rattle.floats.specs.Binary64.{eps}
 use Rattle.floats.proofs.Binary64.{near-as}
 use Rattle.floats.proofs.Sums.{err, half, err-small, zero-near}
 use Rattle.floats.proofs.Whole.{Is}
+use Rattle.floats.proofs.Rounded.{Near, eps}
 use Rattle.letters.specs.Place.{Place, ambiguous, plain, Below}
 use Rattle.intervals.specs.Interval.{Interval, Covers}
 use Rattle.intervals.proofs.Order.{lt-or-le}

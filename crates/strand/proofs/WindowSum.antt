@@ -7,12 +7,12 @@ use mathlib.Core.List.{List, [], _∷_, _++_}
 use lib.ListN.{length}
 use lib.Dec.{T}
 use lib.Ieee.{Float, binary64, add, sub, lt}
-use Rattle.floats.specs.Value.{Near}
-use Rattle.floats.specs.Binary64.{one, pos64, zero64}
+use Rattle.floats.specs.Binary64.{one, zero64}
 use Rattle.floats.proofs.Binary64.{one-pos, near-as}
 use Rattle.floats.proofs.Range.{zero-number}
 use Rattle.floats.proofs.Tests.{lt-near}
 use Rattle.floats.proofs.Sums.{err, half, zero-near, sum-leave, sum-join, sum-score}
+use Rattle.floats.proofs.Rounded.{Near, pos64}
 use Rattle.letters.specs.Place.{Place, ambiguous, plain, BelowAt, Below}
 use Rattle.scans.specs.Setup.{Setup, lnAt, kmers}
 use Rattle.scans.specs.Counts.{hit, count}
