@@ -26,7 +26,7 @@ find-at zero h = absurd (h refl)
 find-at (suc j) h = ap at (let e : j ≡ suc j - 1 = omega arith in e)
 
 pub last-found : (w : Window) (r : ℕ) {l : ℤ} → (r ≡ 0 → ⊥) → l ≡ pos (r - 1)
-    → record { sum = w .sum; last = l; head = w .head; len = w .len; live = w .live; carry = w .carry } ≡ lastBy w (findOf r)
+    → record { sum = w .sum; «last_q» = l; head = w .head; len = w .len; live = w .live; carry = w .carry } ≡ lastBy w (findOf r)
 last-found w r h e = rw (find-at r h, e)
 
 -- ---- The interval in hand is saved.

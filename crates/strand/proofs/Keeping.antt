@@ -24,12 +24,12 @@ use Rattle.scans.proofs.CarriedScan.{carried-next, found-counted}
 use Rattle.scans.proofs.Finds.{backward-facts}
 use Rattle.strand.specs.Step.{whole, countsWithout, lastWithout}
 use Rattle.strand.specs.declared.Window.{Window}
-use Rattle.strand.specs.Kept.{Kept, carryWithout, Passing, Passes, extendedOf, answeredBy}
+use Rattle.strand.specs.Kept.{Kept, carryWithout, Passes, extendedOf, answeredBy}
 use Rattle.strand.specs.Held.{lastBy, unread}
 
 -- It depends on last_q, `live` and the carried scan alone.
 pub kept-same : {S : Setup} {q : List Place} {w w′ : Window} {counts : List ℕ} → Kept S q w counts
-    → w′ .last ≡ w .last → w′ .live ≡ w .live → w′ .carry ≡ w .carry → Kept S q w′ counts
+    → w′ .«last_q» ≡ w .«last_q» → w′ .live ≡ w .live → w′ .carry ≡ w .carry → Kept S q w′ counts
 kept-same k a l c =
     record {
       clear = rw l (k .clear);
@@ -43,7 +43,7 @@ kept-same k a l c =
 
 -- A window that says this of them.
 abbrev says : ℤ → Bool → Carry → Window
-says last live carry = record { sum = zero64; last = last; head = 0; len = 0; live = live; carry = carry }
+says last live carry = record { sum = zero64; «last_q» = last; head = 0; len = 0; live = live; carry = carry }
 
 no-sums : {S : Setup} {es : List Place} {c : Carry} → c .on ≡ false → Carried S es c
 no-sums off = record { s-is = λ on. absurd (true≢false (sym on ∙ off)); best-is = λ on. absurd (true≢false (sym on ∙ off)) }
@@ -124,21 +124,13 @@ oldest S e q (negsuc j) false c counts k = kept-clear (k .clear refl) (kept-off 
 oldest S e q (negsuc j) true c counts k = absurd (pos-ne-negsuc 0 j (sym (k .from refl)))
 
 pub kept-oldest : {S : Setup} {e : Place} {q : List Place} {w w′ : Window} {counts : List ℕ} → Kept S (e ∷ q) w counts
-    → w′ .last ≡ lastWithout (w .last) → w′ .live ≡ w .live → w′ .carry ≡ carryWithout (w .last) (w .carry) → Kept S q w′ (countsWithout (w .last) counts e)
-kept-oldest {S} {e} {q} {w} {counts = counts} k a l c = kept-same (oldest S e q (w .last) (w .live) (w .carry) counts (kept-same k refl refl refl)) a l c
+    → w′ .«last_q» ≡ lastWithout (w .«last_q») → w′ .live ≡ w .live → w′ .carry ≡ carryWithout (w .«last_q») (w .carry) → Kept S q w′ (countsWithout (w .«last_q») counts e)
+kept-oldest {S} {e} {q} {w} {counts = counts} k a l c = kept-same (oldest S e q (w .«last_q») (w .live) (w .carry) counts (kept-same k refl refl refl)) a l c
 
 -- ---- The newest entry joins, and is no find.
 module _ {S : Setup} {q : List Place} {w : Window} {counts : List ℕ} (k : Kept S q w counts) where
   abbrev lastQ : ℕ
-  lastQ = whole (w .last)
-
-  pub passing : w .len ≡ length q + 1 → (e : ℕ) → Passing w e counts
-  passing n e =
-      record {
-        from = λ on. k .from (k .live on);
-        inside = λ on. omega (arith, k .inside (k .live on));
-        few = λ on. omega (arith, k .counted on .counted (e / 2), count-le (e / 2) (drop lastQ q), length-drop lastQ q);
-      }
+  lastQ = whole (w .«last_q»)
 
   more : (e : Place) → w .live ≡ true → drop lastQ (q ++ e ∷ []) ≡ drop lastQ q ++ e ∷ []
   more e l = drop-append-le lastQ q (e ∷ []) (k .inside l)
@@ -173,13 +165,13 @@ kept-passed {S} {q} {e} {w} {w′} {counts} {counts′} b n k p = go (w .carry .
     go : (t : Bool) → w .carry .on ≡ t → Kept S (q ++ e ∷ []) w′ counts′
     go false off = rw (p .off off .0, p .off off .1) (kept-uncounted k e off)
     go true on =
-        let j : ℕ = whole (w .last) in
+        let j : ℕ = whole (w .«last_q») in
         let same = p .on on .0 in
         let next = p .on on .1 in
         let l = k .live on in
         let size : w .len - j ≡ length (drop j q) + 1 = omega (arith, n, k .inside l, length-drop j q) in
         subst (λ (z : List ℕ). Kept S (q ++ e ∷ []) w′ z) (sym (next .counts-are))
-        (kept-same (kept-next k e b on) (ap (λ (z : Window). z .last) same ∙ k .from l) (ap (λ (z : Window). z .live) same ∙ l)
+        (kept-same (kept-next k e b on) (ap (λ (z : Window). z .«last_q») same ∙ k .from l) (ap (λ (z : Window). z .live) same ∙ l)
         (next .carry-is ∙ ap (λ (z : ℕ). carriedOn S z counts e (w .carry)) size))
 
 -- ---- A find by extension.
@@ -188,7 +180,7 @@ pub kept-extended : {S : Setup} {q : List Place} {w : Window} {counts : List ℕ
 kept-extended {S} {q} {w} {counts} x k = kept-same (kept-touched (omega arith) (touched-raise counts q (plain x) (go (w .live) refl)) refl) refl refl refl
   where
     go : (t : Bool) → w .live ≡ t → Touched counts q
-    go true l = touched-part counts (whole (w .last)) q (k .touched l)
+    go true l = touched-part counts (whole (w .«last_q»)) q (k .touched l)
     go false n = rw (k .clear n) (touched-cleared (kmers S) q)
 
 -- ---- A backward scan's find leaves the counts of the places from it on.

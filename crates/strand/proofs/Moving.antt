@@ -194,14 +194,14 @@ module _ {p : Params} {ring : List ℕ} {head len : ℕ} {counts : List ℕ} {n 
 
 -- ---- The oldest entry leaves a full queue.
 abbrev pub lessOldest : Window → Float → Carry → Window
-lessOldest w sum carry = record { sum = sum; last = w .last; head = w .head; len = w .len; live = w .live; carry = carry }
+lessOldest w sum carry = record { sum = sum; «last_q» = w .«last_q»; head = w .head; len = w .len; live = w .live; carry = carry }
 
 -- b is the window whose sum and carried scan are without the entry.
 module _ {p : Params} {ln : List Float} {a b : Window} {ring counts scan-counts counts′ scan-counts′ : List ℕ} {sum : Float} {last : ℤ} {head : ℕ} where
-  pub left : Windowed p ring (a .head) (a .len) counts (length ln) → a .len ≡ p .«window_size» → b ≡ lessOldest a sum (carryWithout (a .last) (a .carry))
-      → sum ≡ sumLess ln counts (a .sum) (decode (getD ring (a .head) 0)) → last ≡ lastWithout (a .last) → head ≡ ringIndex (p .«window_size») (a .head) 1
-      → counts′ ≡ lower counts (decode (getD ring (a .head) 0)) → scan-counts′ ≡ countsWithout (a .last) scan-counts (decode (getD ring (a .head) 0))
-      → Left p ln a (record { sum = b .sum; last = last; head = head; len = b .len - 1; live = b .live; carry = b .carry }) ring scan-counts counts′ scan-counts′
+  pub left : Windowed p ring (a .head) (a .len) counts (length ln) → a .len ≡ p .«window_size» → b ≡ lessOldest a sum (carryWithout (a .«last_q») (a .carry))
+      → sum ≡ sumLess ln counts (a .sum) (decode (getD ring (a .head) 0)) → last ≡ lastWithout (a .«last_q») → head ≡ ringIndex (p .«window_size») (a .head) 1
+      → counts′ ≡ lower counts (decode (getD ring (a .head) 0)) → scan-counts′ ≡ countsWithout (a .«last_q») scan-counts (decode (getD ring (a .head) 0))
+      → Left p ln a (record { sum = b .sum; «last_q» = last; head = head; len = b .len - 1; live = b .live; carry = b .carry }) ring scan-counts counts′ scan-counts′
   unfolding leave
   left w full b-is sum-is last-is head-is counts-is scan-is =
       let q = window ring (a .head) (a .len) in
@@ -234,7 +234,7 @@ left-none {p} {a = a} {ring} w h =
 module _ {p : Params} {ln : List Float} {a : Window} {ring counts counts′ : List ℕ} {e i : ℕ} {sum : Float} where
   pub joined : Windowed p ring (a .head) (a .len) counts (length ln) → a .len < p .«window_size» → e / 2 < 4 ^ p .kmer
       → i ≡ ringIndex (p .«window_size») (a .head) (a .len) → sum ≡ sumMore ln counts′ (a .sum) (decode e) → counts′ ≡ raise counts (decode e)
-      → Joined p ln a (record { sum = sum; last = a .last; head = a .head; len = a .len + 1; live = a .live; carry = a .carry }) e ring (set ring i e) counts′
+      → Joined p ln a (record { sum = sum; «last_q» = a .«last_q»; head = a .head; len = a .len + 1; live = a .live; carry = a .carry }) e ring (set ring i e) counts′
   unfolding join
   joined w room below i-is sum-is counts-is =
       let q = window ring (a .head) (a .len) ++ decode e ∷ [] in

@@ -10,8 +10,7 @@ use lib.Signed.{leZ}
 use lib.Ieee.{Float, nan, lt}
 use Rattle.floats.specs.Arithmetic.{_⊕_, _⊖_, _⊗_}
 use Rattle.floats.specs.Binary64.{zero64, number}
-use Rattle.letters.specs.Place.{Place, ambiguous, plain, places}
-use Rattle.letters.specs.declared.Kmer.{Kmer}
+use Rattle.letters.specs.Place.{Place, ambiguous, plain, placeAt, places}
 use Rattle.letters.specs.Entry.{decode}
 use Rattle.letters.specs.Rolling.{noLetter, kmerAfter, entryOf}
 use Rattle.intervals.specs.Interval.{Interval}
@@ -22,14 +21,13 @@ use Rattle.scans.specs.Counts.{count, raise}
 use Rattle.scans.specs.Scans.{Find, none, at, Outcome, extends, dustBackward}
 use Rattle.scans.specs.Window.{window, findOf, Windowed}
 use Rattle.scans.specs.Carry.{noCarry}
-use Rattle.strand.specs.Step.{Run, leave, join, isAt, search, st2, startAfter, whole, saveFrom, savedAfter, look, runFrom, run}
+use Rattle.strand.specs.Step.{Run, leave, join, isAt, search, st2, startAfter, whole, saveFrom, savedAfter, runFrom, run}
 use Rattle.strand.specs.declared.Window.{Window}
 use Rattle.strand.specs.declared.Open.{Open}
 use Rattle.strand.specs.declared.State.{State}
 use Rattle.strand.specs.declared.Look.{Look}
 use Rattle.strand.specs.declared.Look.the-variants.{Pass, Extension, Scan}
-use Rattle.strand.specs.declared.Reading.{Reading}
-use Rattle.strand.specs.Kept.{Kept, Sought, rescanned, Like}
+use Rattle.strand.specs.Kept.{Kept, Sought, rescanned, Passes, Like}
 
 -- The run that a window, an interval in hand, the ring, the scan counts and the saved intervals hold.
 abbrev pub heldBy : Window → Open → (ring counts : List ℕ) → List Interval → Run
@@ -40,12 +38,16 @@ heldBy w o ring counts saved =
       counts = counts;
       start = o .start;
       end = o .end;
-      last-q = w .last;
+      last-q = w .«last_q»;
       saved = saved;
     }
 
-abbrev pub held : State → (ring counts starts ends : List ℕ) → Run
-held a ring counts starts ends = heldBy (a .window) (a .hand) ring counts (rows (a .hand .count) starts ends)
+abbrev pub held : State → (ring counts : List ℕ) → List Interval → Run
+held a ring counts saved = heldBy (a .window) (a .hand) ring counts saved
+
+-- The place of the newest letter read.
+abbrev pub newestOf : Params → State → Place
+newestOf p a = decode (entryOf (p .kmer) (a .kmer))
 
 -- ---- The window.
 -- The sum without a place that leaves and with one that joins, `counts` being the window counts with the place.
@@ -84,11 +86,24 @@ pub record Entered (p : Params) (ln f : List Float) (w : Window) (e : ℕ) (ring
   pub kept : Kept (setupOf p ln f) (window ring (w .head) (w .len - 1)) w counts
   pub newest : window ring (w .head) (w .len) ≡ window ring (w .head) (w .len - 1) ++ decode e ∷ []
 
--- It has entered the window w, from which the oldest entry has left if that was full.
-pub record Enters (p : Params) (ln f : List Float) (w w′ : Window) (e : ℕ) (ring counts ring′ window-counts′ counts′ : List ℕ) : Type 0 where
-  pub run-is : (o : Open) (saved : List Interval)
-      → heldBy w′ o ring′ counts′ saved ≡ join (setupOf p ln f) (leave (setupOf p ln f) (heldBy w o ring counts saved)) (decode e)
-  pub entered : Entered p ln f w′ e ring′ window-counts′ counts′
+-- The next letter can enter.
+pub record Next (p : Params) (codes : List ℕ) (n-ln : ℕ) (a : State) (ring window-counts : List ℕ) (n-counts : ℕ) : Type 0 where
+  pub kmer-small : p .kmer ≤ 12
+  pub letters-in : length codes < 2147483648
+  pub counts-is : n-counts ≡ 4 ^ p .kmer
+  pub i-in : a .i < length codes
+  pub kmer-is : a .kmer ≡ kmerAfter (p .kmer) codes (a .i)
+  pub windowed : Windowed p ring (a .window .head) (a .window .len) window-counts n-ln
+
+-- It has entered: with a full queue the oldest entry has left, then its place has joined.
+pub record Enters (p : Params) (codes : List ℕ) (ln f : List Float) (a a′ : State) (ring counts ring′ window-counts′ counts′ : List ℕ) : Type 0 where
+  pub run-is : (saved : List Interval)
+      → held a′ ring′ counts′ saved ≡ join (setupOf p ln f) (leave (setupOf p ln f) (held a ring counts saved)) (placeAt (p .kmer) codes (a .i))
+  pub place-is : newestOf p a′ ≡ placeAt (p .kmer) codes (a .i)
+  pub kmer-is : a′ .kmer ≡ kmerAfter (p .kmer) codes (a .i + 1)
+  pub i-is : a′ .i ≡ a .i
+  pub hand-is : a′ .hand ≡ a .hand
+  pub entered : Entered p ln f (a′ .window) (entryOf (p .kmer) (a′ .kmer)) ring′ window-counts′ counts′
 
 -- ---- The search.
 -- Whether a place is searched from: it is plain, and its window count at least min_start_cnt.
@@ -96,17 +111,17 @@ abbrev pub isSearched : ℕ → List ℕ → Place → Bool
 isSearched least window-counts ambiguous = false
 isSearched least window-counts (plain x) = leb least (getD window-counts x 0)
 
--- Whether extend is tried at letter i, by the numbers that the code reads.
-abbrev pub triedBy : Params → List Float → ℕ → State → Bool
-triedBy p f i a =
+-- Whether extend is tried at letter a .i, by the numbers that the code reads.
+abbrev pub triedBy : Params → List Float → State → Bool
+triedBy p f a =
     let len : ℕ = a .window .len in
-    isAt (a .hand .end) i
+    isAt (a .hand .end) (a .i)
     && (lt zero64 (a .window .sum ⊖ getD f len nan ⊖ number len ⊗ p .«score_threshold»)
-    && (isAt (a .window .last) 0 || leZ (pos len) (pos i -ℤ a .hand .start)))
+    && (isAt (a .window .«last_q») 0 || leZ (pos len) (pos (a .i) -ℤ a .hand .start)))
 
 -- An extension that is tried and succeeds raises the k-mer's scan count.
-pub record Extended (p : Params) (ln f : List Float) (i : ℕ) (a : State) (x : ℕ) (counts : List ℕ) (r : Bool) (counts′ : List ℕ) : Type 0 where
-  pub answer : r ≡ triedBy p f i a && extends (setupOf p ln f) counts (a .window .len) x
+pub record Extended (p : Params) (ln f : List Float) (a : State) (x : ℕ) (counts : List ℕ) (r : Bool) (counts′ : List ℕ) : Type 0 where
+  pub answer : r ≡ triedBy p f a && extends (setupOf p ln f) counts (a .window .len) x
   pub counts-are : counts′ ≡ cond r (raise counts (plain x)) counts
 
 -- What a new entry leads to: a search if it is plain and its count at least min_start_cnt.
@@ -132,7 +147,7 @@ pub record Looks (S : Setup) (i : ℕ) (a : Run) (e : Place) (r : Look) (counts�
 -- ---- A find changes last_q, start, end and what is saved.
 abbrev pub lastBy : Window → Find → Window
 lastBy w none = w
-lastBy w (at j) = record { sum = w .sum; last = pos j; head = w .head; len = w .len; live = w .live; carry = w .carry }
+lastBy w (at j) = record { sum = w .sum; «last_q» = pos j; head = w .head; len = w .len; live = w .live; carry = w .carry }
 
 -- The search from a window w of the places q answers the outcome's find, with its scan counts where something is found.
 pub record Seeks (S : Setup) (q : List Place) (w : Window) (o : Outcome) (r : Sought) (counts′ : List ℕ) : Type 0 where
@@ -170,30 +185,38 @@ pub record Saving (o : Open) (starts ends : List ℕ) : Type 0 where
   pub room : Room (o .count) starts ends
   pub room-after : Room (length (saveFrom (rows (o .count) starts ends) (o .start) (o .end))) starts ends
 
--- ---- A letter i that is searched from and has entered the window: the run that it leads to.
-pub record Settled (p : Params) (ln f : List Float) (i e : ℕ) (a a′ : State) (ring window-counts counts starts ends : List ℕ)
-    (counts′ starts′ ends′ : List ℕ) : Type 0 where
-  pub like : Like (i + 1) (held a′ ring counts′ starts′ ends′) (look (setupOf p ln f) i (held a ring counts starts ends) (decode e))
-  pub windowed : Windowed p ring (a′ .window .head) (a′ .window .len) window-counts (length ln)
-  pub kept : Kept (setupOf p ln f) (window ring (a′ .window .head) (a′ .window .len)) (a′ .window) counts′
+-- ---- Letter a .i, which has entered, is settled: the state before the next letter.
+-- By what was sought.
+pub record TakesFind (k : ℕ) (a : State) (r : Sought) (a′ : State) (saved saved′ : List Interval) : Type 0 where
+  pub kmer-is : a′ .kmer ≡ a .kmer
+  pub i-is : a′ .i ≡ a .i + 1
+  pub window-is : a′ .window ≡ lastBy (r .window) (findOf (r .found))
+  pub found : Found k (a .i) (r .window .len) (a .hand) (a′ .hand) (findOf (r .found)) saved saved′
+
+-- Without a find.
+pub record PassedOn (p : Params) (ln f : List Float) (a a′ : State) (counts counts′ : List ℕ) : Type 0 where
+  pub kmer-is : a′ .kmer ≡ a .kmer
+  pub i-is : a′ .i ≡ a .i + 1
+  pub hand-is : a′ .hand ≡ a .hand
+  pub passes : Passes (setupOf p ln f) (a .window) (newestOf p a) (a′ .window) counts counts′
 
 -- ---- Reading on.
 -- At first: start, end and last_q at -1, sum 0, no queue entry, nothing saved.
-abbrev pub unread : Reading
-unread = record { kmer = noLetter; window = record { sum = zero64; last = negsuc 0; head = 0; len = 0; live = false; carry = noCarry }; entry = 1; i = 0 }
+abbrev pub unread : State
+unread =
+    record {
+      kmer = noLetter;
+      i = 0;
+      window = record { sum = zero64; «last_q» = negsuc 0; head = 0; len = 0; live = false; carry = noCarry };
+      hand = record { start = negsuc 0; end = negsuc 0; count = 0 };
+    }
 
-abbrev pub noInterval : Open
-noInterval = record { start = negsuc 0; end = negsuc 0; count = 0 }
-
-abbrev pub readOn : Reading → Window → Reading
-readOn r w = record { kmer = r .kmer; window = w; entry = r .entry; i = r .i + 1 }
-
--- The letters before i are read.
-pub record Read (p : Params) (codes : List ℕ) (ln f : List Float) (i : ℕ) (kmer : Kmer) (w : Window) (ring window-counts counts : List ℕ) : Type 0 where
-  pub i-in : i ≤ length codes
-  pub kmer-is : kmer ≡ kmerAfter (p .kmer) codes i
-  pub windowed : Windowed p ring (w .head) (w .len) window-counts (length ln)
-  pub kept : Kept (setupOf p ln f) (window ring (w .head) (w .len)) w counts
+-- The letters before a .i are read.
+pub record Read (p : Params) (codes : List ℕ) (ln f : List Float) (a : State) (ring window-counts counts : List ℕ) : Type 0 where
+  pub i-in : a .i ≤ length codes
+  pub kmer-is : a .kmer ≡ kmerAfter (p .kmer) codes (a .i)
+  pub windowed : Windowed p ring (a .window .head) (a .window .len) window-counts (length ln)
+  pub kept : Kept (setupOf p ln f) (window ring (a .window .head) (a .window .len)) (a .window) counts
 
 -- The definition's run from letter i on is that from letter i′ on, with a state there that a′ is like.
 pub record Onward (S : Setup) (ps : List Place) (i : ℕ) (real : Run) (i′ : ℕ) (a′ : Run) : Type 0 where
@@ -201,25 +224,24 @@ pub record Onward (S : Setup) (ps : List Place) (i : ℕ) (real : Run) (i′ : �
   pub like : Like i′ a′ real′
   pub rest : runFrom S i real (drop i ps) ≡ runFrom S i′ real′ (drop i′ ps)
 
--- No letter from i to i′ - 1 is searched from, so the interval in hand, which ends before i, stays the same.
-pub record Skims (p : Params) (codes : List ℕ) (ln f : List Float) (i : ℕ) (w : Window) (ring counts : List ℕ) (i′ : ℕ) (w′ : Window) (ring′ counts′ : List ℕ) : Type 0 where
-  pub further : i ≤ i′
-  pub onward : (o : Open) (saved : List Interval) (real : Run) → whole (o .end) ≤ i → Like i (heldBy w o ring counts saved) real
-      → Onward (setupOf p ln f) (places (p .kmer) codes) i real i′ (heldBy w′ o ring′ counts′ saved)
+-- No letter from a .i to a′ .i - 1 is searched from, so the interval in hand, which ends before a .i, stays the same.
+pub record Skims (p : Params) (codes : List ℕ) (ln f : List Float) (a a′ : State) (ring counts ring′ counts′ : List ℕ) : Type 0 where
+  pub further : a .i ≤ a′ .i
+  pub hand-is : a′ .hand ≡ a .hand
+  pub onward : (saved : List Interval) (real : Run) → whole (a .hand .end) ≤ a .i → Like (a .i) (held a ring counts saved) real
+      → Onward (setupOf p ln f) (places (p .kmer) codes) (a .i) real (a′ .i) (held a′ ring′ counts′ saved)
 
--- Then letter r .i, which is searched from, has entered the window.
-pub record Stops (p : Params) (codes : List ℕ) (ln f : List Float) (from r : Reading) (ring counts ring′ window-counts′ counts′ : List ℕ) : Type 0 where
-  pub window₀ : Window
+-- Then the next letter, which is searched from, has entered the window.
+pub record Stops (p : Params) (codes : List ℕ) (ln f : List Float) (from r : State) (ring counts ring′ window-counts′ counts′ : List ℕ) : Type 0 where
+  pub before : State
   pub ring₀ : List ℕ
   pub counts₀ : List ℕ
-  pub skims : Skims p codes ln f (from .i) (from .window) ring counts (r .i) window₀ ring₀ counts₀
-  pub enters : Enters p ln f window₀ (r .window) (r .entry) ring₀ counts₀ ring′ window-counts′ counts′
-  pub kmer-is : r .kmer ≡ kmerAfter (p .kmer) codes (r .i + 1)
-  pub entry-is : r .entry ≡ entryOf (p .kmer) (r .kmer)
-  pub searched : isSearched (p .«min_start_cnt») window-counts′ (decode (r .entry)) ≡ true
+  pub skims : Skims p codes ln f from before ring counts ring₀ counts₀
+  pub enters : Enters p codes ln f before r ring₀ counts₀ ring′ window-counts′ counts′
+  pub searched : isSearched (p .«min_start_cnt») window-counts′ (newestOf p r) ≡ true
 
-pub record Skimmed (p : Params) (codes : List ℕ) (ln f : List Float) (from r : Reading) (ring counts ring′ window-counts′ counts′ : List ℕ) : Type 0 where
-  pub ends : length codes ≤ r .i → Skims p codes ln f (from .i) (from .window) ring counts (r .i) (r .window) ring′ counts′
+pub record Skimmed (p : Params) (codes : List ℕ) (ln f : List Float) (from r : State) (ring counts ring′ window-counts′ counts′ : List ℕ) : Type 0 where
+  pub ends : length codes ≤ r .i → Skims p codes ln f from r ring counts ring′ counts′
   pub stops : r .i < length codes → Stops p codes ln f from r ring counts ring′ window-counts′ counts′
 
 -- ---- The run over a strand of n letters.

@@ -7,6 +7,7 @@ use lib.ListN.{length, getD, drop, replicate}
 use lib.Dec.{eqb}
 use lib.IntN.{ℤ, pos, negsuc}
 use Rattle.letters.specs.Place.{Place}
+use Rattle.scans.specs.declared.Params.{Params}
 use Rattle.scans.specs.declared.Carry.{Carry}
 use Rattle.scans.specs.Setup.{Setup, kmers}
 use Rattle.scans.specs.Counts.{cleared, Counted}
@@ -17,12 +18,12 @@ use Rattle.strand.specs.declared.Window.{Window}
 -- Not live: all are 0. Live: only places from last_q on have raised them. A carried scan: they are the counts of the places from last_q on, and the sums are those of the scan over them.
 pub record Kept (S : Setup) (q : List Place) (w : Window) (counts : List ℕ) : Type 0 where
   pub clear : w .live ≡ false → counts ≡ cleared S
-  pub from : w .live ≡ true → w .last ≡ pos (whole (w .last))
-  pub inside : w .live ≡ true → whole (w .last) ≤ length q
-  pub touched : w .live ≡ true → Touched counts (drop (whole (w .last)) q)
+  pub from : w .live ≡ true → w .«last_q» ≡ pos (whole (w .«last_q»))
+  pub inside : w .live ≡ true → whole (w .«last_q») ≤ length q
+  pub touched : w .live ≡ true → Touched counts (drop (whole (w .«last_q»)) q)
   pub live : w .carry .on ≡ true → w .live ≡ true
-  pub counted : w .carry .on ≡ true → Counted (kmers S) counts (drop (whole (w .last)) q)
-  pub carried : Carried S (drop (whole (w .last)) q) (w .carry)
+  pub counted : w .carry .on ≡ true → Counted (kmers S) counts (drop (whole (w .«last_q»)) q)
+  pub carried : Carried S (drop (whole (w .«last_q»)) q) (w .carry)
 
 -- A carried scan that began at the oldest place ends when that leaves.
 abbrev pub carryWithout : ℤ → Carry → Carry
@@ -32,22 +33,31 @@ carryWithout (negsuc j) c = c
 
 -- The window with other scan counts.
 abbrev pub rescanned : Window → Bool → Carry → Window
-rescanned w live carry = record { sum = w .sum; last = w .last; head = w .head; len = w .len; live = live; carry = carry }
+rescanned w live carry = record { sum = w .sum; «last_q» = w .«last_q»; head = w .head; len = w .len; live = live; carry = carry }
 
 -- ---- No find: what a carried scan asks to go on with the entry e, and what it makes of the counts.
-pub record Passing (w : Window) (e : ℕ) (counts : List ℕ) : Type 0 where
-  pub from : w .carry .on ≡ true → w .last ≡ pos (whole (w .last))
-  pub inside : w .carry .on ≡ true → whole (w .last) ≤ w .len
+pub record Passing (p : Params) (w : Window) (e n-ln n-f : ℕ) (counts : List ℕ) : Type 0 where
+  pub some : 0 < w .len
+  pub len-in : w .len ≤ p .«window_size»
+  pub small : p .«window_size» ≤ 65535
+  pub ln-long : p .«window_size» < n-ln
+  pub f-long : p .«window_size» < n-f
+  pub below : e / 2 < length counts
+  pub from : w .carry .on ≡ true → w .«last_q» ≡ pos (whole (w .«last_q»))
+  pub inside : w .carry .on ≡ true → whole (w .«last_q») ≤ w .len
   pub few : w .carry .on ≡ true → getD counts (e / 2) 0 < w .len
 
 pub record Passes (S : Setup) (w : Window) (e : Place) (w′ : Window) (counts counts′ : List ℕ) : Type 0 where
   pub off : w .carry .on ≡ false → (w′ ≡ w) × (counts′ ≡ counts)
-  pub on : w .carry .on ≡ true → (w′ ≡ rescanned w (w .live) (w′ .carry)) × CarriesOn S (w .len - whole (w .last)) e (w .carry) (w′ .carry) counts counts′
+  pub on : w .carry .on ≡ true → (w′ ≡ rescanned w (w .live) (w′ .carry)) × CarriesOn S (w .len - whole (w .«last_q»)) e (w .carry) (w′ .carry) counts counts′
 
 -- ---- A find by extension, or of a backward scan: one past its index, 0 for none, and the window with the scan counts that it left.
 pub record Sought : Type 0 where
   pub window : Window
   pub found : ℕ
+
+abbrev pub sought : Window → ℕ → Sought
+sought w found = record { window = w; found = found }
 
 -- A find by extension.
 abbrev pub extendedOf : Window → Sought
@@ -55,7 +65,7 @@ extendedOf w = record { window = rescanned w true noCarry; found = 1 }
 
 -- What is to be known of the counts to clear them.
 pub record Clearing (w : Window) (q : List Place) (counts : List ℕ) : Type 0 where
-  pub touched : w .live ≡ true → (whole (w .last) ≤ w .len) × Touched counts (drop (whole (w .last)) q)
+  pub touched : w .live ≡ true → (whole (w .«last_q») ≤ w .len) × Touched counts (drop (whole (w .«last_q»)) q)
   pub clear : w .live ≡ false → counts ≡ replicate (length counts) 0
 
 -- What a backward scan found.

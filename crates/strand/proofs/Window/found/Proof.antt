@@ -19,7 +19,7 @@ cast-self c = search needs
 returns-2 : tie.Need-returns-2
 returns-2 c =
     let b = c .before in
-    last-found (b .args .self) (b .args .r) (c .if1 .left) (toZ-pos w64 {n = b .args .r - 1} (omega arith))
+    last-found (b .args .self) (b .args .found) (c .if1 .left) (toZ-pos w64 {n = b .args .found - 1} (omega arith))
 
 pub found-spec : {M : Type 1} → statement M
 found-spec = tie.close (tie.spec returns sub-self cast-self returns-2)

@@ -26,25 +26,25 @@ summed c = c .before .before
 abbrev start-of : tie.After-slice-known3 → tie.Start
 start-of c = start (summed c .before)
 
-last-fits : (c : tie.After-slice-known3) → SFits w64 (start-of c .args .self .last)
+last-fits : (c : tie.After-slice-known3) → SFits w64 (start-of c .args .self .«last_q»)
 last-fits c = record { sfits = summed c .before .before .before .struct-told .given .1 .0 .1 }
 
 -- The window where both ways meet, and the scan counts.
 met-window : (c : tie.Joined1) → let w = start-of (c .before) .args .self in
-    c .if1 .self ≡ lessOldest w (summed (c .before) .sum-without .result) (carryWithout (w .last) (w .carry))
+    c .if1 .self ≡ lessOldest w (summed (c .before) .sum-without .result) (carryWithout (w .«last_q») (w .carry))
 met-window c =
     let w = start-of (c .before) .args .self in
     let by = lessOldest w (summed (c .before) .sum-without .result) in
-    ⊎-elim (λ t. t .6 ∙ ap by (t .5 .ensures ∙ carry-ends (w .last) (w .carry) (last-fits (c .before)) (t .0 .taken))) (λ e. e .1 ∙ ap by (carry-stays (w .last) (w .carry) (e .0 .left)))
+    ⊎-elim (λ t. t .6 ∙ ap by (t .5 .ensures ∙ carry-ends (w .«last_q») (w .carry) (last-fits (c .before)) (t .0 .taken))) (λ e. e .1 ∙ ap by (carry-stays (w .«last_q») (w .carry) (e .0 .left)))
     (c .if1 .came)
 
 met-counts : (c : tie.Joined1) → let a = start-of (c .before) .args in
-    c .if1 .scan-counts ≡ countsWithout (a .self .last) (a .scan-counts .now) (decode (getD (a .queue .now) (a .self .head) 0))
+    c .if1 .scan-counts ≡ countsWithout (a .self .«last_q») (a .scan-counts .now) (decode (getD (a .queue .now) (a .self .head) 0))
 met-counts c =
     let a = start-of (c .before) .args in
     let e = decode (getD (a .queue .now) (a .self .head) 0) in
-    ⊎-elim (λ t. t .7 ∙ t .2 .ensures ∙ counts-fall (a .scan-counts .now) e (a .self .last) (last-fits (c .before)) (t .0 .taken))
-    (λ s. s .2 ∙ counts-stay (a .scan-counts .now) e (a .self .last) (s .0 .left)) (c .if1 .came)
+    ⊎-elim (λ t. t .7 ∙ t .2 .ensures ∙ counts-fall (a .scan-counts .now) e (a .self .«last_q») (last-fits (c .before)) (t .0 .taken))
+    (λ s. s .2 ∙ counts-stay (a .scan-counts .now) e (a .self .«last_q») (s .0 .left)) (c .if1 .came)
 
 met-length : (c : tie.Joined1) → length (c .if1 .scan-counts) ≡ length (start-of (c .before) .args .scan-counts .now)
 met-length c = ⊎-elim (λ t. ap length (t .7) ∙ t .2 .kept .0) (λ e. ap length (e .2)) (c .if1 .came)
@@ -72,8 +72,8 @@ lower-entry-requires c κs =
 none-requires : tie.Need-none-requires
 none-requires c κs = search needs
 
-last-without-requires : tie.Need-last-without-requires
-last-without-requires c κs = search needs
+last-q-without-requires : tie.Need-last-q-without-requires
+last-q-without-requires c κs = search needs
 
 ring-index-requires : tie.Need-ring-index-requires
 ring-index-requires c κs =
@@ -98,7 +98,7 @@ returns c =
     let m = l .before in
     let s = summed (m .before) in
     let b = start-of (m .before) in
-    left (b .pre .1) (b .pre .0 .0) (met-window m) (s .sum-without .ensures .0) (l .last-without .ensures ∙ ap lastWithout (toZ-ofZ (last-fits (m .before))))
+    left (b .pre .1) (b .pre .0 .0) (met-window m) (s .sum-without .ensures .0) (l .last-q-without .ensures ∙ ap lastWithout (toZ-ofZ (last-fits (m .before))))
     (c .before .ring-index .ensures) (s .sum-without .ensures .1) (met-counts m)
 
 pub leave-spec : {M : Type 1} → statement M
@@ -110,7 +110,7 @@ leave-spec =
     sum-without-requires
     lower-entry-requires
     none-requires
-    last-without-requires
+    last-q-without-requires
     ring-index-requires
     sub-self
     same-length
