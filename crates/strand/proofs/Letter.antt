@@ -26,8 +26,12 @@ use Rattle.strand.specs.Step.{Run, join, isAt, search, st2, startAfter, 
 use Rattle.strand.specs.declared.Window.{Window}
 use Rattle.strand.specs.declared.Open.{Open}
 use Rattle.strand.specs.declared.State.{State}
-use Rattle.strand.specs.Kept.{Kept, Sought, sought, rescanned, Like}
-use Rattle.strand.specs.Held.{heldBy, held, newestOf, Left, Joined, Entered, Enters, lookBy, lastBy, Seeks, Found, TakesFind, PassedOn}
+use Rattle.strand.specs.Terms.KnownCounts.{KnownCounts, Sought, sought, rescanned}
+use Rattle.strand.specs.Terms.Like.{Like}
+use Rattle.strand.specs.Terms.Entering.{heldBy, held, newestOf, Left, Joined, Entered, Enters}
+use Rattle.strand.specs.Terms.Searching.{lookBy}
+use Rattle.strand.specs.Terms.Finding.{lastQBy, Found, TakesFind, PassedOn}
+use Rattle.strand.proofs.Searching.{Seeks}
 use Rattle.strand.proofs.Shape.{InWindow, search-inside}
 use Rattle.strand.proofs.Like.{like-end, like-trans, like-found, like-step}
 
@@ -83,37 +87,37 @@ module _ (S : Setup) (i : ℕ) (w : Window) (o o′ : Open) (ring counts counts�
 
   -- Whatever the search left of the carried scan.
   found-is : (live : Bool) (carry : Carry) (find : Find) → Found (S .kmer) i (w .len) o o′ find saved saved′
-      → heldBy (lastBy (rescanned w live carry) find) o′ ring counts′ saved′ ≡ foundBy S i (heldBy w o ring counts saved) counts′ find
+      → heldBy (lastQBy (rescanned w live carry) find) o′ ring counts′ saved′ ≡ foundBy S i (heldBy w o ring counts saved) counts′ find
   unfolding foundBy by-start
   found-is live carry none h = rw (h .start-is, h .end-is, h .saved-is)
   found-is live carry (at j) h = rw (h .start-is, h .end-is, h .saved-is) (ap (λ (len : ℕ). by-start j (st2 (S .kmer) i len j)) (sym n))
 
 -- Where the window stands does not change.
-last-head : (w : Window) (find : Find) → lastBy w find .head ≡ w .head
-last-head w none = refl
-last-head w (at j) = refl
+last-q-head : (w : Window) (find : Find) → lastQBy w find .head ≡ w .head
+last-q-head w none = refl
+last-q-head w (at j) = refl
 
-last-len : (w : Window) (find : Find) → lastBy w find .len ≡ w .len
-last-len w none = refl
-last-len w (at j) = refl
+last-q-len : (w : Window) (find : Find) → lastQBy w find .len ≡ w .len
+last-q-len w none = refl
+last-q-len w (at j) = refl
 
-module _ (w : Window) {u : Window} (r : Sought) (same : r .window ≡ rescanned w (r .window .live) (r .window .carry)) (u-is : u ≡ lastBy (r .window) (findOf (r .found))) where
+module _ (w : Window) {u : Window} (r : Sought) (same : r .window ≡ rescanned w (r .window .live) (r .window .carry)) (u-is : u ≡ lastQBy (r .window) (findOf (r .found))) where
   head-same : u .head ≡ w .head
-  head-same = ap (λ (z : Window). z .head) u-is ∙ last-head (r .window) (findOf (r .found)) ∙ ap (λ (z : Window). z .head) same
+  head-same = ap (λ (z : Window). z .head) u-is ∙ last-q-head (r .window) (findOf (r .found)) ∙ ap (λ (z : Window). z .head) same
 
   len-same : u .len ≡ w .len
-  len-same = ap (λ (z : Window). z .len) u-is ∙ last-len (r .window) (findOf (r .found)) ∙ ap (λ (z : Window). z .len) same
+  len-same = ap (λ (z : Window). z .len) u-is ∙ last-q-len (r .window) (findOf (r .found)) ∙ ap (λ (z : Window). z .len) same
 
 -- ---- After the search: where the window stands, its scan counts, and the run.
 module _ {S : Setup} {w w′ : Window} {x : Outcome} {r : Sought} (ring : List ℕ) {counts′ : List ℕ} (t : Seeks S (window ring (w .head) (w .len)) w x r counts′)
-    (u : w′ ≡ lastBy (r .window) (findOf (r .found))) where
+    (u : w′ ≡ lastQBy (r .window) (findOf (r .found))) where
   pub looked-windowed : {p : Params} {window-counts : List ℕ} {n : ℕ} → Windowed p ring (w .head) (w .len) window-counts n → Windowed p ring (w′ .head) (w′ .len) window-counts n
   looked-windowed n = rw (head-same w r (t .same) u, len-same w r (t .same) u) n
 
-  pub looked-kept : Kept S (window ring (w′ .head) (w′ .len)) w′ counts′
-  looked-kept =
+  pub looked-known : KnownCounts S (window ring (w′ .head) (w′ .len)) w′ counts′
+  looked-known =
       let places = ap₂ (λ (head len : ℕ). window ring head len) (head-same w r (t .same) u) (len-same w r (t .same) u) in
-      subst (λ (q : List Place). Kept S q w′ counts′) (sym places) (subst (λ (z : Window). Kept S (window ring (w .head) (w .len)) z counts′) (sym u) (t .kept))
+      subst (λ (q : List Place). KnownCounts S q w′ counts′) (sym places) (subst (λ (z : Window). KnownCounts S (window ring (w .head) (w .len)) z counts′) (sym u) (t .known))
 
   pub looked-like : (i : ℕ) (e : Place) (o : Open) (counts : List ℕ) (saved : List Interval) {o′ : Open} {saved′ : List Interval} → length (window ring (w .head) (w .len)) ≡ w .len
       → isAt (o .end) (i + 1) ≡ false → x ≡ lookBy S i (heldBy w o ring counts saved) e → Found (S .kmer) i (w .len) o o′ (findOf (r .found)) saved saved′
@@ -122,7 +126,7 @@ module _ {S : Setup} {w w′ : Window} {x : Outcome} {r : Sought} (ring : List �
       let a = heldBy w o ring counts saved in
       let find = findOf (r .found) in
       let now : heldBy w′ o′ ring counts′ saved′ ≡ foundBy S i a counts′ find =
-      ap (λ (z : Window). heldBy z o′ ring counts′ saved′) (u ∙ ap (λ (z : Window). lastBy z find) (t .same))
+      ap (λ (z : Window). heldBy z o′ ring counts′ saved′) (u ∙ ap (λ (z : Window). lastQBy z find) (t .same))
       ∙ found-is S i w o o′ ring counts counts′ saved saved′ n (r .window .live) (r .window .carry) find h in
       let then : foundBy S i a (x .counts) (x .find) ≡ look S i a e = ap (λ (z : Outcome). foundBy S i a (z .counts) (z .find)) x-is ∙ sym (look-is S i a e) in
       subst (λ (z : Run). Like (i + 1) z (look S i a e)) (sym now)
@@ -135,7 +139,7 @@ pub record Settled (p : Params) (ln f : List Float) (a a′ : State) (ring windo
   pub i-is : a′ .i ≡ a .i + 1
   pub like : Like (a .i + 1) (held a′ ring counts′ saved′) (look (setupOf p ln f) (a .i) (held a ring counts saved) (newestOf p a))
   pub windowed : Windowed p ring (a′ .window .head) (a′ .window .len) window-counts (length ln)
-  pub kept : Kept (setupOf p ln f) (window ring (a′ .window .head) (a′ .window .len)) (a′ .window) counts′
+  pub known : KnownCounts (setupOf p ln f) (window ring (a′ .window .head) (a′ .window .len)) (a′ .window) counts′
 
 -- What the look leads to was sought from the window of a, whatever is saved.
 abbrev pub SeeksAt : (p : Params) (ln f : List Float) (a : State) (ring counts : List ℕ) (r : Sought) (counts′ : List ℕ) → Type 0
@@ -156,7 +160,7 @@ module _ {p : Params} {ln f : List Float} {a a′ : State} {r : Sought} {ring wi
         like = looked-like ring s (h .window-is) (a .i) (newestOf p a) (a .hand) counts saved (long n) ended refl
             (subst (λ (l : ℕ). Found (p .kmer) (a .i) l (a .hand) (a′ .hand) (findOf (r .found)) saved saved′) len (h .found));
         windowed = looked-windowed ring s (h .window-is) n;
-        kept = looked-kept ring s (h .window-is);
+        known = looked-known ring s (h .window-is);
       }
 
 -- Without a find.
@@ -173,7 +177,7 @@ passed-find saved t =
 -- ---- The next letter enters the window, which then leads to the definitions' step.
 module _ {p : Params} {codes : List ℕ} {ln : List Float} (f : List Float) {a a′ : State} {w₁ : Window} {ring counts window-counts₁ ring′ window-counts′ counts′ : List ℕ} where
   pub entering : a′ .kmer ≡ kmerAfter (p .kmer) codes (a .i + 1) → a′ .i ≡ a .i → a′ .hand ≡ a .hand
-      → Kept (setupOf p ln f) (window ring (a .window .head) (a .window .len)) (a .window) counts → Left p ln (a .window) w₁ ring counts window-counts₁ counts′
+      → KnownCounts (setupOf p ln f) (window ring (a .window .head) (a .window .len)) (a .window) counts → Left p ln (a .window) w₁ ring counts window-counts₁ counts′
       → Joined p ln w₁ (a′ .window) (entryOf (p .kmer) (a′ .kmer)) ring ring′ window-counts′ → Enters p codes ln f a a′ ring counts ring′ window-counts′ counts′
   entering kmer-is i-is hand-is k l j =
       let S = setupOf p ln f in
@@ -191,7 +195,7 @@ module _ {p : Params} {codes : List ℕ} {ln : List Float} (f : List Float) {a a
           some = j .some;
           below = entry-below (p .kmer) codes (a .i + 1) (a′ .kmer) kmer-is;
           windowed = j .windowed;
-          kept = j .kept f counts′ (l .kept f k);
+          known = j .known f counts′ (l .known f k);
           newest = j .newest;
         };
       }

@@ -17,12 +17,15 @@ use Rattle.scans.proofs.Windows.{long}
 use Rattle.strand.specs.Step.{Run, isAt, whole, step, runFrom}
 use Rattle.strand.specs.declared.Open.{Open}
 use Rattle.strand.specs.declared.State.{State}
-use Rattle.strand.specs.Kept.{sought}
-use Rattle.strand.specs.Held.{held, newestOf, isSearched, Entered, Next, Enters, PassedOn, Read, Skims, Skimmed}
+use Rattle.strand.specs.Terms.KnownCounts.{sought}
+use Rattle.strand.specs.Terms.Entering.{held, newestOf, Entered, Next, Enters}
+use Rattle.strand.specs.Terms.Searching.{isSearched}
+use Rattle.strand.specs.Terms.Finding.{PassedOn}
+use Rattle.strand.specs.Terms.ReadingOn.{Read, Skims, Skimmed}
 use Rattle.strand.proofs.Moving.{window-below}
 use Rattle.strand.proofs.Searching.{look-unsearched, seeks-passed}
 use Rattle.strand.proofs.Like.{ended}
-use Rattle.strand.proofs.Letter.{Settled, SeeksAt, looked-windowed, looked-kept, settles, passed-find, stepped}
+use Rattle.strand.proofs.Letter.{Settled, SeeksAt, looked-windowed, looked-known, settles, passed-find, stepped}
 
 -- The definition's run takes letter i.
 pub run-turn : (S : Setup) (codes : List ℕ) (i : ℕ) (a : Run) → i < length codes
@@ -35,7 +38,7 @@ module _ {p : Params} {ln f : List Float} {a a′ : State} {ring window-counts c
     (h : isSearched (p .«min_start_cnt») window-counts (newestOf p a) ≡ false) (t : PassedOn p ln f a a′ counts counts′) where
   unfound : SeeksAt p ln f a ring counts (sought (a′ .window) 0) counts′
   unfound saved =
-      seeks-passed (look-unsearched (setupOf p ln f) (a .i) (held a ring counts saved) (newestOf p a) window-counts (n .windowed .counted) h) (n .kept) (n .newest) refl
+      seeks-passed (look-unsearched (setupOf p ln f) (a .i) (held a ring counts saved) (newestOf p a) window-counts (n .windowed .counted) h) (n .known) (n .newest) refl
       (window-below (n .windowed)) (sym (long (n .windowed))) (t .passes)
 
   passes-by : isAt (a .hand .end) (a .i + 1) ≡ false → (saved : List Interval) → Settled p ln f a a′ ring window-counts counts saved counts′ saved
@@ -78,7 +81,7 @@ module _ {p : Params} {codes : List ℕ} {ln f : List Float} {a a₁ : State} (l
           i-in = omega (arith, i-after, l);
           kmer-is = t .kmer-is ∙ n .kmer-is ∙ ap (kmerAfter (p .kmer) codes) (sym i-after);
           windowed = looked-windowed ring′ x refl (n .entered .windowed);
-          kept = looked-kept ring′ x refl;
+          known = looked-known ring′ x refl;
         }
 
     pub skims-on : {from : State} {ring₀ counts₀ : List ℕ} → Skims p codes ln f from a ring₀ counts₀ ring counts → Skims p codes ln f from a′ ring₀ counts₀ ring′ counts′

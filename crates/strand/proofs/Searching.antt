@@ -34,10 +34,19 @@ use Rattle.strand.specs.declared.Window.{Window}
 use Rattle.strand.specs.declared.State.{State}
 use Rattle.strand.specs.declared.Look.{Look}
 use Rattle.strand.specs.declared.Look.the-variants.{Pass, Extension, Scan}
-use Rattle.strand.specs.Kept.{Kept, Sought, Passing, Passes, Clearing, rescanned, extendedOf, answeredBy}
-use Rattle.strand.specs.Held.{held, Entered, isSearched, triedBy, Extended, lookBy, lookedAs, countsLooked, Looks, lastBy, Seeks}
+use Rattle.strand.specs.Terms.KnownCounts.{KnownCounts, Sought, Passing, Passes, Clearing, rescanned, extendedOf, answeredBy}
+use Rattle.strand.specs.Terms.Entering.{held, Entered}
+use Rattle.strand.specs.Terms.Searching.{isSearched, triedBy, Extended, lookBy, lookedAs, countsLooked, Looks}
+use Rattle.strand.specs.Terms.Finding.{lastQBy}
 use Rattle.strand.proofs.Moving.{window-split, older-long}
-use Rattle.strand.proofs.Keeping.{kept-passed, kept-extended, kept-answered}
+use Rattle.strand.proofs.KnownCounts.{known-passed, known-extended, known-answered}
+
+-- The search from a window w of the places q answers the outcome's find, with its scan counts where something is found.
+pub record Seeks (S : Setup) (q : List Place) (w : Window) (o : Outcome) (r : Sought) (counts′ : List ℕ) : Type 0 where
+  pub find-is : findOf (r .found) ≡ o .find
+  pub counts-are : 0 < r .found → counts′ ≡ o .counts
+  pub known : KnownCounts S q (lastQBy (r .window) (findOf (r .found))) counts′
+  pub same : r .window ≡ rescanned w (r .window .live) (r .window .carry)
 
 -- What the code hands on of end, last_q and start, it reads back from their bits.
 pub tried : (p : Params) (f : List Float) (a : State) {end last start : ℤ} {at-end at-zero past : Bool}
@@ -139,7 +148,7 @@ module _ {S : Setup} {w : Window} {e : Place} {counts : List ℕ} where
 pub passing : {p : Params} {ln f : List Float} {w : Window} {e n-f : ℕ} {ring window-counts counts : List ℕ} → Entered p ln f w e ring window-counts counts
     → length counts ≡ 4 ^ p .kmer → p .«window_size» < n-f → Passing p w e (length ln) n-f counts
 passing {w = w} {e} {ring = ring} n c f =
-    let k = n .kept in
+    let k = n .known in
     let h = n .windowed in
     let q = window ring (w .head) (w .len - 1) in
     let j = whole (w .«last_q») in
@@ -166,7 +175,7 @@ passes-same {w = w} {w′ = w′} h = go (w .carry .on) refl
         same ∙ ap (λ (l : Bool). rescanned w l (w′ .carry)) (sym (ap (λ (z : Window). z .live) same))
 
 -- ---- The backward scan. Scan counts that places before the newest have raised are cleared with those of all.
-module _ {S : Setup} {p : Params} {w : Window} {counts ring window-counts : List ℕ} {head len n : ℕ} (k : Kept S (window ring head (len - 1)) w counts)
+module _ {S : Setup} {p : Params} {w : Window} {counts ring window-counts : List ℕ} {head len n : ℕ} (k : KnownCounts S (window ring head (len - 1)) w counts)
     (h : Windowed p ring head len window-counts n) where
   pub touched-all : {l : ℕ} → l ≡ whole (w .«last_q») → w .live ≡ true → (l ≤ len) × Touched counts (drop l (window ring head len))
   touched-all l-is on =
@@ -198,7 +207,7 @@ seeks-answered {S} {q} {w} {r} some b h e =
     (record {
       find-is = h .settles .find-is;
       counts-are = λ l. h .settles .counts-are ∙ left-found S (dustBackward S q) (r .found) (h .settles .find-is) l;
-      kept = kept-answered w some b h;
+      known = known-answered w some b h;
       same = refl;
     })
 
@@ -208,11 +217,11 @@ IsNone none = Unit {0}
 IsNone (at j) = ⊥
 
 -- Only a plain entry is extended from.
-extended-kept : (S : Setup) (i : ℕ) (a : Run) (e : Place) {q : List Place} {w : Window} {counts : List ℕ} → Kept S q w (a .counts)
-    → lookBy S i a e ≡ record { find = at 0; counts = counts } → counts ≡ raise (a .counts) e → Kept S (q ++ e ∷ []) (lastBy (extendedOf w .window) (at 0)) counts
+extended-known : (S : Setup) (i : ℕ) (a : Run) (e : Place) {q : List Place} {w : Window} {counts : List ℕ} → KnownCounts S q w (a .counts)
+    → lookBy S i a e ≡ record { find = at 0; counts = counts } → counts ≡ raise (a .counts) e → KnownCounts S (q ++ e ∷ []) (lastQBy (extendedOf w .window) (at 0)) counts
 unfolding lookBy
-extended-kept S i a ambiguous k o c = absurd (subst (λ (z : Outcome). IsNone (z .find)) o tt)
-extended-kept S i a (plain x) k o c = rw c (kept-extended x k)
+extended-known S i a ambiguous k o c = absurd (subst (λ (z : Outcome). IsNone (z .find)) o tt)
+extended-known S i a (plain x) k o c = rw c (known-extended x k)
 
 module _ {S : Setup} {i : ℕ} {a : Run} {e : Place} {r : Look} {counts : List ℕ} (h : Looks S i a e r counts) where
   outcome-by : {r′ : Look} → r ≡ r′ → lookBy S i a e ≡ lookedAs S a r′ counts
@@ -221,7 +230,7 @@ module _ {S : Setup} {i : ℕ} {a : Run} {e : Place} {r : Look} {counts : List �
   pub looked-counts : {r′ : Look} → r ≡ r′ → counts ≡ countsLooked r′ (a .counts) e
   looked-counts t = h .counts-are ∙ ap (λ (z : Look). countsLooked z (a .counts) e) t
 
-  module _ {q : List Place} {w : Window} (k : Kept S q w (a .counts)) (newest : a .window ≡ q ++ e ∷ []) where
+  module _ {q : List Place} {w : Window} (k : KnownCounts S q w (a .counts)) (newest : a .window ≡ q ++ e ∷ []) where
     pub seeks-passed : {w′ : Window} {counts′ : List ℕ} → r ≡ Pass → Below (kmers S) (a .window) → w .len ≡ length (a .window) → Passes S w e w′ counts counts′
         → Seeks S (a .window) w (lookBy S i a e) (record { window = w′; found = 0 }) counts′
     seeks-passed t b n p =
@@ -229,8 +238,8 @@ module _ {S : Setup} {i : ℕ} {a : Run} {e : Place} {r : Look} {counts : List �
         record {
           find-is = sym (ap (λ (o : Outcome). o .find) (outcome-by t));
           counts-are = λ l. absurd (let b : ⊥ = omega (arith, l) in b);
-          kept = rw newest
-              (kept-passed (subst (λ (z : List Place). Below (kmers S) z) newest b) long (subst (λ (z : List ℕ). Kept S q w z) (sym (looked-counts t)) k) p);
+          known = rw newest
+              (known-passed (subst (λ (z : List Place). Below (kmers S) z) newest b) long (subst (λ (z : List ℕ). KnownCounts S q w z) (sym (looked-counts t)) k) p);
           same = passes-same p;
         }
 
@@ -240,7 +249,7 @@ module _ {S : Setup} {i : ℕ} {a : Run} {e : Place} {r : Look} {counts : List �
         (record {
           find-is = sym (ap (λ (o : Outcome). o .find) (outcome-by t));
           counts-are = λ _. sym (ap (λ (o : Outcome). o .counts) (outcome-by t));
-          kept = rw newest (extended-kept S i a e k (outcome-by t) (looked-counts t));
+          known = rw newest (extended-known S i a e k (outcome-by t) (looked-counts t));
           same = refl;
         })
 

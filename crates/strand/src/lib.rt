@@ -12,17 +12,17 @@ ghost use Rattle.letters.specs.Place.{plain};
 ghost use Rattle.letters.specs.Entry.{decode};
 ghost use Rattle.letters.specs.Rolling.{entryOf};
 ghost use Rattle.intervals.specs.Interval.{Interval};
-ghost use Rattle.intervals.specs.Rows.{rows};
 ghost use Rattle.scans.specs.Setup.{setupOf};
 ghost use Rattle.scans.specs.Counts.{raise, lower};
 ghost use Rattle.scans.specs.Window.{findOf, window, Windowed};
 ghost use Rattle.scans.specs.Parts.{Queued};
-ghost use Rattle.strand.specs.Step.{whole, lastWithout, isAt, st2, startAfter, saveFrom, savedAfter, intervalsOf};
-ghost use Rattle.strand.specs.Kept.{Kept, Passing, Passes, Clearing, sought, extendedOf, answeredBy};
-ghost use Rattle.strand.specs.Held.{held, newestOf, sumLess, sumMore, Left, Joined, Next, Enters, triedBy, Extended};
-ghost use Rattle.strand.specs.Held.{isSearched, Looks, lastBy, Found, Saving, TakesFind, PassedOn};
-ghost use Rattle.strand.specs.Held.{unread, Read, Skimmed, PartLent, StrandLent};
-ghost use Rattle.strand.specs.Running.{Before, Reached};
+ghost use Rattle.strand.specs.Step.{whole, lastQWithout, isAt, st2, startAfter, saveFrom, savedAfter};
+ghost use Rattle.strand.specs.Terms.KnownCounts.{KnownCounts, Passing, Passes, Clearing, sought, extendedOf, answeredBy};
+ghost use Rattle.strand.specs.Terms.Entering.{held, newestOf, sumLess, sumMore, Left, Joined, Next, Enters};
+ghost use Rattle.strand.specs.Terms.Searching.{triedBy, Extended, isSearched, Looks};
+ghost use Rattle.strand.specs.Terms.Finding.{lastQBy, savedIn, Found, Saving, TakesFind, PassedOn};
+ghost use Rattle.strand.specs.Terms.ReadingOn.{unread, Read, Skimmed};
+ghost use Rattle.strand.specs.Terms.Running.{PartLent, StrandLent, Before, Reached, StrandList};
 
 // ---- The window.
 
@@ -69,7 +69,7 @@ fn sum_with(sum: f64, counts: &mut [u16], ln: &[f64], entry: u32) -> f64
 
 // last_q without the oldest entry.
 fn last_q_without(last_q: i64) -> i64
-    ensures { λ r. ⌜ r ≡ lastWithout «last_q» ⌝ }
+    ensures { λ r. ⌜ r ≡ lastQWithout «last_q» ⌝ }
 {
     if last_q > 0 { last_q - 1 } else { last_q }
 }
@@ -208,7 +208,7 @@ impl Window {
     // last_q after a search: `found` is one past the index found, 0 for none.
     fn found(mut self, found: usize) -> Self
         requires { ⌜ found ≤ 65535 ⌝ }
-        ensures { λ w. ⌜ w ≡ lastBy self (findOf found) ⌝ }
+        ensures { λ w. ⌜ w ≡ lastQBy self (findOf found) ⌝ }
     {
         if found == 0 {
             return self;
@@ -250,10 +250,10 @@ fn start_after(start: i64, end: i64, s: i64) -> i64
 
 impl Open {
     // The interval is saved if its start is not below 0; answers how many are saved then.
-    fn close(self, starts: &mut [u32], ends: &mut [u32]) -> usize
-        requires { ⌜ Saving self (now starts) (now ends) ⌝ }
-        ensures { λ r. ⌜ rows r (now (starts .exit)) (now (ends .exit))
-            ≡ saveFrom (rows (self .count) (now (starts .entry)) (now (ends .entry))) (self .start) (self .end) ⌝ }
+    fn close(self, list: &mut [[u32; 2]]) -> usize
+        requires { ⌜ Saving self (now list) ⌝ }
+        ensures { λ r. ⌜ (savedIn r (now (list .exit)) ≡ saveFrom (savedIn (self .count) (now (list .entry))) (self .start) (self .end))
+            × (r ≤ length (now (list .exit))) ⌝ }
     {
         let start = self.start;
         let end = self.end;
@@ -261,42 +261,34 @@ impl Open {
         if start < 0 {
             return count;
         }
-        intervals::save_interval(starts, ends, count, start as u32, end as u32)
+        intervals::save_interval(list, count, start as u32, end as u32)
     }
 
     // The same before a find from letter s on, unless s lies before the end.
-    fn close_before(self, s: i64, starts: &mut [u32], ends: &mut [u32]) -> usize
-        requires { ⌜ Saving self (now starts) (now ends) ⌝ }
-        ensures { λ r. ⌜ rows r (now (starts .exit)) (now (ends .exit))
-            ≡ savedAfter (rows (self .count) (now (starts .entry)) (now (ends .entry))) (self .start) (self .end) s ⌝ }
+    fn close_before(self, s: i64, list: &mut [[u32; 2]]) -> usize
+        requires { ⌜ Saving self (now list) ⌝ }
+        ensures { λ r. ⌜ (savedIn r (now (list .exit)) ≡ savedAfter (savedIn (self .count) (now (list .entry))) (self .start) (self .end) s)
+            × (r ≤ length (now (list .exit))) ⌝ }
     {
         let end = self.end;
         if s < end {
             return self.count;
         }
-        self.close(starts, ends)
+        self.close(list)
     }
 
     // The interval after a search at letter i: r is one past the index found in a window of `len` entries, 0 for none.
-    fn found(
-        mut self,
-        k: usize,
-        i: usize,
-        len: usize,
-        r: usize,
-        starts: &mut [u32],
-        ends: &mut [u32],
-    ) -> Self
+    fn found(mut self, k: usize, i: usize, len: usize, r: usize, list: &mut [[u32; 2]]) -> Self
         requires { ⌜ (i < 2147483648) × (len < 65536) × (r ≤ len) × (k ≤ 12) ⌝ }
-        requires { ⌜ Saving self (now starts) (now ends) ⌝ }
-        ensures { λ o. ⌜ Found k i len self o (findOf r) (rows (self .count) (now (starts .entry)) (now (ends .entry)))
-            (rows (o .count) (now (starts .exit)) (now (ends .exit))) ⌝ }
+        requires { ⌜ Saving self (now list) ⌝ }
+        ensures { λ o. ⌜ Found k i len self o (findOf r) (savedIn (self .count) (now (list .entry)))
+            (savedIn (o .count) (now (list .exit))) × (o .count ≤ length (now (list .exit))) ⌝ }
     {
         if r == 0 {
             return self;
         }
         let s = first_letter(i, len, r, k);
-        let count = self.close_before(s, starts, ends);
+        let count = self.close_before(s, list);
         self.count = count;
         self.start = start_after(self.start, self.end, s);
         self.end = (i + 1) as i64;
@@ -373,7 +365,7 @@ impl State {
         scan_counts: &mut [u16],
     ) -> Self
         requires { ⌜ Next p (now codes) (length (now ln)) self (now queue) (now «window_counts») (length (now «scan_counts»)) ⌝ }
-        ensures { λ r. ⌜ ((f : List Float) → Kept (setupOf p (now (ln .entry)) f)
+        ensures { λ r. ⌜ ((f : List Float) → KnownCounts (setupOf p (now (ln .entry)) f)
             (window (now (queue .entry)) (self .window .head) (self .window .len)) (self .window) (now («scan_counts» .entry))
             → Enters p (now (codes .entry)) (now (ln .entry)) f self r (now (queue .entry)) (now («scan_counts» .entry))
             (now (queue .exit)) (now («window_counts» .exit)) (now («scan_counts» .exit))) ⌝ }
@@ -418,49 +410,41 @@ impl State {
         p: scans::Params,
         window: Window,
         found: usize,
-        starts: &mut [u32],
-        ends: &mut [u32],
+        list: &mut [[u32; 2]],
     ) -> Self
         requires { ⌜ (self .i < 2147483648) × (window .len < 65536) × (found ≤ window .len) × (p .kmer ≤ 12) ⌝ }
-        requires { ⌜ Saving (self .hand) (now starts) (now ends) ⌝ }
+        requires { ⌜ Saving (self .hand) (now list) ⌝ }
         ensures { λ a. ⌜ TakesFind (p .kmer) self (sought window found) a
-            (rows (self .hand .count) (now (starts .entry)) (now (ends .entry)))
-            (rows (a .hand .count) (now (starts .exit)) (now (ends .exit))) ⌝ }
+            (savedIn (self .hand .count) (now (list .entry))) (savedIn (a .hand .count) (now (list .exit)))
+            × (a .hand .count ≤ length (now (list .exit))) ⌝ }
     {
-        self.hand = self.hand
-            .found(p.kmer, self.i, window.len, found, starts, ends);
+        self.hand = self.hand.found(p.kmer, self.i, window.len, found, list);
         self.window = window.found(found);
         self.i += 1;
         self
     }
 
     // Letter i is a find by extension, at the oldest entry.
-    fn extended(self, p: scans::Params, starts: &mut [u32], ends: &mut [u32]) -> Self
+    fn extended(self, p: scans::Params, list: &mut [[u32; 2]]) -> Self
         requires { ⌜ (self .i < 2147483648) × (self .window .len < 65536) × (1 ≤ self .window .len) × (p .kmer ≤ 12) ⌝ }
-        requires { ⌜ Saving (self .hand) (now starts) (now ends) ⌝ }
+        requires { ⌜ Saving (self .hand) (now list) ⌝ }
         ensures { λ a. ⌜ TakesFind (p .kmer) self (extendedOf (self .window)) a
-            (rows (self .hand .count) (now (starts .entry)) (now (ends .entry)))
-            (rows (a .hand .count) (now (starts .exit)) (now (ends .exit))) ⌝ }
+            (savedIn (self .hand .count) (now (list .entry))) (savedIn (a .hand .count) (now (list .exit)))
+            × (a .hand .count ≤ length (now (list .exit))) ⌝ }
     {
-        self.settled(p, self.window.extended(), 1, starts, ends)
+        self.settled(p, self.window.extended(), 1, list)
     }
 
     // The backward scan from letter i is answered.
-    fn answered(
-        self,
-        p: scans::Params,
-        r: scans::Scanned,
-        starts: &mut [u32],
-        ends: &mut [u32],
-    ) -> Self
+    fn answered(self, p: scans::Params, r: scans::Scanned, list: &mut [[u32; 2]]) -> Self
         requires { ⌜ (self .i < 2147483648) × (self .window .len < 65536) × (r .found ≤ self .window .len) × (p .kmer ≤ 12) ⌝ }
-        requires { ⌜ Saving (self .hand) (now starts) (now ends) ⌝ }
+        requires { ⌜ Saving (self .hand) (now list) ⌝ }
         ensures { λ a. ⌜ TakesFind (p .kmer) self (answeredBy (self .window) (r .found) (r .carry)) a
-            (rows (self .hand .count) (now (starts .entry)) (now (ends .entry)))
-            (rows (a .hand .count) (now (starts .exit)) (now (ends .exit))) ⌝ }
+            (savedIn (self .hand .count) (now (list .entry))) (savedIn (a .hand .count) (now (list .exit)))
+            × (a .hand .count ≤ length (now (list .exit))) ⌝ }
     {
         let found = r.found;
-        self.settled(p, self.window.answered(found, r.carry), found, starts, ends)
+        self.settled(p, self.window.answered(found, r.carry), found, list)
     }
 
     // Whether extend is tried at letter i: i = end, window score > 0, and last_q = 0 or i - start >= len.
@@ -582,13 +566,12 @@ fn until_scan(
     queue: &mut [u32],
     window_counts: &mut [u16],
     scan_counts: &mut [u16],
-    starts: &mut [u32],
-    ends: &mut [u32],
+    list: &mut [[u32; 2]],
 ) -> State
-    requires { ⌜ PartLent p (length (now codes)) (length (now f)) (length (now «scan_counts»)) (length (now starts)) (length (now ends)) ⌝ }
-    requires { ⌜ Before p (now codes) (now ln) (now f) from (now queue) (now «window_counts») (now «scan_counts») (now starts) (now ends) ⌝ }
+    requires { ⌜ PartLent p (length (now codes)) (length (now f)) (length (now «scan_counts»)) (length (now list)) ⌝ }
+    requires { ⌜ Before p (now codes) (now ln) (now f) from (now queue) (now «window_counts») (now «scan_counts») (now list) ⌝ }
     ensures { λ r. ⌜ Reached p (now (codes .entry)) (now (ln .entry)) (now (f .entry)) (from .i) r
-        (now (queue .exit)) (now («window_counts» .exit)) (now («scan_counts» .exit)) (now (starts .exit)) (now (ends .exit)) ⌝ }
+        (now (queue .exit)) (now («window_counts» .exit)) (now («scan_counts» .exit)) (now (list .exit)) ⌝ }
 {
     let mut st = from;
     loop {
@@ -604,7 +587,7 @@ fn until_scan(
                 return st;
             }
             Look::Extension => {
-                st = st.extended(p, starts, ends);
+                st = st.extended(p, list);
                 continue;
             }
             Look::Pass => {
@@ -615,7 +598,7 @@ fn until_scan(
     }
 }
 
-// The intervals of a strand of codes, in the first entries of `starts` and `ends`; answers how many there are.
+// The intervals of a strand of codes, in the first entries of `list`; answers how many there are.
 pub fn inner_process(
     p: scans::Params,
     codes: &[u8],
@@ -625,31 +608,18 @@ pub fn inner_process(
     window_counts: &mut [u16],
     scan_counts: &mut [u16],
     candidates: &mut [scans::ForwardPosition],
-    starts: &mut [u32],
-    ends: &mut [u32],
+    list: &mut [[u32; 2]],
 ) -> usize
     requires { ⌜ StrandLent p (length (now codes)) (length (now ln)) (length (now f)) (length (now queue))
         (length (now «window_counts»)) (length (now «scan_counts»)) (length (now candidates))
-        (length (now starts)) (length (now ends)) ⌝ }
-    ensures { λ r. ⌜ rows r (now (starts .exit)) (now (ends .exit))
-        ≡ intervalsOf (setupOf p (now (ln .entry)) (now (f .entry))) (now (codes .entry)) ⌝ }
+        (length (now list)) ⌝ }
+    ensures { λ r. ⌜ StrandList (setupOf p (now (ln .entry)) (now (f .entry))) (now (codes .entry)) (now (list .exit)) r ⌝ }
 {
     let mut st = begin(window_counts, scan_counts);
     loop {
-        st = until_scan(
-            p,
-            st,
-            codes,
-            ln,
-            f,
-            queue,
-            window_counts,
-            scan_counts,
-            starts,
-            ends,
-        );
+        st = until_scan(p, st, codes, ln, f, queue, window_counts, scan_counts, list);
         if st.i >= codes.len() {
-            return st.hand.close(starts, ends);
+            return st.hand.close(list);
         }
         let from = st.window.last_q_index();
         let r = scans::dust_backward(
@@ -665,6 +635,6 @@ pub fn inner_process(
             scan_counts,
             candidates,
         );
-        st = st.answered(p, r, starts, ends);
+        st = st.answered(p, r, list);
     }
 }

@@ -7,7 +7,8 @@ use lib.Ieee.{Float}
 use Rattle.letters.specs.Rolling.{entryOf}
 use Rattle.scans.specs.declared.Params.{Params}
 use Rattle.strand.specs.declared.State.{State}
-use Rattle.strand.specs.Held.{Enters, Read, Skims}
+use Rattle.strand.specs.Terms.Entering.{Enters}
+use Rattle.strand.specs.Terms.ReadingOn.{Read, Skims}
 use Rattle.strand.proofs.Searching.{passing}
 use Rattle.strand.proofs.ReadingOn.{skims-none, next, small, skimmed-all, skimmed-to, read-on, skims-on}
 use Rattle.strand.proofs.skim.Statement.{statement}
@@ -44,7 +45,7 @@ letter c = c .before .before .before .before .before .before .before .before
 enters : (c : tie.After-enter Inv-loop μ-loop) → let g = looped c in let a = start g .args in
     Enters (a .p) (a .codes .now) (a .ln .now) (a .f .now) (g .loop .st) (c .enter .result) (g .loop .queue) (g .loop .scan-counts)
     (c .enter .last .1 .1 .1 .1 .0) (c .enter .last .1 .1 .1 .1 .1 .0) (c .enter .last .1 .1 .1 .1 .1 .1 .0)
-enters c = let g = looped c in c .enter .ensures (start g .args .f .now) (g .loop .inv .read .kept)
+enters c = let g = looped c in c .enter .ensures (start g .args .f .now) (g .loop .inv .read .known)
 
 -- The lent slices are as long as they were.
 same-ring : (c : tie.After-enter Inv-loop μ-loop) → length (c .enter .last .1 .1 .1 .1 .0) ≡ length (start (looped c) .args .queue .now)

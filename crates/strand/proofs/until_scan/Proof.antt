@@ -9,34 +9,34 @@ use Rattle.scans.specs.declared.Params.{Params}
 use Rattle.scans.proofs.Walk.{windowed-queued}
 use Rattle.strand.specs.declared.Open.{Open}
 use Rattle.strand.specs.declared.State.{State}
-use Rattle.strand.specs.Held.{Saving, Stops}
-use Rattle.strand.specs.Running.{Before}
+use Rattle.strand.specs.Terms.Finding.{Saving}
+use Rattle.strand.specs.Terms.ReadingOn.{Stops}
+use Rattle.strand.specs.Terms.Running.{Before}
 use Rattle.strand.proofs.ReadingOn.{small}
 use Rattle.strand.proofs.Running.{saving, stopped-hand, stopped-further, inv-end, look-passing, scan-clearing, before-passed, before-extended, due-scan}
 use Rattle.strand.proofs.until_scan.Statement.{statement}
 use Rattle.strand.proofs.until_scan.Tie as tie
 
 -- Where the run stands, and that every lent slice is as long as it was.
-record Around (p : Params) (codes : List ℕ) (ln f : List Float) (queue₀ window-counts₀ scan-counts₀ starts₀ ends₀ : List ℕ) (st₀ : State)
-    (queue window-counts scan-counts starts ends : List ℕ) (st : State) : Type 0 where
-  inv : Before p codes ln f st queue window-counts scan-counts starts ends
+record Around (p : Params) (codes : List ℕ) (ln f : List Float) (queue₀ window-counts₀ scan-counts₀ : List ℕ) (list₀ : List (List ℕ)) (st₀ : State)
+    (queue window-counts scan-counts : List ℕ) (list : List (List ℕ)) (st : State) : Type 0 where
+  inv : Before p codes ln f st queue window-counts scan-counts list
   further : st₀ .i ≤ st .i
   same-queue : length queue ≡ length queue₀
   same-window-counts : length window-counts ≡ length window-counts₀
   same-scan-counts : length scan-counts ≡ length scan-counts₀
-  same-starts : length starts ≡ length starts₀
-  same-ends : length ends ≡ length ends₀
+  same-list : length list ≡ length list₀
 
 abbrev Inv-loop : tie.InvT-loop
-Inv-loop p codes ln f queue₀ window-counts₀ scan-counts₀ starts₀ ends₀ st₀ queue window-counts scan-counts starts ends st =
-    Around p codes ln f queue₀ window-counts₀ scan-counts₀ starts₀ ends₀ st₀ queue window-counts scan-counts starts ends st
+Inv-loop p codes ln f queue₀ window-counts₀ scan-counts₀ list₀ st₀ queue window-counts scan-counts list st =
+    Around p codes ln f queue₀ window-counts₀ scan-counts₀ list₀ st₀ queue window-counts scan-counts list st
 
 abbrev μ-loop : tie.MeasureT-loop
-μ-loop p codes ln f queue₀ window-counts₀ scan-counts₀ starts₀ ends₀ st₀ queue window-counts scan-counts starts ends st =
+μ-loop p codes ln f queue₀ window-counts₀ scan-counts₀ list₀ st₀ queue window-counts scan-counts list st =
     length codes - st .i
 
 abbrev start : tie.At-loop Inv-loop μ-loop → tie.Start Inv-loop μ-loop
-start c = c .before .before .before .before .before .before .before .before .before
+start c = c .before .before .before .before .before .before .before
 
 abbrev looped : tie.After-skim Inv-loop μ-loop → tie.At-loop Inv-loop μ-loop
 looped c = c .before .before .before .before
@@ -59,12 +59,12 @@ passing c = c .before .before .before .before
 longer : {x n n′ : ℕ} → n′ ≡ n → x ≤ n → x ≤ n′
 longer e h = rw e h
 
-can-save : (c : tie.At-loop Inv-loop μ-loop) → Saving (c .loop .st .hand) (c .loop .starts) (c .loop .ends)
+can-save : (c : tie.At-loop Inv-loop μ-loop) → Saving (c .loop .st .hand) (c .loop .list)
 can-save c =
     let l = start c .pre .0 in
     let h = c .loop .inv in
-    saving (length (start c .args .codes .now)) (l .kmer-some) (l .letters-in) (h .inv .read .i-in) (longer (h .same-starts) (l .starts-long)) (longer (h .same-ends) (l .ends-long))
-    (h .inv .shaped)
+    saving (length (start c .args .codes .now)) (l .kmer-some) (l .letters-in) (h .inv .read .i-in) (longer (h .same-list) (l .list-long))
+    (h .inv .count-in) (h .inv .shaped)
 
 -- A letter that is searched from, and the interval in hand there.
 stops : (c : tie.Else1 Inv-loop μ-loop) → let s = skimmed c in let g = looped s in let a = start g .args in
@@ -72,18 +72,18 @@ stops : (c : tie.Else1 Inv-loop μ-loop) → let s = skimmed c in let g = looped
     (s .skim .last .1 .1 .1 .1 .1 .0) (s .skim .last .1 .1 .1 .1 .1 .1 .0) (s .skim .last .1 .1 .1 .1 .1 .1 .1 .0)
 stops c = skimmed c .skim .ensures .stops (c .if1 .left)
 
-can-save-there : (c : tie.Else1 Inv-loop μ-loop) → let g = looped (skimmed c) in Saving (skimmed c .skim .result .hand) (g .loop .starts) (g .loop .ends)
+can-save-there : (c : tie.Else1 Inv-loop μ-loop) → let g = looped (skimmed c) in Saving (skimmed c .skim .result .hand) (g .loop .list)
 can-save-there c =
     let g = looped (skimmed c) in
-    subst (λ (o : Open). Saving o (g .loop .starts) (g .loop .ends)) (sym (stopped-hand (g .loop .inv .inv) (stops c) (c .if1 .left))) (can-save g)
+    subst (λ (o : Open). Saving o (g .loop .list)) (sym (stopped-hand (g .loop .inv .inv) (stops c) (c .if1 .left))) (can-save g)
 
 further : (c : tie.Else1 Inv-loop μ-loop) → looped (skimmed c) .loop .st .i ≤ skimmed c .skim .result .i
 further c = stopped-further (looped (skimmed c) .loop .inv .inv) (stops c) (c .if1 .left)
 
 loop-holds : tie.Need-loop-holds Inv-loop μ-loop
 loop-holds c =
-    let b = c .before .before .before .before .before .before .before .before in
-    record { inv = b .pre .1; further = omega arith; same-queue = refl; same-window-counts = refl; same-scan-counts = refl; same-starts = refl; same-ends = refl }
+    let b = c .before .before .before .before .before .before in
+    record { inv = b .pre .1; further = omega arith; same-queue = refl; same-window-counts = refl; same-scan-counts = refl; same-list = refl }
 
 skim-requires : tie.Need-skim-requires Inv-loop μ-loop
 skim-requires c κs =
@@ -144,7 +144,7 @@ clear-requires c κs =
       scan-clearing (looped (skimmed x) .loop .inv .inv) s (x .if1 .left) (l .look .ensures) (t .enum-told .given .1) (all-counts l),
     )
 
-abbrev cleared : tie.After-slice-known10 Inv-loop μ-loop → tie.After-clear Inv-loop μ-loop
+abbrev cleared : tie.After-slice-known8 Inv-loop μ-loop → tie.After-clear Inv-loop μ-loop
 cleared c = c .before .before
 
 abbrev due-at : tie.After-clear Inv-loop μ-loop → tie.After-look Inv-loop μ-loop
@@ -165,23 +165,23 @@ returns-2 c =
 
 extended-requires : tie.Need-extended-requires Inv-loop μ-loop
 extended-requires c κs =
-    let x = stopped (extending (c .before .before)) in
+    let x = stopped (extending (c .before)) in
     let b = start (looped (skimmed x)) .pre .0 in
     let n = stops x .enters .entered in
     let w = n .windowed in
     ((omega (arith, letter-small x), omega (arith, w .len-in, w .small), omega (arith, n .some), b .kmer-small), can-save-there x)
 
-abbrev extended : tie.After-slice-known12 Inv-loop μ-loop → tie.After-extended Inv-loop μ-loop
-extended c = c .before .before .before .before
+abbrev extended : tie.After-list Inv-loop μ-loop → tie.After-extended Inv-loop μ-loop
+extended c = c .before
 
 abbrev extension : tie.After-extended Inv-loop μ-loop → tie.After-enum-told2 Inv-loop μ-loop
-extension c = c .before .before .before
+extension c = c .before .before
 
 loop-less : tie.Need-loop-less Inv-loop μ-loop
 loop-less c =
     let y = extended c in
     let x = stopped (extending (extension y)) in
-    omega (arith, x .if1 .left, further x, y .extended .ensures .i-is)
+    omega (arith, x .if1 .left, further x, y .extended .ensures .0 .i-is)
 
 loop-again : tie.Need-loop-again Inv-loop μ-loop
 loop-again c =
@@ -192,13 +192,12 @@ loop-again c =
     let k = skimmed x in
     let h = looped k .loop .inv in
     record {
-      inv = before-extended (h .inv) (stops x) (x .if1 .left) (l .look .ensures) (t .enum-told2 .given .1) (y .extended .ensures);
-      further = omega (arith, h .further, further x, y .extended .ensures .i-is);
+      inv = before-extended (h .inv) (stops x) (x .if1 .left) (l .look .ensures) (t .enum-told2 .given .1) (y .extended .ensures .0) (y .extended .ensures .1);
+      further = omega (arith, h .further, further x, y .extended .ensures .0 .i-is);
       same-queue = same-ring k;
       same-window-counts = same-window k;
       same-scan-counts = same-looked l;
-      same-starts = y .extended .kept .1 .1 .0 ∙ h .same-starts;
-      same-ends = y .extended .kept .1 .1 .1 .0 ∙ h .same-ends;
+      same-list = y .extended .kept .1 .1 .0 ∙ h .same-list;
     }
 
 passed-requires : tie.Need-passed-requires Inv-loop μ-loop
@@ -212,7 +211,7 @@ passed-requires c κs =
       look-passing (g .loop .inv .inv) (stops x) (x .if1 .left) (l .look .ensures) (t .enum-told3 .given .1) (all-counts l) (b .f-long),
     )
 
-abbrev passed : tie.After-slice-known13 Inv-loop μ-loop → tie.After-passed Inv-loop μ-loop
+abbrev passed : tie.After-slice-known9 Inv-loop μ-loop → tie.After-passed Inv-loop μ-loop
 passed c = c .before .before
 
 abbrev no-find : tie.After-passed Inv-loop μ-loop → tie.After-enum-told3 Inv-loop μ-loop
@@ -238,8 +237,7 @@ loop-again-2 c =
       same-queue = same-ring k;
       same-window-counts = same-window k;
       same-scan-counts = y .passed .kept .1 .1 .1 .1 .0 ∙ same-looked l;
-      same-starts = h .same-starts;
-      same-ends = h .same-ends;
+      same-list = h .same-list;
     }
 
 pub until-scan-spec : {M : Type 1} → statement M
@@ -253,8 +251,7 @@ until-scan-spec =
     (λ c. same-ring (all c))
     (λ c. same-window (all c))
     (λ c. same-scan (all c))
-    (λ c. looped (all c) .loop .inv .same-starts)
-    (λ c. looped (all c) .loop .inv .same-ends)
+    (λ c. looped (all c) .loop .inv .same-list)
     returns
     look-requires
     (λ c. search needs)
@@ -262,8 +259,7 @@ until-scan-spec =
     (λ c. same-ring (skimmed (stopped (due-at (cleared c)))))
     (λ c. same-window (skimmed (stopped (due-at (cleared c)))))
     (λ c. cleared c .clear .kept .1 .1 .0 ∙ same-looked (due-at (cleared c)))
-    (λ c. looped (skimmed (stopped (due-at (cleared c)))) .loop .inv .same-starts)
-    (λ c. looped (skimmed (stopped (due-at (cleared c)))) .loop .inv .same-ends)
+    (λ c. looped (skimmed (stopped (due-at (cleared c)))) .loop .inv .same-list)
     returns-2
     (λ c. search needs)
     extended-requires

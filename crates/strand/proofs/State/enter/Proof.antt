@@ -4,7 +4,7 @@ use native.Mathlib.Omega.{arith}
 use borrow.Author.Needs.{needs}
 use Rattle.letters.specs.Rolling.{kmerAfter, entryOf}
 use Rattle.letters.proofs.Rolling.{kmer-next, run-few, value-small, entry-below}
-use Rattle.strand.specs.Held.{Joined}
+use Rattle.strand.specs.Terms.Entering.{Joined}
 use Rattle.strand.proofs.Letter.{entering}
 use Rattle.strand.proofs.State.enter.Statement.{statement}
 use Rattle.strand.proofs.State.enter.Tie as tie

@@ -13,7 +13,8 @@ use Rattle.scans.specs.Setup.{Setup, setupOf}
 use Rattle.scans.specs.Counts.{count}
 use Rattle.scans.specs.Scans.{extends}
 use Rattle.strand.specs.Step.{Run, extendTried}
-use Rattle.strand.specs.Held.{held, Extended}
+use Rattle.strand.specs.Terms.Entering.{held}
+use Rattle.strand.specs.Terms.Searching.{Extended}
 use Rattle.strand.proofs.Searching.{extended-is, searched-plain, searched-often, look-extended, look-back, look-none}
 use Rattle.strand.proofs.State.look.Statement.{statement}
 use Rattle.strand.proofs.State.look.Tie as tie

@@ -4,7 +4,7 @@ use lib.ListN.{length}
 use borrow.Author.Needs.{needs}
 use Rattle.letters.specs.Entry.{decode}
 use Rattle.scans.specs.Setup.{setupOf}
-use Rattle.strand.specs.Kept.{Passing, Passes}
+use Rattle.strand.specs.Terms.KnownCounts.{Passing, Passes}
 use Rattle.strand.proofs.State.passed.Statement.{statement}
 use Rattle.strand.proofs.State.passed.Tie as tie
 

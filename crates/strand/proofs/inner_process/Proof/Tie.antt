@@ -145,38 +145,6 @@ After-slice-known3 = λ Inv μ. Lts.After-slice-known3 (
   Reads''.Learnt,
 ) Reads'5.Pre Reads'5.Post Inv μ
 
-abbrev pub After-slice-known4 : (Inv : InvT-loop) → (μ : MeasureT-loop) → Type 0
-After-slice-known4 = λ Inv μ. Lts.After-slice-known4 (
-  Reads'4.Asked,
-  Reads'4.Learnt,
-  Reads'6.Asked,
-  Reads'6.Learnt,
-  Reads'.Asked,
-  Reads'.Learnt,
-  Reads'3.Asked,
-  Reads'3.Learnt,
-  Reads.Asked,
-  Reads.Learnt,
-  Reads''.Asked,
-  Reads''.Learnt,
-) Reads'5.Pre Reads'5.Post Inv μ
-
-abbrev pub After-slice-known5 : (Inv : InvT-loop) → (μ : MeasureT-loop) → Type 0
-After-slice-known5 = λ Inv μ. Lts.After-slice-known5 (
-  Reads'4.Asked,
-  Reads'4.Learnt,
-  Reads'6.Asked,
-  Reads'6.Learnt,
-  Reads'.Asked,
-  Reads'.Learnt,
-  Reads'3.Asked,
-  Reads'3.Learnt,
-  Reads.Asked,
-  Reads.Learnt,
-  Reads''.Asked,
-  Reads''.Learnt,
-) Reads'5.Pre Reads'5.Post Inv μ
-
 abbrev pub After-begin-arg : (Inv : InvT-loop) → (μ : MeasureT-loop) → Type 0
 After-begin-arg = λ Inv μ. Lts.After-begin-arg (
   Reads'4.Asked,
@@ -241,8 +209,8 @@ After-window-counts = λ Inv μ. Lts.After-window-counts (
   Reads''.Learnt,
 ) Reads'5.Pre Reads'5.Post Inv μ
 
-abbrev pub After-slice-known6 : (Inv : InvT-loop) → (μ : MeasureT-loop) → Type 0
-After-slice-known6 = λ Inv μ. Lts.After-slice-known6 (
+abbrev pub After-slice-known4 : (Inv : InvT-loop) → (μ : MeasureT-loop) → Type 0
+After-slice-known4 = λ Inv μ. Lts.After-slice-known4 (
   Reads'4.Asked,
   Reads'4.Learnt,
   Reads'6.Asked,
@@ -273,8 +241,8 @@ After-scan-counts = λ Inv μ. Lts.After-scan-counts (
   Reads''.Learnt,
 ) Reads'5.Pre Reads'5.Post Inv μ
 
-abbrev pub After-slice-known7 : (Inv : InvT-loop) → (μ : MeasureT-loop) → Type 0
-After-slice-known7 = λ Inv μ. Lts.After-slice-known7 (
+abbrev pub After-slice-known5 : (Inv : InvT-loop) → (μ : MeasureT-loop) → Type 0
+After-slice-known5 = λ Inv μ. Lts.After-slice-known5 (
   Reads'4.Asked,
   Reads'4.Learnt,
   Reads'6.Asked,
@@ -369,22 +337,6 @@ After-until-scan-arg4 = λ Inv μ. Lts.After-until-scan-arg4 (
   Reads''.Learnt,
 ) Reads'5.Pre Reads'5.Post Inv μ
 
-abbrev pub After-until-scan-arg5 : (Inv : InvT-loop) → (μ : MeasureT-loop) → Type 0
-After-until-scan-arg5 = λ Inv μ. Lts.After-until-scan-arg5 (
-  Reads'4.Asked,
-  Reads'4.Learnt,
-  Reads'6.Asked,
-  Reads'6.Learnt,
-  Reads'.Asked,
-  Reads'.Learnt,
-  Reads'3.Asked,
-  Reads'3.Learnt,
-  Reads.Asked,
-  Reads.Learnt,
-  Reads''.Asked,
-  Reads''.Learnt,
-) Reads'5.Pre Reads'5.Post Inv μ
-
 abbrev pub After-until-scan : (Inv : InvT-loop) → (μ : MeasureT-loop) → Type 0
 After-until-scan = λ Inv μ. Lts.After-until-scan (
   Reads'4.Asked,
@@ -417,8 +369,8 @@ After-queue = λ Inv μ. Lts.After-queue (
   Reads''.Learnt,
 ) Reads'5.Pre Reads'5.Post Inv μ
 
-abbrev pub After-slice-known8 : (Inv : InvT-loop) → (μ : MeasureT-loop) → Type 0
-After-slice-known8 = λ Inv μ. Lts.After-slice-known8 (
+abbrev pub After-slice-known6 : (Inv : InvT-loop) → (μ : MeasureT-loop) → Type 0
+After-slice-known6 = λ Inv μ. Lts.After-slice-known6 (
   Reads'4.Asked,
   Reads'4.Learnt,
   Reads'6.Asked,
@@ -449,8 +401,8 @@ After-window-counts2 = λ Inv μ. Lts.After-window-counts2 (
   Reads''.Learnt,
 ) Reads'5.Pre Reads'5.Post Inv μ
 
-abbrev pub After-slice-known9 : (Inv : InvT-loop) → (μ : MeasureT-loop) → Type 0
-After-slice-known9 = λ Inv μ. Lts.After-slice-known9 (
+abbrev pub After-slice-known7 : (Inv : InvT-loop) → (μ : MeasureT-loop) → Type 0
+After-slice-known7 = λ Inv μ. Lts.After-slice-known7 (
   Reads'4.Asked,
   Reads'4.Learnt,
   Reads'6.Asked,
@@ -481,8 +433,8 @@ After-scan-counts2 = λ Inv μ. Lts.After-scan-counts2 (
   Reads''.Learnt,
 ) Reads'5.Pre Reads'5.Post Inv μ
 
-abbrev pub After-slice-known10 : (Inv : InvT-loop) → (μ : MeasureT-loop) → Type 0
-After-slice-known10 = λ Inv μ. Lts.After-slice-known10 (
+abbrev pub After-slice-known8 : (Inv : InvT-loop) → (μ : MeasureT-loop) → Type 0
+After-slice-known8 = λ Inv μ. Lts.After-slice-known8 (
   Reads'4.Asked,
   Reads'4.Learnt,
   Reads'6.Asked,
@@ -497,56 +449,8 @@ After-slice-known10 = λ Inv μ. Lts.After-slice-known10 (
   Reads''.Learnt,
 ) Reads'5.Pre Reads'5.Post Inv μ
 
-abbrev pub After-starts : (Inv : InvT-loop) → (μ : MeasureT-loop) → Type 0
-After-starts = λ Inv μ. Lts.After-starts (
-  Reads'4.Asked,
-  Reads'4.Learnt,
-  Reads'6.Asked,
-  Reads'6.Learnt,
-  Reads'.Asked,
-  Reads'.Learnt,
-  Reads'3.Asked,
-  Reads'3.Learnt,
-  Reads.Asked,
-  Reads.Learnt,
-  Reads''.Asked,
-  Reads''.Learnt,
-) Reads'5.Pre Reads'5.Post Inv μ
-
-abbrev pub After-slice-known11 : (Inv : InvT-loop) → (μ : MeasureT-loop) → Type 0
-After-slice-known11 = λ Inv μ. Lts.After-slice-known11 (
-  Reads'4.Asked,
-  Reads'4.Learnt,
-  Reads'6.Asked,
-  Reads'6.Learnt,
-  Reads'.Asked,
-  Reads'.Learnt,
-  Reads'3.Asked,
-  Reads'3.Learnt,
-  Reads.Asked,
-  Reads.Learnt,
-  Reads''.Asked,
-  Reads''.Learnt,
-) Reads'5.Pre Reads'5.Post Inv μ
-
-abbrev pub After-ends : (Inv : InvT-loop) → (μ : MeasureT-loop) → Type 0
-After-ends = λ Inv μ. Lts.After-ends (
-  Reads'4.Asked,
-  Reads'4.Learnt,
-  Reads'6.Asked,
-  Reads'6.Learnt,
-  Reads'.Asked,
-  Reads'.Learnt,
-  Reads'3.Asked,
-  Reads'3.Learnt,
-  Reads.Asked,
-  Reads.Learnt,
-  Reads''.Asked,
-  Reads''.Learnt,
-) Reads'5.Pre Reads'5.Post Inv μ
-
-abbrev pub After-slice-known12 : (Inv : InvT-loop) → (μ : MeasureT-loop) → Type 0
-After-slice-known12 = λ Inv μ. Lts.After-slice-known12 (
+abbrev pub After-list : (Inv : InvT-loop) → (μ : MeasureT-loop) → Type 0
+After-list = λ Inv μ. Lts.After-list (
   Reads'4.Asked,
   Reads'4.Learnt,
   Reads'6.Asked,
@@ -609,22 +513,6 @@ After-close-arg = λ Inv μ. Lts.After-close-arg (
   Reads''.Learnt,
 ) Reads'5.Pre Reads'5.Post Inv μ
 
-abbrev pub After-close-arg2 : (Inv : InvT-loop) → (μ : MeasureT-loop) → Type 0
-After-close-arg2 = λ Inv μ. Lts.After-close-arg2 (
-  Reads'4.Asked,
-  Reads'4.Learnt,
-  Reads'6.Asked,
-  Reads'6.Learnt,
-  Reads'.Asked,
-  Reads'.Learnt,
-  Reads'3.Asked,
-  Reads'3.Learnt,
-  Reads.Asked,
-  Reads.Learnt,
-  Reads''.Asked,
-  Reads''.Learnt,
-) Reads'5.Pre Reads'5.Post Inv μ
-
 abbrev pub After-close : (Inv : InvT-loop) → (μ : MeasureT-loop) → Type 0
 After-close = λ Inv μ. Lts.After-close (
   Reads'4.Asked,
@@ -641,56 +529,8 @@ After-close = λ Inv μ. Lts.After-close (
   Reads''.Learnt,
 ) Reads'5.Pre Reads'5.Post Inv μ
 
-abbrev pub After-starts2 : (Inv : InvT-loop) → (μ : MeasureT-loop) → Type 0
-After-starts2 = λ Inv μ. Lts.After-starts2 (
-  Reads'4.Asked,
-  Reads'4.Learnt,
-  Reads'6.Asked,
-  Reads'6.Learnt,
-  Reads'.Asked,
-  Reads'.Learnt,
-  Reads'3.Asked,
-  Reads'3.Learnt,
-  Reads.Asked,
-  Reads.Learnt,
-  Reads''.Asked,
-  Reads''.Learnt,
-) Reads'5.Pre Reads'5.Post Inv μ
-
-abbrev pub After-slice-known13 : (Inv : InvT-loop) → (μ : MeasureT-loop) → Type 0
-After-slice-known13 = λ Inv μ. Lts.After-slice-known13 (
-  Reads'4.Asked,
-  Reads'4.Learnt,
-  Reads'6.Asked,
-  Reads'6.Learnt,
-  Reads'.Asked,
-  Reads'.Learnt,
-  Reads'3.Asked,
-  Reads'3.Learnt,
-  Reads.Asked,
-  Reads.Learnt,
-  Reads''.Asked,
-  Reads''.Learnt,
-) Reads'5.Pre Reads'5.Post Inv μ
-
-abbrev pub After-ends2 : (Inv : InvT-loop) → (μ : MeasureT-loop) → Type 0
-After-ends2 = λ Inv μ. Lts.After-ends2 (
-  Reads'4.Asked,
-  Reads'4.Learnt,
-  Reads'6.Asked,
-  Reads'6.Learnt,
-  Reads'.Asked,
-  Reads'.Learnt,
-  Reads'3.Asked,
-  Reads'3.Learnt,
-  Reads.Asked,
-  Reads.Learnt,
-  Reads''.Asked,
-  Reads''.Learnt,
-) Reads'5.Pre Reads'5.Post Inv μ
-
-abbrev pub After-slice-known14 : (Inv : InvT-loop) → (μ : MeasureT-loop) → Type 0
-After-slice-known14 = λ Inv μ. Lts.After-slice-known14 (
+abbrev pub After-list2 : (Inv : InvT-loop) → (μ : MeasureT-loop) → Type 0
+After-list2 = λ Inv μ. Lts.After-list2 (
   Reads'4.Asked,
   Reads'4.Learnt,
   Reads'6.Asked,
@@ -833,8 +673,8 @@ After-scan-counts3 = λ Inv μ. Lts.After-scan-counts3 (
   Reads''.Learnt,
 ) Reads'5.Pre Reads'5.Post Inv μ
 
-abbrev pub After-slice-known15 : (Inv : InvT-loop) → (μ : MeasureT-loop) → Type 0
-After-slice-known15 = λ Inv μ. Lts.After-slice-known15 (
+abbrev pub After-slice-known9 : (Inv : InvT-loop) → (μ : MeasureT-loop) → Type 0
+After-slice-known9 = λ Inv μ. Lts.After-slice-known9 (
   Reads'4.Asked,
   Reads'4.Learnt,
   Reads'6.Asked,
@@ -881,22 +721,6 @@ After-answered-arg = λ Inv μ. Lts.After-answered-arg (
   Reads''.Learnt,
 ) Reads'5.Pre Reads'5.Post Inv μ
 
-abbrev pub After-answered-arg2 : (Inv : InvT-loop) → (μ : MeasureT-loop) → Type 0
-After-answered-arg2 = λ Inv μ. Lts.After-answered-arg2 (
-  Reads'4.Asked,
-  Reads'4.Learnt,
-  Reads'6.Asked,
-  Reads'6.Learnt,
-  Reads'.Asked,
-  Reads'.Learnt,
-  Reads'3.Asked,
-  Reads'3.Learnt,
-  Reads.Asked,
-  Reads.Learnt,
-  Reads''.Asked,
-  Reads''.Learnt,
-) Reads'5.Pre Reads'5.Post Inv μ
-
 abbrev pub After-answered : (Inv : InvT-loop) → (μ : MeasureT-loop) → Type 0
 After-answered = λ Inv μ. Lts.After-answered (
   Reads'4.Asked,
@@ -913,56 +737,8 @@ After-answered = λ Inv μ. Lts.After-answered (
   Reads''.Learnt,
 ) Reads'5.Pre Reads'5.Post Inv μ
 
-abbrev pub After-starts3 : (Inv : InvT-loop) → (μ : MeasureT-loop) → Type 0
-After-starts3 = λ Inv μ. Lts.After-starts3 (
-  Reads'4.Asked,
-  Reads'4.Learnt,
-  Reads'6.Asked,
-  Reads'6.Learnt,
-  Reads'.Asked,
-  Reads'.Learnt,
-  Reads'3.Asked,
-  Reads'3.Learnt,
-  Reads.Asked,
-  Reads.Learnt,
-  Reads''.Asked,
-  Reads''.Learnt,
-) Reads'5.Pre Reads'5.Post Inv μ
-
-abbrev pub After-slice-known16 : (Inv : InvT-loop) → (μ : MeasureT-loop) → Type 0
-After-slice-known16 = λ Inv μ. Lts.After-slice-known16 (
-  Reads'4.Asked,
-  Reads'4.Learnt,
-  Reads'6.Asked,
-  Reads'6.Learnt,
-  Reads'.Asked,
-  Reads'.Learnt,
-  Reads'3.Asked,
-  Reads'3.Learnt,
-  Reads.Asked,
-  Reads.Learnt,
-  Reads''.Asked,
-  Reads''.Learnt,
-) Reads'5.Pre Reads'5.Post Inv μ
-
-abbrev pub After-ends3 : (Inv : InvT-loop) → (μ : MeasureT-loop) → Type 0
-After-ends3 = λ Inv μ. Lts.After-ends3 (
-  Reads'4.Asked,
-  Reads'4.Learnt,
-  Reads'6.Asked,
-  Reads'6.Learnt,
-  Reads'.Asked,
-  Reads'.Learnt,
-  Reads'3.Asked,
-  Reads'3.Learnt,
-  Reads.Asked,
-  Reads.Learnt,
-  Reads''.Asked,
-  Reads''.Learnt,
-) Reads'5.Pre Reads'5.Post Inv μ
-
-abbrev pub After-slice-known17 : (Inv : InvT-loop) → (μ : MeasureT-loop) → Type 0
-After-slice-known17 = λ Inv μ. Lts.After-slice-known17 (
+abbrev pub After-list3 : (Inv : InvT-loop) → (μ : MeasureT-loop) → Type 0
+After-list3 = λ Inv μ. Lts.After-list3 (
   Reads'4.Asked,
   Reads'4.Learnt,
   Reads'6.Asked,
@@ -1121,22 +897,6 @@ Need-same-length-5 = λ Inv μ. Lts.Need-same-length-5 (
   Reads''.Learnt,
 ) Reads'5.Pre Reads'5.Post Inv μ
 
-abbrev pub Need-same-length-6 : (Inv : InvT-loop) → (μ : MeasureT-loop) → Type 0
-Need-same-length-6 = λ Inv μ. Lts.Need-same-length-6 (
-  Reads'4.Asked,
-  Reads'4.Learnt,
-  Reads'6.Asked,
-  Reads'6.Learnt,
-  Reads'.Asked,
-  Reads'.Learnt,
-  Reads'3.Asked,
-  Reads'3.Learnt,
-  Reads.Asked,
-  Reads.Learnt,
-  Reads''.Asked,
-  Reads''.Learnt,
-) Reads'5.Pre Reads'5.Post Inv μ
-
 abbrev pub Need-returns : (Inv : InvT-loop) → (μ : MeasureT-loop) → Type 0
 Need-returns = λ Inv μ. Lts.Need-returns (
   Reads'4.Asked,
@@ -1246,7 +1006,6 @@ module _ {M : Type 1} where
       (answer : Need-same-length-3 Inv μ) →
       (answer : Need-same-length-4 Inv μ) →
       (answer : Need-same-length-5 Inv μ) →
-      (answer : Need-same-length-6 Inv μ) →
       (answer : Need-returns Inv μ) →
       (answer : Need-last-q-index-requires Inv μ) →
       (answer : Need-dust-backward-requires Inv μ) →
@@ -1269,7 +1028,7 @@ module _ {M : Type 1} where
       ) Reads'5.Pre Reads'5.Post M
   spec =
       λ Inv μ answer answer' answer'' answer'3 answer'4 answer'5 answer'6 answer'7 answer'8
-      answer'9 answer'10 answer'11 answer'12 answer'13 answer'14 answer'15. Lts.spec (
+      answer'9 answer'10 answer'11 answer'12 answer'13 answer'14. Lts.spec (
         Reads'4.Asked,
         Reads'4.Learnt,
         Reads'6.Asked,
@@ -1302,7 +1061,6 @@ module _ {M : Type 1} where
       answer'12
       answer'13
       answer'14
-      answer'15
 
   pub close : Lts.Closed (
     Reads'4.Asked,
@@ -1321,7 +1079,7 @@ module _ {M : Type 1} where
   unfolding Code.routine Running.tablesOf
   close =
       λ closed 𝓤 H 𝓜 𝓖 𝓡. Written.close
-      9
+      8
       Kinds.ps
       Kinds.r
       Reads'5.Ghost

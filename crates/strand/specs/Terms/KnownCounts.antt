@@ -1,6 +1,6 @@
--- What the scan counts hold between scans, by what the window says of them: the fast form of the paper's scan counts, which are read only where the last letter was a find.
+-- Terms of contracts: what the scan counts hold between scans, by what the window says of them: the fast form of the paper's scan counts, which are read only where the last letter was a find.
 use mathlib.Core.Path.{_≡_}
-use Prim.Native.Nat.{ℕ, zero, suc, _-_, _/_, _≤_, _<_}
+use Prim.Native.Nat.{ℕ, _-_, _/_, _<_, _≤_, zero, suc}
 use mathlib.Core.Bool.{Bool, true, false, not}
 use mathlib.Core.List.{List}
 use lib.ListN.{length, getD, drop, replicate}
@@ -8,15 +8,16 @@ use lib.Dec.{eqb}
 use lib.IntN.{ℤ, pos, negsuc}
 use Rattle.letters.specs.Place.{Place}
 use Rattle.scans.specs.declared.Params.{Params}
-use Rattle.scans.specs.declared.Carry.{Carry}
 use Rattle.scans.specs.Setup.{Setup, kmers}
 use Rattle.scans.specs.Counts.{cleared, Counted}
-use Rattle.scans.specs.Carry.{Carried, Touched, CarriesOn, noCarry}
-use Rattle.strand.specs.Step.{Run, whole, isAt}
+use Rattle.scans.specs.Window.{window}
+use Rattle.scans.specs.Carry.{noCarry, Carried, Touched, CarriesOn}
+use Rattle.strand.specs.Step.{whole}
 use Rattle.strand.specs.declared.Window.{Window}
+use Rattle.scans.specs.declared.Carry.{Carry}
 
 -- Not live: all are 0. Live: only places from last_q on have raised them. A carried scan: they are the counts of the places from last_q on, and the sums are those of the scan over them.
-pub record Kept (S : Setup) (q : List Place) (w : Window) (counts : List ℕ) : Type 0 where
+pub record KnownCounts (S : Setup) (q : List Place) (w : Window) (counts : List ℕ) : Type 0 where
   pub clear : w .live ≡ false → counts ≡ cleared S
   pub from : w .live ≡ true → w .«last_q» ≡ pos (whole (w .«last_q»))
   pub inside : w .live ≡ true → whole (w .«last_q») ≤ length q
@@ -71,11 +72,3 @@ pub record Clearing (w : Window) (q : List Place) (counts : List ℕ) : Type 0 w
 -- What a backward scan found.
 abbrev pub answeredBy : Window → ℕ → Carry → Sought
 answeredBy w found carry = record { window = rescanned w (not (eqb found 0)) carry; found = found }
-
--- ---- Two runs before letter i that agree but for scan counts that are not read: those of a run whose last letter, i - 1, was not a find.
-abbrev pub withCounts : Run → List ℕ → Run
-withCounts a counts = record { window = a .window; sum = a .sum; counts = counts; start = a .start; end = a .end; last-q = a .last-q; saved = a .saved }
-
-pub record Like (i : ℕ) (a b : Run) : Type 0 where
-  pub run-is : a ≡ withCounts b (a .counts)
-  pub counts-are : isAt (b .end) i ≡ true → a .counts ≡ b .counts
