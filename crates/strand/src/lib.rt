@@ -38,7 +38,7 @@ struct Window {
 }
 
 // The sum without an entry that leaves: if plain, the ln entry of its count leaves the sum, and the count falls.
-fn sum_without(sum: f64, counts: &mut [u16], ln: &[f64], entry: u32) -> f64
+fn sum_without(sum: f64, entry: u32, ln: &[f64], counts: &mut [u16]) -> f64
     requires { ⌜ (entry / 2 < length (now counts)) × (getD (now counts) (entry / 2) 0 < length (now ln))
         × (decode entry ≡ plain (entry / 2) → 0 < getD (now counts) (entry / 2) 0) ⌝ }
     ensures { λ r. ⌜ (r ≡ sumLess (now (ln .entry)) (now (counts .entry)) sum (decode entry))
@@ -54,7 +54,7 @@ fn sum_without(sum: f64, counts: &mut [u16], ln: &[f64], entry: u32) -> f64
 }
 
 // The sum with an entry that joins: if plain, its count rises, and the ln entry of the count is added.
-fn sum_with(sum: f64, counts: &mut [u16], ln: &[f64], entry: u32) -> f64
+fn sum_with(sum: f64, entry: u32, ln: &[f64], counts: &mut [u16]) -> f64
     requires { ⌜ (entry / 2 < length (now counts)) × (getD (now counts) (entry / 2) 0 < 65535)
         × (getD (now counts) (entry / 2) 0 + 1 < length (now ln)) ⌝ }
     ensures { λ r. ⌜ (r ≡ sumMore (now (ln .entry)) (now (counts .exit)) sum (decode entry))
@@ -90,10 +90,10 @@ impl Window {
     fn leave(
         mut self,
         p: scans::Params,
+        ln: &[f64],
         queue: &[u32],
         window_counts: &mut [u16],
         scan_counts: &mut [u16],
-        ln: &[f64],
     ) -> Self
         requires { ⌜ (self .len ≡ p .«window_size») × (length (now «scan_counts») ≡ 4 ^ p .kmer) ⌝ }
         requires { ⌜ Windowed p (now queue) (self .head) (self .len) (now «window_counts») (length (now ln)) ⌝ }
@@ -103,7 +103,7 @@ impl Window {
         let head = self.head;
         let last_q = self.last_q;
         let entry = queue[head];
-        self.sum = sum_without(self.sum, window_counts, ln, entry);
+        self.sum = sum_without(self.sum, entry, ln, window_counts);
         if last_q == 0 {
             scans::lower_entry(scan_counts, entry);
             self.carry = scans::Carry::none();
@@ -118,10 +118,10 @@ impl Window {
     fn make_room(
         self,
         p: scans::Params,
+        ln: &[f64],
         queue: &[u32],
         window_counts: &mut [u16],
         scan_counts: &mut [u16],
-        ln: &[f64],
     ) -> Self
         requires { ⌜ length (now «scan_counts») ≡ 4 ^ p .kmer ⌝ }
         requires { ⌜ Windowed p (now queue) (self .head) (self .len) (now «window_counts») (length (now ln)) ⌝ }
@@ -129,7 +129,7 @@ impl Window {
             (now («window_counts» .exit)) (now («scan_counts» .exit)) ⌝ }
     {
         if self.len == p.window_size {
-            return self.leave(p, queue, window_counts, scan_counts, ln);
+            return self.leave(p, ln, queue, window_counts, scan_counts);
         }
         self
     }
@@ -138,10 +138,10 @@ impl Window {
     fn join(
         mut self,
         p: scans::Params,
+        entry: u32,
+        ln: &[f64],
         queue: &mut [u32],
         window_counts: &mut [u16],
-        ln: &[f64],
-        entry: u32,
     ) -> Self
         requires { ⌜ (self .len < p .«window_size») × (entry / 2 < 4 ^ p .kmer) ⌝ }
         requires { ⌜ Windowed p (now queue) (self .head) (self .len) (now «window_counts») (length (now ln)) ⌝ }
@@ -150,7 +150,7 @@ impl Window {
     {
         let i = scans::ring_index(p.window_size, self.head, self.len);
         queue[i] = entry;
-        self.sum = sum_with(self.sum, window_counts, ln, entry);
+        self.sum = sum_with(self.sum, entry, ln, window_counts);
         self.len += 1;
         self
     }
@@ -374,8 +374,8 @@ impl State {
         self.kmer = self.kmer.next(codes[i], p.kmer);
         let entry = self.kmer.entry(p.kmer);
         let room = self.window
-            .make_room(p, queue, window_counts, scan_counts, ln);
-        self.window = room.join(p, queue, window_counts, ln, entry);
+            .make_room(p, ln, queue, window_counts, scan_counts);
+        self.window = room.join(p, entry, ln, queue, window_counts);
         self
     }
 
