@@ -1,4 +1,12 @@
-// One strand: the run over its letters and the intervals that it saves.
+// One strand: the run over its letters and the intervals that it saves. What the Rust's `inner_process` became:
+//
+// | the Rust | here |
+// |---|---|
+// | its locals, the window's ends | `State`: the rolling k-mer, the next letter, `Window` and `Open` |
+// | a turn of its loop up to the new entry | `State::enter`, with `Window::make_room` and `Window::join` |
+// | the tests before a search | `State::is_searched`, `State::look` |
+// | what follows a search | `State::passed`, `State::extended`, `State::answered` |
+// | its loop | `skim` over letters that are not searched from, in `until_scan` over letters without a backward scan, in `inner_process` |
 
 ghost use mathlib.Core.Path.{_≡_};
 ghost use mathlib.Core.Bool.{true};
@@ -598,7 +606,7 @@ fn until_scan(
     }
 }
 
-// The intervals of a strand of codes, in the first entries of `list`; answers how many there are.
+// Takes a strand of codes, the tables and the lent buffers; writes the strand's intervals to the first entries of `list`, in order, and answers how many there are.
 pub fn inner_process(
     p: scans::Params,
     codes: &[u8],
