@@ -14,7 +14,7 @@ use Rattle.floats.specs.Binary64.{zero64}
 use Rattle.letters.specs.Place.{Place, ambiguous, plain, BelowAt, Below}
 use Rattle.letters.specs.Entry.{decode, decoded}
 use Rattle.letters.proofs.Entries.{decode-plain, decode-ambiguous}
-use Rattle.scans.specs.declared.BackwardState.{BackwardState}
+use Rattle.scans.specs.declared.backward.BackwardState.{BackwardState}
 use Rattle.scans.specs.Setup.{Setup}
 use Rattle.scans.specs.Counts.{count, raise}
 use Rattle.scans.specs.Scans.{windowValue, value}

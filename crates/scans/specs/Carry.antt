@@ -4,18 +4,18 @@ use mathlib.Core.Path.{_≡_}
 use mathlib.Core.Bool.{true, false, cond}
 use mathlib.Core.List.{List}
 use Prim.Native.Nat.{ℕ, suc, _≤_}
-use lib.ListN.{length, getD, drop}
+use lib.ListN.{getD, drop}
 use lib.Ieee.{Float, le, inf}
 use Rattle.floats.specs.Arithmetic.{_⊕_, _⊖_}
 use Rattle.floats.specs.Binary64.{zero64}
 use Rattle.letters.specs.Place.{Place}
 use Rattle.scans.specs.declared.Carry.{Carry}
 use Rattle.scans.specs.declared.Scanned.{Scanned}
-use Rattle.scans.specs.declared.BackwardState.{BackwardState}
+use Rattle.scans.specs.declared.backward.BackwardState.{BackwardState}
 use Rattle.scans.specs.Setup.{Setup, fAt}
 use Rattle.scans.specs.Counts.{count, raise, cleared}
 use Rattle.scans.specs.Scans.{Find, none, at, Outcome, value, Forward, forwardStart, forwardFrom, dustBackward}
-use Rattle.scans.specs.Window.{window, countedValue, findOf}
+use Rattle.scans.specs.Window.{countedValue, findOf}
 
 -- The forward scan over all of the places: nothing is above its limit, so it is never stopped.
 abbrev pub wholeForward : Setup → List Place → Forward
@@ -66,10 +66,6 @@ carriedAhead S l counts e c =
 pub record CarriesOn (S : Setup) (l : ℕ) (e : Place) (c c′ : Carry) (counts counts′ : List ℕ) : Type 0 where
   pub carry-is : c′ ≡ carriedOn S l counts e c
   pub counts-are : counts′ ≡ raise counts e
-
--- Entries `from` to `to - 1` were walked: what the counts were to the places from `from` on, they then are to those from `to` on.
-pub record Walked (P : List ℕ → List Place → Type 0) (ring : List ℕ) (head from to : ℕ) (counts counts′ : List ℕ) : Type 0 where
-  pub left : (len : ℕ) → to ≤ len → len ≤ length ring → P counts (drop from (window ring head len)) → P counts′ (drop to (window ring head len))
 
 -- After the quick scan b of a window: a carried scan that is on tells the find, which is b's best place. Otherwise only entries that b read have touched the counts.
 pub record CarriesAhead (S : Setup) (q : List Place) (b : BackwardState) (r : Carry) (counts : List ℕ) : Type 0 where

@@ -6,5 +6,4 @@ pub mod Judged
 pub mod Window
 pub mod Parts
 pub mod Carry
-pub mod Quick
 pub mod Search

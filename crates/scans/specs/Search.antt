@@ -8,13 +8,13 @@ use lib.Dec.{eqb, ltb}
 use lib.Ieee.{nan}
 use Rattle.letters.specs.Place.{Place}
 use Rattle.scans.specs.declared.ForwardPosition.{ForwardPosition}
-use Rattle.scans.specs.declared.BackwardState.{BackwardState}
-use Rattle.scans.specs.declared.Search.{Search}
-use Rattle.scans.specs.declared.Trial.{Trial}
+use Rattle.scans.specs.declared.backward.BackwardState.{BackwardState}
+use Rattle.scans.specs.declared.candidates.Search.{Search}
+use Rattle.scans.specs.declared.candidates.Trial.{Trial}
 use Rattle.scans.specs.Setup.{Setup, kmers}
 use Rattle.scans.specs.Counts.{cleared}
 use Rattle.scans.specs.Scans.{Outcome, Candidate, candidate, noCandidate, backwardStart, Backward, backwardFrom, withBest, tryFrom}
-use Rattle.scans.specs.Parts.{Fresh, Backs, resumed}
+use Rattle.scans.specs.Parts.{backwardOf, Fresh, restOf, Backs}
 use Rattle.scans.specs.Carry.{Answers}
 
 abbrev pub candidateOf : ForwardPosition → Candidate
@@ -47,7 +47,7 @@ restingAt a scan on = record { scan = scan; noted = a .noted; last = a .last; fr
 
 -- The scan has gone on.
 abbrev pub goneOn : Search → BackwardState → Search
-goneOn a scan = cond (scan .peak) (notingAt (restingAt a scan (a .on)) (scan .low + 2)) (restingAt a scan (a .on))
+goneOn a scan = cond (scan .paused) (notingAt (restingAt a scan (a .on)) (scan .low + 2)) (restingAt a scan (a .on))
 
 -- The scan is over.
 abbrev pub finishedOf : Search → Search
@@ -64,6 +64,11 @@ toTry b = cond (eqb (b .found) 0) [] (withBest (b .best) (b .found) (b .candidat
 abbrev pub withFresh : Search → List Candidate → List Candidate
 withFresh a cs = cond (a .fresh) (cs ++ candidateOf (a .last) ∷ []) cs
 
+-- What a scan that rests at a answers in the end.
+abbrev pub resumed : Setup → List Place → BackwardState → List ℕ → List Candidate → Backward
+resumed S q a counts cs =
+    cond (a .done) (record { best = a .best; found = a .found; counts = counts; candidates = cs }) (backwardFrom S q (a .low) (length q + 1 - a .low) (backwardOf a) counts cs)
+
 -- What a search at a with the candidates cs finds in the end.
 abbrev pub sought : Setup → List Place → Search → List ℕ → List Candidate → List Candidate
 sought S q a counts cs = cond (a .on) (toTry (resumed S q (a .scan) counts cs)) cs
@@ -76,7 +81,7 @@ pub record Noted (a : Search) (cs : List Candidate) : Type 0 where
 -- A search that may go on: no more candidates than entries read are noted, and none without a best place.
 pub record Searches (m : ℕ) (q : List Place) (a : Search) (counts : List ℕ) : Type 0 where
   pub on : a .on ≡ true
-  pub scan : Backs m q (a .scan) counts
+  pub scan : Backs m q (restOf (a .scan) counts)
   pub few : a .noted + a .scan .low ≤ length q
   pub none : a .scan .found ≡ 0 → a .noted ≡ 0
 
@@ -99,7 +104,7 @@ pub record ScansBackward (S : Setup) (q : List Place) (counts : List ℕ) (cs : 
 
 -- ---- The candidates are tried.
 -- A slice holds n candidates or more, the first n being places of the window.
-pub record Holds (len n : ℕ) (records : List ForwardPosition) : Type 0 where
+pub record HoldsCandidates (len n : ℕ) (records : List ForwardPosition) : Type 0 where
   pub room : n ≤ length records
   pub inside : (j : ℕ) → j < n → getD records j noPosition .pos < len
 

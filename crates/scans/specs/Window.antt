@@ -22,6 +22,10 @@ queue ring head len = take len (drop head ring ++ take head ring)
 abbrev pub ringIndex : ℕ → ℕ → ℕ → ℕ
 ringIndex w head j = cond (ltb (head + j) w) (head + j) (head + j - w)
 
+-- The same, but the ring's end where the entry stands past it.
+abbrev pub ringEnd : ℕ → ℕ → ℕ → ℕ
+ringEnd w head j = cond (ltb (head + j) w) (head + j) w
+
 -- The index i of the ring is that of the j-th entry.
 abbrev pub At : ℕ → ℕ → ℕ → ℕ → Type 0
 At w head j i = (i < w) × ((i ≡ head + j) ⊎ (i + w ≡ head + j))
