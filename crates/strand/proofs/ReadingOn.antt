@@ -15,7 +15,7 @@ use Rattle.letters.proofs.Rolling.{kmer-next, entry-place}
 use Rattle.intervals.specs.Interval.{Interval}
 use Rattle.scans.specs.declared.Params.{Params}
 use Rattle.scans.specs.Setup.{Setup, setupOf}
-use Rattle.scans.specs.Window.{window}
+use Rattle.scans.specs.Terms.Window.{window}
 use Rattle.scans.proofs.Windows.{long}
 use Rattle.strand.specs.Step.{Run, step, runFrom}
 use Rattle.strand.specs.declared.Window.{Window}

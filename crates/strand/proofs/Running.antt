@@ -18,7 +18,7 @@ use Rattle.scans.specs.declared.Params.{Params}
 use Rattle.scans.specs.Setup.{Setup, setupOf}
 use Rattle.scans.specs.declared.Scanned.{Scanned}
 use Rattle.scans.specs.Counts.{cleared}
-use Rattle.scans.specs.Window.{queue, window, findOf}
+use Rattle.scans.specs.Terms.Window.{queue, window, findOf}
 use Rattle.scans.proofs.Counting.{cleared-counted}
 use Rattle.scans.proofs.Windows.{long}
 use Rattle.strand.specs.Step.{Run, begin, isAt, whole, saveFrom, step, runFrom, run, intervalsOfPlaces, intervalsOf}

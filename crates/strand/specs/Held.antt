@@ -20,8 +20,8 @@ use Rattle.scans.specs.declared.Params.{Params}
 use Rattle.scans.specs.Setup.{Setup, setupOf}
 use Rattle.scans.specs.Counts.{count, raise}
 use Rattle.scans.specs.Scans.{Find, none, at, Outcome, extends, dustBackward}
-use Rattle.scans.specs.Window.{window, findOf, Windowed}
-use Rattle.scans.specs.Carry.{noCarry}
+use Rattle.scans.specs.Terms.Window.{window, findOf, Windowed}
+use Rattle.scans.specs.Terms.Carry.{noCarry}
 use Rattle.strand.specs.Step.{Run, leave, join, isAt, search, st2, startAfter, whole, saveFrom, savedAfter, look, runFrom, run}
 use Rattle.strand.specs.declared.Window.{Window}
 use Rattle.strand.specs.declared.Open.{Open}

@@ -10,7 +10,7 @@ use Rattle.letters.specs.Place.{Place}
 use Rattle.scans.specs.declared.Carry.{Carry}
 use Rattle.scans.specs.Setup.{Setup, kmers}
 use Rattle.scans.specs.Counts.{cleared, Counted}
-use Rattle.scans.specs.Carry.{Carried, Touched, CarriesOn, noCarry}
+use Rattle.scans.specs.Terms.Carry.{Carried, Touched, CarriesOn, noCarry}
 use Rattle.strand.specs.Step.{Run, whole, isAt}
 use Rattle.strand.specs.declared.Window.{Window}
 

@@ -12,8 +12,8 @@ use Rattle.scans.specs.declared.Params.{Params}
 use Rattle.scans.specs.declared.Scanned.{Scanned}
 use Rattle.scans.specs.Setup.{setupOf}
 use Rattle.scans.specs.Scans.{dustBackward}
-use Rattle.scans.specs.Window.{window, findOf, Windowed}
-use Rattle.scans.specs.Carry.{Carried, Answers}
+use Rattle.scans.specs.Terms.Window.{window, findOf, Windowed}
+use Rattle.scans.specs.Terms.Carry.{Carried, Answers}
 use Rattle.strand.specs.Step.{Run, whole, runFrom, run}
 use Rattle.strand.specs.declared.Window.{Window}
 use Rattle.strand.specs.declared.Open.{Open}

@@ -4,8 +4,8 @@ use lib.ListN.{drop}
 use mir.Syntax.{w64}
 use mir.Facts.{toZ-ofZ}
 use borrow.Author.Needs.{needs}
-use Rattle.scans.specs.Window.{window}
-use Rattle.scans.specs.Carry.{Touched}
+use Rattle.scans.specs.Terms.Window.{window}
+use Rattle.scans.specs.Terms.Carry.{Touched}
 use Rattle.strand.specs.Step.{whole}
 use Rattle.strand.proofs.Window.cleared.Statement.{statement}
 use Rattle.strand.proofs.Window.cleared.Tie as tie
