@@ -8,8 +8,8 @@ ghost use lib.Dec.{eqb};
 ghost use Rattle.letters.specs.Entry.{decode, decoded};
 ghost use Rattle.scans.specs.Setup.{setupOf};
 ghost use Rattle.scans.specs.Scans.{isNoted};
-ghost use Rattle.scans.specs.Window.{window, Windowed};
-ghost use Rattle.scans.specs.Parts.{backwardOf, AddsEntry, withBestAt, withPrevious, restsAt, Fresh, pauses, tooLow, goesOn, restOf, restOver, Coded, Room, Backs, GoesOn};
+ghost use Rattle.scans.specs.Terms.Window.{window, Windowed};
+ghost use Rattle.scans.specs.Terms.Parts.{backwardOf, AddsEntry, withBestAt, withPrevious, restsAt, Fresh, pauses, tooLow, goesOn, restOf, restOver, Coded, Room, Backs, GoesOn};
 use crate::Params;
 
 // A score less than this below the best is a near tie.

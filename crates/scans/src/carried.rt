@@ -6,7 +6,7 @@ ghost use Prim.Native.Nat.{_+_, _/_, _<_};
 ghost use lib.ListN.{length, getD};
 ghost use Rattle.letters.specs.Entry.{decode};
 ghost use Rattle.scans.specs.Setup.{setupOf};
-ghost use Rattle.scans.specs.Carry.{noCarry, CarriesOn, carriedAhead};
+ghost use Rattle.scans.specs.Terms.Carry.{noCarry, CarriesOn, carriedAhead};
 use crate::Carry;
 use crate::Params;
 use crate::Scanned;

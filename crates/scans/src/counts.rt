@@ -5,7 +5,7 @@ ghost use Prim.Native.Nat.{_+_, _/_, _<_};
 ghost use lib.ListN.{length, getD};
 ghost use Rattle.letters.specs.Entry.{decode};
 ghost use Rattle.scans.specs.Counts.{lower};
-ghost use Rattle.scans.specs.Window.{countedValue, CountsEntry};
+ghost use Rattle.scans.specs.Terms.Window.{countedValue, CountsEntry};
 
 // Counts an entry, and answers the ln entry of its raised count, 0 if ambiguous.
 pub fn count_entry(counts: &mut [u16], ln: &[f64], entry: u32) -> f64

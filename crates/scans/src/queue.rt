@@ -5,9 +5,9 @@ ghost use Prim.Native.Nat.{_<_, _≤_};
 ghost use lib.ListN.{length, drop, replicate};
 ghost use Rattle.letters.specs.Entry.{decoded};
 ghost use Rattle.scans.specs.Counts.{Counted};
-ghost use Rattle.scans.specs.Window.{ringIndex, ringEnd, window};
-ghost use Rattle.scans.specs.Carry.{Touched};
-ghost use Rattle.scans.specs.Parts.{Queued, Coded, Walked};
+ghost use Rattle.scans.specs.Terms.Window.{ringIndex, ringEnd, window};
+ghost use Rattle.scans.specs.Terms.Carry.{Touched};
+ghost use Rattle.scans.specs.Terms.Parts.{Queued, Coded, Walked};
 use crate::counts::lower_entry;
 
 // Setting one count costs as much as clearing this many in a row.

@@ -7,7 +7,7 @@ ghost use lib.ListN.{length};
 ghost use lib.Ieee.{Float};
 ghost use Rattle.scans.specs.Setup.{setupOf};
 ghost use Rattle.scans.specs.Scans.{ifBackward};
-ghost use Rattle.scans.specs.Window.{window, Windowed, Extends};
+ghost use Rattle.scans.specs.Terms.Window.{window, Windowed, Extends};
 use crate::Params;
 use crate::counts::window_value;
 use crate::queue::ring_index;

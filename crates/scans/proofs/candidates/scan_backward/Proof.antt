@@ -4,8 +4,8 @@ use native.Mathlib.Omega.{arith}
 use borrow.Author.Needs.{needs}
 use lib.ListN.{length}
 use Rattle.scans.specs.Setup.{setupOf}
-use Rattle.scans.specs.Window.{window}
-use Rattle.scans.specs.Search.{turns}
+use Rattle.scans.specs.Terms.Window.{window}
+use Rattle.scans.specs.Terms.Search.{turns}
 use Rattle.scans.proofs.Windows.{long}
 use Rattle.scans.proofs.Searching.{Seeking, seeking-start, seeking-end, seeking-kept, fresh-some, fresh-room, seeking-put}
 use Rattle.scans.proofs.candidates.scan_backward.Statement.{statement}

@@ -7,8 +7,8 @@ use lib.ListN.{length, getD}
 use Rattle.scans.specs.declared.ForwardPosition.{ForwardPosition}
 use Rattle.scans.specs.Setup.{setupOf}
 use Rattle.scans.specs.Scans.{noCandidate}
-use Rattle.scans.specs.Window.{window}
-use Rattle.scans.specs.Search.{candidateOf, candidatesIn}
+use Rattle.scans.specs.Terms.Window.{window}
+use Rattle.scans.specs.Terms.Search.{candidateOf, candidatesIn}
 use Rattle.scans.proofs.Walk.{ringed-as}
 use Rattle.scans.proofs.Slices.{candidates-at}
 use Rattle.scans.proofs.Trying.{Trying, trying-start, trying-next}

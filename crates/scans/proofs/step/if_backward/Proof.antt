@@ -2,7 +2,7 @@ use native.Mathlib.Omega.{arith}
 use borrow.Author.Needs.{needs}
 use Prim.Native.Nat.{_-_}
 use lib.ListN.{length}
-use Rattle.scans.specs.Window.{At, window}
+use Rattle.scans.specs.Terms.Window.{At, window}
 use Rattle.scans.proofs.Ring.{ring-index-at}
 use Rattle.scans.proofs.Windows.{long, count-in, entry-in}
 use Rattle.scans.proofs.BackCheck.{Checking, checking-start, checking-turn, checking-no, checking-yes}

@@ -2,7 +2,7 @@ use mathlib.Core.Path.{_≡_, refl, sym, ap, _∙_}
 use Prim.Native.Nat.{ℕ, _^_}
 use native.Mathlib.Omega.{arith}
 use lib.ListN.{length, replicate, length-replicate}
-use Rattle.scans.specs.Window.{window}
+use Rattle.scans.specs.Terms.Window.{window}
 use Rattle.scans.proofs.Ring.{window-length}
 use Rattle.scans.proofs.Walk.{queued-as}
 use Rattle.scans.proofs.Trying.{trial-skip, trial-found, trial-touched, trial-approx, trial-on}
