@@ -13,10 +13,10 @@ use Rattle.scans.specs.declared.Scanned.{Scanned}
 use Rattle.scans.specs.Setup.{Setup}
 use Rattle.scans.specs.Counts.{cleared}
 use Rattle.scans.specs.Scans.{none, Outcome, Candidate, noCandidate, backwardStart, Backward, backwardFrom, withBest, tryFrom, tried, dustBackward}
-use Rattle.scans.specs.Window.{Windowed, Roomy}
-use Rattle.scans.specs.Parts.{Ringed}
-use Rattle.scans.specs.Search.{candidatesIn, toTry, ScansBackward, HoldsCandidates}
-use Rattle.scans.specs.Carry.{Answers}
+use Rattle.scans.specs.Terms.Window.{Windowed, Roomy}
+use Rattle.scans.specs.Terms.Parts.{Ringed}
+use Rattle.scans.specs.Terms.Search.{candidatesIn, toTry, ScansBackward, HoldsCandidates}
+use Rattle.scans.specs.Terms.Carry.{Answers}
 use Rattle.scans.proofs.Noting.{AllBelow}
 use Rattle.scans.proofs.Walk.{windowed-queued}
 use Rattle.scans.proofs.Slices.{candidates-length, candidates-at}

@@ -21,8 +21,8 @@ use Rattle.scans.specs.declared.backward.BackwardState.{BackwardState}
 use Rattle.scans.specs.Setup.{Setup, fAt, kmers, setupOf}
 use Rattle.scans.specs.Counts.{hit, count, raise, cleared, Counted}
 use Rattle.scans.specs.Scans.{value, secondValue, Candidate, candidate, BackwardSums, backwardStart, isNoted, noted, isDropped, backwardJudged, Backward, backwardFrom}
-use Rattle.scans.specs.Window.{window, countedValue, Windowed}
-use Rattle.scans.specs.Parts.{backwardOf, leftValue, AddsEntry, withBestAt, withPrevious, restsAt, Fresh, pauses, tooLow, Rest, restOf, sumsWith, raisedAt, fallenTo, restOver, restFrom, restAfter, Coded, Room, Backs, GoesOn, goesOn, ScansQuick}
+use Rattle.scans.specs.Terms.Window.{window, countedValue, Windowed}
+use Rattle.scans.specs.Terms.Parts.{backwardOf, leftValue, AddsEntry, withBestAt, withPrevious, restsAt, Fresh, pauses, tooLow, Rest, restOf, sumsWith, raisedAt, fallenTo, restOver, restFrom, restAfter, Coded, Room, Backs, GoesOn, goesOn, ScansQuick}
 use Rattle.scans.proofs.Test.{neither}
 use Rattle.scans.proofs.Counting.{hit-self, count-snoc, count-append, count-le, raise-counted, raise-hit, raise-length, cleared-counted}
 use Rattle.scans.proofs.Values.{raised-value, decode-below}

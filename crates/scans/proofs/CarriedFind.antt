@@ -20,9 +20,9 @@ use Rattle.scans.specs.declared.Scanned.{Scanned}
 use Rattle.scans.specs.Setup.{Setup, fAt, kmers, setupOf}
 use Rattle.scans.specs.Counts.{cleared, Counted}
 use Rattle.scans.specs.Scans.{at, Forward, dustForward, dustBackward}
-use Rattle.scans.specs.Window.{ringIndex, At, queue, window, countedValue}
-use Rattle.scans.specs.Parts.{Ringed, restOf, ScansQuick}
-use Rattle.scans.specs.Carry.{noCarry, Carried, Touched, Answers, carriedAhead, CarriesAhead, FindsQuickly}
+use Rattle.scans.specs.Terms.Window.{ringIndex, At, queue, window, countedValue}
+use Rattle.scans.specs.Terms.Parts.{Ringed, restOf, ScansQuick}
+use Rattle.scans.specs.Terms.Carry.{noCarry, Carried, Touched, Answers, carriedAhead, CarriesAhead, FindsQuickly}
 use Rattle.scans.proofs.Counting.{count-le}
 use Rattle.scans.proofs.Ring.{ring-index-at, queue-at, window-length, window-newest}
 use Rattle.scans.proofs.Touched.{counted-touched, touched-part}

@@ -16,8 +16,8 @@ use Rattle.scans.specs.declared.Params.{Params}
 use Rattle.scans.specs.Setup.{Setup, fAt, setupOf}
 use Rattle.scans.specs.Counts.{raise}
 use Rattle.scans.specs.Scans.{value, ForwardSums, Forward, forwardStart, forwardJudged, forwardFrom, dustForward}
-use Rattle.scans.specs.Window.{window, countedValue, CountsEntry}
-use Rattle.scans.specs.Parts.{Coded, UpTo, forwardOf, ForwardPart, Finds}
+use Rattle.scans.specs.Terms.Window.{window, countedValue, CountsEntry}
+use Rattle.scans.specs.Terms.Parts.{Coded, UpTo, forwardOf, ForwardPart, Finds}
 use Rattle.scans.proofs.Counting.{raise-length, cleared-counted}
 use Rattle.scans.proofs.Ring.{window-length}
 use Rattle.scans.proofs.Walk.{rest-cons, rest-none}

@@ -12,8 +12,8 @@ use borrow.Author.Tests.{ltb-true, ltb-false}
 use Rattle.letters.specs.Place.{Place, ambiguous}
 use Rattle.letters.specs.Entry.{decode, decoded}
 use Rattle.letters.proofs.Entries.{decoded-length, decoded-at}
-use Rattle.scans.specs.Window.{queue, ringEnd, At, window}
-use Rattle.scans.specs.Parts.{Queued, Coded}
+use Rattle.scans.specs.Terms.Window.{queue, ringEnd, At, window}
+use Rattle.scans.specs.Terms.Parts.{Queued, Coded}
 use Rattle.scans.proofs.Ring.{queue-length, queue-at, window-length}
 
 -- The places es stand in the window q from index `at` on.

@@ -9,7 +9,7 @@ use Rattle.letters.specs.Place.{Place, Below}
 use Rattle.scans.specs.Setup.{Setup, kmers}
 use Rattle.scans.specs.Counts.{cleared}
 use Rattle.scans.specs.Scans.{backwardStart, Backward, backwardFrom, at, Forward, dustForward, dustBackward}
-use Rattle.scans.specs.Parts.{Rest, ScansQuick}
+use Rattle.scans.specs.Terms.Parts.{Rest, ScansQuick}
 use Rattle.scans.proofs.Noting.{backward-scanned}
 use Rattle.scans.proofs.QuickScan.{Agrees, quick-backward, best-tried}
 

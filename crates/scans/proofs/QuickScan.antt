@@ -18,7 +18,7 @@ use Rattle.letters.specs.Place.{Place, ambiguous, Below}
 use Rattle.scans.specs.Setup.{Setup, fAt, kmers}
 use Rattle.scans.specs.Counts.{raise, cleared, Counted}
 use Rattle.scans.specs.Scans.{value, Candidate, candidate, noCandidate, secondValue, BackwardSums, backwardStart, isNoted, noted, isDropped, backwardJudged, Backward, backwardFrom, withBest, none, at, dustForward, tryFrom, tried}
-use Rattle.scans.specs.Parts.{tooLow, Rest, sumsWith, raisedAt, fallenTo, restOver, restFrom}
+use Rattle.scans.specs.Terms.Parts.{tooLow, Rest, sumsWith, raisedAt, fallenTo, restOver, restFrom}
 use Rattle.scans.proofs.Test.{by-test, by-test-both}
 use Rattle.scans.proofs.Noting.{first-not-noted}
 use Rattle.scans.proofs.BackwardScan.{restAt, read-counted, definition-turn, none-counted}

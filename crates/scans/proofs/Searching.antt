@@ -16,8 +16,8 @@ use Rattle.scans.specs.declared.candidates.Search.{Search}
 use Rattle.scans.specs.Setup.{Setup, kmers}
 use Rattle.scans.specs.Counts.{cleared, Counted}
 use Rattle.scans.specs.Scans.{Candidate, candidate, noCandidate, BackwardSums, backwardStart, Backward, backwardFrom, withBest}
-use Rattle.scans.specs.Parts.{backwardOf, restOf, GoesOn}
-use Rattle.scans.specs.Search.{candidateOf, candidatesIn, FreshSearch, notingAt, restingAt, goneOn, finishedOf, toTry, withFresh, resumed, sought, Noted, Searches, NextCandidate, ScansBackward}
+use Rattle.scans.specs.Terms.Parts.{backwardOf, restOf, GoesOn}
+use Rattle.scans.specs.Terms.Search.{candidateOf, candidatesIn, FreshSearch, notingAt, restingAt, goneOn, finishedOf, toTry, withFresh, resumed, sought, Noted, Searches, NextCandidate, ScansBackward}
 use Rattle.scans.proofs.Test.{by-test, neither}
 use Rattle.scans.proofs.Noting.{AllBelow, backward-scanned, candidates-fit}
 use Rattle.scans.proofs.Slices.{candidates-length, candidates-push}

@@ -17,9 +17,9 @@ use Rattle.scans.specs.declared.candidates.Trial.{Trial}
 use Rattle.scans.specs.Setup.{Setup}
 use Rattle.scans.specs.Counts.{cleared}
 use Rattle.scans.specs.Scans.{none, at, Outcome, ForwardSums, Candidate, noCandidate, dustForward, tryFrom}
-use Rattle.scans.specs.Parts.{Finds}
-use Rattle.scans.specs.Search.{candidateOf, FreshTrial, Leads, NextTrial}
-use Rattle.scans.specs.Carry.{Carried, Touched, Answers}
+use Rattle.scans.specs.Terms.Parts.{Finds}
+use Rattle.scans.specs.Terms.Search.{candidateOf, FreshTrial, Leads, NextTrial}
+use Rattle.scans.specs.Terms.Carry.{Carried, Touched, Answers}
 use Rattle.scans.proofs.Touched.{dust-forward-touched}
 use Rattle.scans.proofs.CarriedScan.{found-carried}
 

@@ -11,9 +11,9 @@ use Rattle.letters.specs.Entry.{decode, decoded}
 use Rattle.letters.proofs.Entries.{decoded-length, decoded-at}
 use Rattle.scans.specs.declared.Params.{Params}
 use Rattle.scans.specs.Counts.{lower, Counted}
-use Rattle.scans.specs.Window.{queue, window, Windowed}
-use Rattle.scans.specs.Parts.{Queued, Ringed, Coded, Walked}
-use Rattle.scans.specs.Carry.{Touched}
+use Rattle.scans.specs.Terms.Window.{queue, window, Windowed}
+use Rattle.scans.specs.Terms.Parts.{Queued, Ringed, Coded, Walked}
+use Rattle.scans.specs.Terms.Carry.{Touched}
 use Rattle.scans.proofs.Ring.{queue-length, window-length}
 use Rattle.scans.proofs.Values.{decode-below, decoded-below}
 use Rattle.scans.proofs.Counting.{lower-counted}

@@ -15,8 +15,8 @@ use Rattle.scans.specs.declared.Scanned.{Scanned}
 use Rattle.scans.specs.Setup.{Setup, kmers}
 use Rattle.scans.specs.Counts.{raise, lower, cleared, Counted}
 use Rattle.scans.specs.Scans.{Find, none, at, Outcome, dustBackward}
-use Rattle.scans.specs.Window.{findOf}
-use Rattle.scans.specs.Carry.{Carried, Touched, countsLeft, Answers, carriedOn}
+use Rattle.scans.specs.Terms.Window.{findOf}
+use Rattle.scans.specs.Terms.Carry.{Carried, Touched, countsLeft, Answers, carriedOn}
 use Rattle.scans.proofs.Counting.{below-left, below-right, below-drop, raise-counted}
 use Rattle.scans.proofs.Touched.{touched-cleared, touched-none, counted-touched, touched-more, touched-raise, touched-lower, touched-part}
 use Rattle.scans.proofs.ForwardScore.{forward-inside}

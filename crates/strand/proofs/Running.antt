@@ -19,7 +19,7 @@ use Rattle.scans.specs.declared.Params.{Params}
 use Rattle.scans.specs.Setup.{Setup, setupOf}
 use Rattle.scans.specs.declared.Scanned.{Scanned}
 use Rattle.scans.specs.Counts.{cleared}
-use Rattle.scans.specs.Window.{queue, window}
+use Rattle.scans.specs.Terms.Window.{queue, window}
 use Rattle.scans.proofs.Counting.{cleared-counted}
 use Rattle.scans.proofs.Windows.{long}
 use Rattle.strand.specs.Step.{Run, begin, isAt, whole, saveFrom, look, step, runFrom, run, intervalsOfPlaces, intervalsOf}

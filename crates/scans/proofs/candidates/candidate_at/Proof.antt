@@ -37,7 +37,7 @@ use denote.Triple.Table.{entered}
 use denote.Triple.Walked.{says, needs, Stays, stay-none-slice, stay-none, walkOf, goes-none-slice, goes-none, Walks, ends-at, walked, walk-meets}
 use denote.Exit.{yes}
 use Rattle.scans.specs.declared.ForwardPosition.{ForwardPosition}
-use Rattle.scans.specs.Search.{noPosition}
+use Rattle.scans.specs.Terms.Search.{noPosition}
 use Rattle.scans.proofs.ForwardPosition as T
 use Rattle.scans.proofs.ForwardPosition.Laws as T′
 use Rattle.scans.proofs.candidates.candidate_at.Key.{name as #key}

@@ -5,7 +5,7 @@ use native.Mathlib.Omega.{arith}
 use borrow.Author.Needs.{needs}
 use Rattle.letters.specs.Entry.{decoded}
 use Rattle.letters.proofs.Entries.{decoded-length}
-use Rattle.scans.specs.Parts.{UpTo}
+use Rattle.scans.specs.Terms.Parts.{UpTo}
 use Rattle.scans.proofs.Ring.{window-length}
 use Rattle.scans.proofs.Parts.{Split, ordered, older, newer, older-length, newer-length, older-coded, newer-coded, both-parts}
 use Rattle.scans.proofs.Walk.{queued-as}

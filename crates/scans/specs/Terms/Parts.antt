@@ -14,7 +14,7 @@ use Rattle.scans.specs.declared.backward.BackwardState.{BackwardState}
 use Rattle.scans.specs.Setup.{Setup, fAt, kmers}
 use Rattle.scans.specs.Counts.{count, raise, cleared, Counted}
 use Rattle.scans.specs.Scans.{ForwardSums, Forward, forwardFrom, BackwardSums, backwardStart, isNoted}
-use Rattle.scans.specs.Window.{queue, countedValue}
+use Rattle.scans.specs.Terms.Window.{queue, countedValue}
 
 -- A ring holds `len` entries, and each of their k-mers has a count.
 pub record Queued (ring : List ℕ) (head len counts-length : ℕ) : Type 0 where

@@ -14,8 +14,8 @@ use Rattle.scans.specs.declared.candidates.Trial.{Trial}
 use Rattle.scans.specs.Setup.{Setup, kmers}
 use Rattle.scans.specs.Counts.{cleared}
 use Rattle.scans.specs.Scans.{Outcome, Candidate, candidate, noCandidate, backwardStart, Backward, backwardFrom, withBest, tryFrom}
-use Rattle.scans.specs.Parts.{backwardOf, Fresh, restOf, Backs}
-use Rattle.scans.specs.Carry.{Answers}
+use Rattle.scans.specs.Terms.Parts.{backwardOf, Fresh, restOf, Backs}
+use Rattle.scans.specs.Terms.Carry.{Answers}
 
 abbrev pub candidateOf : ForwardPosition → Candidate
 candidateOf c = candidate (c .pos) (c .«max_score»)

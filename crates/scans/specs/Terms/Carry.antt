@@ -15,7 +15,7 @@ use Rattle.scans.specs.declared.backward.BackwardState.{BackwardState}
 use Rattle.scans.specs.Setup.{Setup, fAt}
 use Rattle.scans.specs.Counts.{count, raise, cleared}
 use Rattle.scans.specs.Scans.{Find, none, at, Outcome, value, Forward, forwardStart, forwardFrom, dustBackward}
-use Rattle.scans.specs.Window.{countedValue, findOf}
+use Rattle.scans.specs.Terms.Window.{countedValue, findOf}
 
 -- The forward scan over all of the places: nothing is above its limit, so it is never stopped.
 abbrev pub wholeForward : Setup → List Place → Forward
