@@ -54,9 +54,11 @@ impl BackwardState {
         ln: &[f64],
         scan_counts: &mut [u16],
     ) -> Self
-        requires { ⌜ (entry / 2 < length (now «window_counts»)) × (entry / 2 < length (now «scan_counts»)) × (getD (now «window_counts») (entry / 2) 0 ≤ 65535) × (getD (now «window_counts») (entry / 2) 0 < length (now ln)) ⌝ }
+        requires { ⌜ (entry / 2 < length (now «window_counts»)) × (entry / 2 < length (now «scan_counts»))
+            × (getD (now «window_counts») (entry / 2) 0 ≤ 65535) × (getD (now «window_counts») (entry / 2) 0 < length (now ln)) ⌝ }
         requires { ⌜ (entry % 2 ≡ 0 → getD (now «scan_counts») (entry / 2) 0 < getD (now «window_counts») (entry / 2) 0) ⌝ }
-        ensures { λ r. ⌜ AddsEntry threshold (now («window_counts» .entry)) (now (ln .entry)) (decode entry) self r (now («scan_counts» .entry)) (now («scan_counts» .exit)) ⌝ }
+        ensures { λ r. ⌜ AddsEntry threshold (now («window_counts» .entry)) (now (ln .entry)) (decode entry) self r
+            (now («scan_counts» .entry)) (now («scan_counts» .exit)) ⌝ }
     {
         if entry & 1 != 0 {
             self.s = self.s + (0.0 - threshold);
@@ -157,7 +159,8 @@ impl BackwardState {
     }
 }
 
-// A backward scan goes on over a straight part of the ring, the newest entry first, until it pauses or stops; the part's entries are those before `state.low`.
+// A backward scan goes on over a straight part of the ring, the newest entry first, until it pauses or stops.
+// The part's entries are those before `state.low`.
 fn backward_part(
     p: Params,
     quick: bool,
@@ -169,11 +172,14 @@ fn backward_part(
     f: &[f64],
     scan_counts: &mut [u16],
 ) -> BackwardState
-    requires { ⌜ (length (now part) ≤ state .low) × (state .low ≤ len) × (len ≤ 65535) × (len < length (now ln)) × (len < length (now f)) ⌝ }
+    requires { ⌜ (length (now part) ≤ state .low) × (state .low ≤ len) × (len ≤ 65535) × (len < length (now ln))
+        × (len < length (now f)) ⌝ }
     requires { ⌜ Coded (now part) (length (now «scan_counts»)) × (length (now «window_counts») ≡ length (now «scan_counts»)) ⌝ }
     requires { ⌜ Room len (now «window_counts») (now «scan_counts») (decoded (now part)) ⌝ }
-    ensures { λ r. ⌜ restOf r (now («scan_counts» .exit)) ≡ restOver (setupOf p (now (ln .entry)) (now (f .entry))) (now («window_counts» .entry)) quick
-        len (decoded (now (part .entry))) (state .low - length (now (part .entry))) (length (now (part .entry))) (backwardOf state) (now («scan_counts» .entry)) ⌝ }
+    ensures { λ r. ⌜ restOf r (now («scan_counts» .exit))
+        ≡ restOver (setupOf p (now (ln .entry)) (now (f .entry))) (now («window_counts» .entry)) quick
+        len (decoded (now (part .entry))) (state .low - length (now (part .entry))) (length (now (part .entry)))
+        (backwardOf state) (now («scan_counts» .entry)) ⌝ }
 {
     let mut st = state;
     let from = state.low - part.len();
@@ -217,7 +223,8 @@ pub fn backward_on(
     requires { ⌜ Windowed p (now queue) head len (now «window_counts») (length (now ln)) ⌝ }
     requires { ⌜ (0 < state .low) × (p .«window_size» < length (now f)) ⌝ }
     requires { ⌜ Backs (4 ^ p .kmer) (window (now queue) head len) (restOf state (now «scan_counts»)) ⌝ }
-    ensures { λ r. ⌜ GoesOn (setupOf p (now (ln .entry)) (now (f .entry))) (now («window_counts» .entry)) quick (window (now (queue .entry)) head len)
+    ensures { λ r. ⌜ GoesOn (setupOf p (now (ln .entry)) (now (f .entry))) (now («window_counts» .entry)) quick
+        (window (now (queue .entry)) head len)
         (restOf state (now («scan_counts» .entry))) (restOf r (now («scan_counts» .exit))) ⌝ }
 {
     let to = head + state.low;

@@ -109,7 +109,8 @@ impl Search {
         requires { ⌜ Windowed p (now queue) head len (now «window_counts») (length (now ln)) ⌝ }
         requires { ⌜ (p .«window_size» < length (now f)) × (length (now «scan_counts») ≡ 4 ^ p .kmer) ⌝ }
         requires { ⌜ Searches (4 ^ p .kmer) (window (now queue) head len) self (now «scan_counts») ⌝ }
-        ensures { λ r. ⌜ NextCandidate (setupOf p (now (ln .entry)) (now (f .entry))) (window (now (queue .entry)) head len) self r (now («scan_counts» .entry)) (now («scan_counts» .exit)) ⌝ }
+        ensures { λ r. ⌜ NextCandidate (setupOf p (now (ln .entry)) (now (f .entry))) (window (now (queue .entry)) head len) self r
+            (now («scan_counts» .entry)) (now («scan_counts» .exit)) ⌝ }
     {
         let scan = self.scan;
         if scan.ended() {
@@ -162,7 +163,8 @@ pub fn scan_backward(
     requires { ⌜ Windowed p (now queue) head len (now «window_counts») (length (now ln)) ⌝ }
     requires { ⌜ Roomy p (length (now f)) (length (now «scan_counts»)) (length (now candidates)) ⌝ }
     requires { ⌜ (0 < len) × (now «scan_counts» ≡ replicate (4 ^ p .kmer) 0) ⌝ }
-    ensures { λ r. ⌜ ScansBackward (setupOf p (now (ln .entry)) (now (f .entry))) (window (now (queue .entry)) head len) (now («scan_counts» .exit)) (candidatesIn r (now (candidates .exit))) ⌝ }
+    ensures { λ r. ⌜ ScansBackward (setupOf p (now (ln .entry)) (now (f .entry))) (window (now (queue .entry)) head len)
+        (now («scan_counts» .exit)) (candidatesIn r (now (candidates .exit))) ⌝ }
 {
     let mut seek = Search::new(len);
     while seek.on {
@@ -224,7 +226,8 @@ impl Trial {
     ) -> Self
         requires { ⌜ Ringed (now queue) head len (length (now ln)) (length (now f)) (length (now «scan_counts»)) ⌝ }
         requires { ⌜ (0 < self .left) × (c .pos < len) × (now «scan_counts» ≡ replicate (4 ^ p .kmer) 0) ⌝ }
-        ensures { λ r. ⌜ NextTrial (setupOf p (now (ln .entry)) (now (f .entry))) (window (now (queue .entry)) head len) c self r (now («scan_counts» .entry)) (now («scan_counts» .exit)) ⌝ }
+        ensures { λ r. ⌜ NextTrial (setupOf p (now (ln .entry)) (now (f .entry))) (window (now (queue .entry)) head len) c self r
+            (now («scan_counts» .entry)) (now («scan_counts» .exit)) ⌝ }
     {
         let left = self.left - 1;
         let furthest = self.furthest;
@@ -270,7 +273,9 @@ pub fn try_candidates(
     requires { ⌜ Ringed (now queue) head len (length (now ln)) (length (now f)) (length (now «scan_counts»)) ⌝ }
     requires { ⌜ now «scan_counts» ≡ replicate (4 ^ p .kmer) 0 ⌝ }
     requires { ⌜ HoldsCandidates len noted (now candidates) ⌝ }
-    ensures { λ r. ⌜ ((before : List ℕ) → Answers (setupOf p (now (ln .entry)) (now (f .entry))) (window (now (queue .entry)) head len) (tryFrom (setupOf p (now (ln .entry)) (now (f .entry))) (window (now (queue .entry)) head len) (candidatesIn noted (now (candidates .entry))) noted 0 before) r (now («scan_counts» .exit))) ⌝ }
+    ensures { λ r. ⌜ (let S = setupOf p (now (ln .entry)) (now (f .entry)) in let q = window (now (queue .entry)) head len in
+        (before : List ℕ) → Answers S q (tryFrom S q (candidatesIn noted (now (candidates .entry))) noted 0 before) r
+        (now («scan_counts» .exit))) ⌝ }
 {
     let mut trial = Trial::new(noted);
     while 0 < trial.left {

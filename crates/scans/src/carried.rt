@@ -35,8 +35,10 @@ impl Carry {
         f: &[f64],
         scan_counts: &mut [u16],
     ) -> Self
-        requires { ⌜ (entry / 2 < length (now «scan_counts»)) × (getD (now «scan_counts») (entry / 2) 0 < 65535) × (getD (now «scan_counts») (entry / 2) 0 + 1 < length (now ln)) × (l < length (now f)) ⌝ }
-        ensures { λ r. ⌜ CarriesOn (setupOf p (now (ln .entry)) (now (f .entry))) l (decode entry) self r (now («scan_counts» .entry)) (now («scan_counts» .exit)) ⌝ }
+        requires { ⌜ (entry / 2 < length (now «scan_counts»)) × (getD (now «scan_counts») (entry / 2) 0 < 65535)
+            × (getD (now «scan_counts») (entry / 2) 0 + 1 < length (now ln)) × (l < length (now f)) ⌝ }
+        ensures { λ r. ⌜ CarriesOn (setupOf p (now (ln .entry)) (now (f .entry))) l (decode entry) self r (now («scan_counts» .entry))
+            (now («scan_counts» .exit)) ⌝ }
     {
         let v = count_entry(scan_counts, ln, entry);
         self.s = self.s + (v - p.score_threshold);
@@ -57,8 +59,10 @@ impl Carry {
         f: &[f64],
         scan_counts: &[u16],
     ) -> Self
-        requires { ⌜ (entry / 2 < length (now «scan_counts»)) × (getD (now «scan_counts») (entry / 2) 0 < length (now ln)) × (l < length (now f)) ⌝ }
-        ensures { λ r. ⌜ r ≡ carriedAhead (setupOf p (now (ln .entry)) (now (f .entry))) l (now («scan_counts» .entry)) (decode entry) self ⌝ }
+        requires { ⌜ (entry / 2 < length (now «scan_counts»)) × (getD (now «scan_counts») (entry / 2) 0 < length (now ln))
+            × (l < length (now f)) ⌝ }
+        ensures { λ r. ⌜ r ≡ carriedAhead (setupOf p (now (ln .entry)) (now (f .entry))) l (now («scan_counts» .entry)) (decode entry)
+            self ⌝ }
     {
         let s = self.s + (window_value(scan_counts, ln, entry) - p.score_threshold);
         let sl = s - f[l];

@@ -9,7 +9,8 @@ ghost use Rattle.scans.specs.Terms.Window.{countedValue, CountsEntry};
 
 // Counts an entry, and answers the ln entry of its raised count, 0 if ambiguous.
 pub fn count_entry(counts: &mut [u16], ln: &[f64], entry: u32) -> f64
-    requires { ⌜ (entry / 2 < length (now counts)) × (getD (now counts) (entry / 2) 0 < 65535) × (getD (now counts) (entry / 2) 0 + 1 < length (now ln)) ⌝ }
+    requires { ⌜ (entry / 2 < length (now counts)) × (getD (now counts) (entry / 2) 0 < 65535)
+        × (getD (now counts) (entry / 2) 0 + 1 < length (now ln)) ⌝ }
     ensures { λ r. ⌜ CountsEntry (now (ln .entry)) (now (counts .entry)) (decode entry) r (now (counts .exit)) ⌝ }
 {
     if entry & 1 != 0 {

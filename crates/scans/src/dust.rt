@@ -34,7 +34,8 @@ pub fn dust_backward(
     requires { ⌜ Roomy p (length (now f)) (length (now «scan_counts»)) (length (now candidates)) ⌝ }
     requires { ⌜ (0 < len) × (now «scan_counts» ≡ replicate (4 ^ p .kmer) 0) ⌝ }
     requires { ⌜ Carried (setupOf p (now ln) (now f)) (drop start (window (now queue) head (len - 1))) carry ⌝ }
-    ensures { λ r. ⌜ Answers (setupOf p (now (ln .entry)) (now (f .entry))) (window (now (queue .entry)) head len) (dustBackward (setupOf p (now (ln .entry)) (now (f .entry))) (window (now (queue .entry)) head len)) r (now («scan_counts» .exit)) ⌝ }
+    ensures { λ r. ⌜ (let S = setupOf p (now (ln .entry)) (now (f .entry)) in let q = window (now (queue .entry)) head len in
+        Answers S q (dustBackward S q) r (now («scan_counts» .exit))) ⌝ }
 {
     let quick = find_quickly(
         p,

@@ -69,7 +69,8 @@ fn forward_part(
     f: &[f64],
     scan_counts: &mut [u16],
 ) -> ForwardState
-    requires { ⌜ (state .done ≡ false) × (start ≤ from) × (from + length (now part) ≤ 65535) × (from + length (now part) < length (now ln)) × (from + length (now part) < length (now f)) ⌝ }
+    requires { ⌜ (state .done ≡ false) × (start ≤ from) × (from + length (now part) ≤ 65535)
+        × (from + length (now part) < length (now ln)) × (from + length (now part) < length (now f)) ⌝ }
     requires { ⌜ Coded (now part) (length (now «scan_counts»)) × UpTo from (now «scan_counts») ⌝ }
     ensures { λ r. ⌜ ForwardPart (setupOf p (now (ln .entry)) (now (f .entry))) limit start from (decoded (now (part .entry))) state r
         (now («scan_counts» .entry)) (now («scan_counts» .exit)) ⌝ }
@@ -104,7 +105,8 @@ pub fn dust_forward(
 ) -> ForwardState
     requires { ⌜ Ringed (now queue) head len (length (now ln)) (length (now f)) (length (now «scan_counts»)) ⌝ }
     requires { ⌜ (now «scan_counts» ≡ replicate (4 ^ p .kmer) 0) × (start ≤ len) ⌝ }
-    ensures { λ r. ⌜ Finds (dustForward (setupOf p (now (ln .entry)) (now (f .entry))) (window (now (queue .entry)) head len) start «max_back») r (now («scan_counts» .exit)) ⌝ }
+    ensures { λ r. ⌜ Finds (dustForward (setupOf p (now (ln .entry)) (now (f .entry))) (window (now (queue .entry)) head len) start
+        «max_back») r (now («scan_counts» .exit)) ⌝ }
 {
     let limit = max_back + SLACK;
     let a = ring_end(queue.len(), head, start);

@@ -33,7 +33,7 @@ pub use queue::ring_index;
 pub use step::extend;
 pub use step::if_backward;
 
-// The backward scan stops where its score lies more than this many thresholds below the best; `Off` stands for as many as the window has places.
+// The backward scan stops where its score lies more than this many thresholds below the best; `Off`: as many as the window has places.
 pub enum Xdrop {
     Off,
     Length(u32),

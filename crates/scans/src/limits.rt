@@ -8,6 +8,7 @@ ghost use Rattle.scans.specs.Scans.{maxSteps};
 use crate::Params;
 use crate::Xdrop;
 
+// How far below the best a backward scan's score may lie: xdrop, or the window, times the threshold.
 pub fn drop_limit(xdrop: Xdrop, window: u32, threshold: f64) -> f64
     ensures { λ r. ⌜ r ≡ dropLimit xdrop window threshold ⌝ }
 {
@@ -17,6 +18,7 @@ pub fn drop_limit(xdrop: Xdrop, window: u32, threshold: f64) -> f64
     }
 }
 
+// How many entries the back check reads, from the filled tables; 0 where no sum of theirs is above 0.
 pub fn max_test(ln: &[f64], f: &[f64], window: u32, threshold: f64) -> i32
     requires { ⌜ (window ≤ 65535) × (window < length (now ln)) × (window < length (now f)) ⌝ }
     ensures { λ r. ⌜ r ≡ maxTest window threshold (now (ln .entry)) (now (f .entry)) ⌝ }

@@ -41,7 +41,8 @@ pub fn ring_end(window: usize, head: usize, j: usize) -> usize
 // Takes the entries of a straight part out of the scan counts.
 fn uncount_part(part: &[u32], scan_counts: &mut [u16])
     requires { ⌜ Coded (now part) (length (now «scan_counts»)) ⌝ }
-    ensures { λ _. ⌜ Walked (Counted (length (now («scan_counts» .entry)))) (decoded (now (part .entry))) (now («scan_counts» .entry)) (now («scan_counts» .exit)) ⌝ }
+    ensures { λ _. ⌜ Walked (Counted (length (now («scan_counts» .entry)))) (decoded (now (part .entry))) (now («scan_counts» .entry))
+        (now («scan_counts» .exit)) ⌝ }
 {
     let mut i = 0;
     while i < part.len() {
@@ -60,8 +61,10 @@ pub fn uncount(
     scan_counts: &mut [u16],
 )
     requires { ⌜ Queued (now queue) head len (length (now «scan_counts»)) ⌝ }
-    requires { ⌜ (from ≤ to) × (to ≤ len) × Counted (length (now «scan_counts»)) (now «scan_counts») (drop from (window (now queue) head len)) ⌝ }
-    ensures { λ _. ⌜ Counted (length (now («scan_counts» .entry))) (now («scan_counts» .exit)) (drop to (window (now (queue .entry)) head len)) ⌝ }
+    requires { ⌜ (from ≤ to) × (to ≤ len)
+        × Counted (length (now «scan_counts»)) (now «scan_counts») (drop from (window (now queue) head len)) ⌝ }
+    ensures { λ _. ⌜ Counted (length (now («scan_counts» .entry))) (now («scan_counts» .exit))
+        (drop to (window (now (queue .entry)) head len)) ⌝ }
 {
     let a = ring_end(queue.len(), head, from);
     let b = ring_end(queue.len(), head, to);

@@ -32,7 +32,8 @@ fn scan_quickly(
 ) -> BackwardState
     requires { ⌜ Windowed p (now queue) head len (now «window_counts») (length (now ln)) ⌝ }
     requires { ⌜ (0 < len) × (p .«window_size» < length (now f)) × (now «scan_counts» ≡ replicate (4 ^ p .kmer) 0) ⌝ }
-    ensures { λ r. ⌜ ScansQuick (setupOf p (now (ln .entry)) (now (f .entry))) (window (now (queue .entry)) head len) (restOf r (now («scan_counts» .exit))) ⌝ }
+    ensures { λ r. ⌜ ScansQuick (setupOf p (now (ln .entry)) (now (f .entry))) (window (now (queue .entry)) head len)
+        (restOf r (now («scan_counts» .exit))) ⌝ }
 {
     let mut st = BackwardState::new(len);
     while st.goes_on() {
@@ -71,7 +72,8 @@ fn carry_ahead(
     requires { ⌜ (0 < len) × (carry .on ≡ true) × (length (now «scan_counts») ≡ 4 ^ p .kmer) ⌝ }
     requires { ⌜ ScansQuick (setupOf p (now ln) (now f)) (window (now queue) head len) (restOf st (now «scan_counts»)) ⌝ }
     requires { ⌜ Carried (setupOf p (now ln) (now f)) (drop start (window (now queue) head (len - 1))) carry ⌝ }
-    ensures { λ r. ⌜ CarriesAhead (setupOf p (now (ln .entry)) (now (f .entry))) (window (now (queue .entry)) head len) st r (now («scan_counts» .exit)) ⌝ }
+    ensures { λ r. ⌜ CarriesAhead (setupOf p (now (ln .entry)) (now (f .entry))) (window (now (queue .entry)) head len) st r
+        (now («scan_counts» .exit)) ⌝ }
 {
     let found = st.found;
     if st.paused {
@@ -108,7 +110,8 @@ pub fn find_quickly(
     requires { ⌜ Windowed p (now queue) head len (now «window_counts») (length (now ln)) ⌝ }
     requires { ⌜ (0 < len) × (p .«window_size» < length (now f)) × (now «scan_counts» ≡ replicate (4 ^ p .kmer) 0) ⌝ }
     requires { ⌜ Carried (setupOf p (now ln) (now f)) (drop start (window (now queue) head (len - 1))) carry ⌝ }
-    ensures { λ r. ⌜ FindsQuickly (setupOf p (now (ln .entry)) (now (f .entry))) (window (now (queue .entry)) head len) r (now («scan_counts» .exit)) ⌝ }
+    ensures { λ r. ⌜ FindsQuickly (setupOf p (now (ln .entry)) (now (f .entry))) (window (now (queue .entry)) head len) r
+        (now («scan_counts» .exit)) ⌝ }
 {
     if carry.on {
         let st = scan_quickly(p, queue, head, len, window_counts, ln, f, scan_counts);

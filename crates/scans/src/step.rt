@@ -12,6 +12,7 @@ use crate::Params;
 use crate::counts::window_value;
 use crate::queue::ring_index;
 
+// Whether the newest of `len` entries, a plain k-mer, extends the find without a scan; then its scan count is raised.
 pub fn extend(
     p: Params,
     len: usize,
@@ -20,8 +21,10 @@ pub fn extend(
     f: &[f64],
     scan_counts: &mut [u16],
 ) -> bool
-    requires { ⌜ (0 < len) × (len ≤ p .«window_size») × (p .«window_size» ≤ 65535) × (p .«window_size» < length (now ln)) × (p .«window_size» < length (now f)) × (kmer < length (now «scan_counts»)) ⌝ }
-    ensures { λ r. ⌜ Extends (setupOf p (now (ln .entry)) (now (f .entry))) (now («scan_counts» .entry)) len kmer r (now («scan_counts» .exit)) ⌝ }
+    requires { ⌜ (0 < len) × (len ≤ p .«window_size») × (p .«window_size» ≤ 65535) × (p .«window_size» < length (now ln))
+        × (p .«window_size» < length (now f)) × (kmer < length (now «scan_counts»)) ⌝ }
+    ensures { λ r. ⌜ Extends (setupOf p (now (ln .entry)) (now (f .entry))) (now («scan_counts» .entry)) len kmer r
+        (now («scan_counts» .exit)) ⌝ }
 {
     let x = kmer as usize;
     let c = scan_counts[x];
@@ -36,6 +39,7 @@ pub fn extend(
     true
 }
 
+// The back check: whether a backward scan from the newest entry is worth its work.
 pub fn if_backward(
     p: Params,
     queue: &[u32],

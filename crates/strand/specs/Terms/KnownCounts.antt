@@ -10,7 +10,6 @@ use Rattle.letters.specs.Place.{Place}
 use Rattle.scans.specs.declared.Params.{Params}
 use Rattle.scans.specs.Setup.{Setup, kmers}
 use Rattle.scans.specs.Counts.{cleared, Counted}
-use Rattle.scans.specs.Terms.Window.{window}
 use Rattle.scans.specs.Terms.Carry.{noCarry, Carried, Touched, CarriesOn}
 use Rattle.strand.specs.Step.{whole}
 use Rattle.strand.specs.declared.Window.{Window}

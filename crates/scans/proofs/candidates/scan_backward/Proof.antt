@@ -31,9 +31,6 @@ stepped c = c .before .before .before
 abbrev noted : tie.After-set-candidate Inv-loop μ-loop → tie.Then1 Inv-loop μ-loop
 noted c = c .before .before .before
 
-new-requires : tie.Need-new-requires Inv-loop μ-loop
-new-requires c κs = search needs
-
 loop-holds : tie.Need-loop-holds Inv-loop μ-loop
 loop-holds c = let s = c .before .before .before .before .before .before .pre in seeking-start _ _ _ _ _ (long (s .0)) _ (c .new .ensures) (s .1 .1 .1)
 
@@ -96,7 +93,7 @@ scan-backward-spec =
     (tie.spec
     Inv-loop
     μ-loop
-    new-requires
+    (λ c κs. search needs)
     loop-holds
     next-requires
     sub-set-candidate

@@ -43,9 +43,6 @@ inside c =
     let e = ap (λ (z : ForwardPosition). z .pos) (c .candidate-at .ensures) in
     omega (arith, e, start a .pre .1 .1 .inside (a .loop .trial .left - 1) (among (c .before)))
 
-new-requires : tie.Need-new-requires Inv-loop μ-loop
-new-requires c κs = search needs
-
 loop-holds : tie.Need-loop-holds Inv-loop μ-loop
 loop-holds c = trying-start _ _ _ _ _ _ (c .new .ensures) (c .before .before .before .before .before .pre .1 .0)
 
@@ -85,7 +82,7 @@ try-candidates-spec =
     (tie.spec
     Inv-loop
     μ-loop
-    new-requires
+    (λ c κs. search needs)
     loop-holds
     sub-candidate-at
     candidate-at-requires

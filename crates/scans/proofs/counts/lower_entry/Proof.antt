@@ -9,27 +9,6 @@ use Rattle.scans.proofs.counts.lower_entry.Tie as tie
 returns : tie.Need-returns
 returns c = rw (odd-ambiguous (c .before .args .entry) (c .if1 .taken))
 
-cast-kmer : tie.Need-cast-kmer
-cast-kmer c = search needs
-
-mul-c : tie.Need-mul-c
-mul-c c = search needs
-
-slice-read-c : tie.Need-slice-read-c
-slice-read-c c = search needs
-
-sub-counts : tie.Need-sub-counts
-sub-counts c = search needs
-
-mul-counts : tie.Need-mul-counts
-mul-counts c = search needs
-
-slice-write-counts : tie.Need-slice-write-counts
-slice-write-counts c = search needs
-
-same-length : tie.Need-same-length
-same-length c = search needs
-
 returns-2 : tie.Need-returns-2
 returns-2 c = rw (even-plain (c .before .before .before .args .entry) (c .before .before .if1 .left))
 
@@ -43,12 +22,12 @@ lower-entry-spec =
     tie.close
     (tie.spec
     returns
-    cast-kmer
-    mul-c
-    slice-read-c
-    sub-counts
-    mul-counts
-    slice-write-counts
-    same-length
+    (λ c. search needs)
+    (λ c. search needs)
+    (λ c. search needs)
+    (λ c. search needs)
+    (λ c. search needs)
+    (λ c. search needs)
+    (λ c. search needs)
     returns-2
     returns-3)

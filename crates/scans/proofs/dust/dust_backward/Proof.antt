@@ -26,9 +26,6 @@ find-quickly-requires c κs =
     let s = c .before .before .before .before .before .before .pre in
     (s .0, ((s .1 .1 .0 .0, s .1 .0 .f-long, s .1 .1 .0 .1), s .1 .1 .1))
 
-same-length : tie.Need-same-length
-same-length c = search needs
-
 returns : tie.Need-returns
 returns c = c .before .before .before .before .find-quickly .ensures .tells (c .if1 .taken)
 
@@ -49,12 +46,6 @@ try-candidates-requires c κs =
       (b .scan-backward .ensures .clear, all-held _ _ _ _ _ _ (b .scan-backward .ensures) (long (s .0)) (s .1 .1 .0 .0) (omega (arith, s .0 .len-in, s .1 .0 .candidates-long, e .1 .0))),
     )
 
-same-length-2 : tie.Need-same-length-2
-same-length-2 c = search needs
-
-same-length-3 : tie.Need-same-length-3
-same-length-3 c = search needs
-
 returns-2 : tie.Need-returns-2
 returns-2 c =
     let t = c .before .before in
@@ -66,10 +57,10 @@ dust-backward-spec =
     tie.close
     (tie.spec
     find-quickly-requires
-    same-length
+    (λ c. search needs)
     returns
     scan-backward-requires
     try-candidates-requires
-    same-length-2
-    same-length-3
+    (λ c. search needs)
+    (λ c. search needs)
     returns-2)

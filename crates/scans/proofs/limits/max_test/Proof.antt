@@ -14,44 +14,11 @@ abbrev μ-loop : tie.MeasureT-loop
 loop-holds : tie.Need-loop-holds Inv-loop μ-loop
 loop-holds c = testing-start _ _ _ _
 
-cast-at : tie.Need-cast-at Inv-loop μ-loop
-cast-at c = search needs
-
-mul-s : tie.Need-mul-s Inv-loop μ-loop
-mul-s c = search needs
-
-shared-slice-read-s : tie.Need-shared-slice-read-s Inv-loop μ-loop
-shared-slice-read-s c = search needs
-
-mul-if1 : tie.Need-mul-if1 Inv-loop μ-loop
-mul-if1 c = search needs
-
-shared-slice-read-if1 : tie.Need-shared-slice-read-if1 Inv-loop μ-loop
-shared-slice-read-if1 c = search needs
-
-int-to-float-to-i32 : tie.Need-int-to-float-to-i32 Inv-loop μ-loop
-int-to-float-to-i32 c = search needs
-
-mul-to-i32 : tie.Need-mul-to-i32 Inv-loop μ-loop
-mul-to-i32 c = search needs
-
-shared-slice-read-to-i32 : tie.Need-shared-slice-read-to-i32 Inv-loop μ-loop
-shared-slice-read-to-i32 c = search needs
-
-to-i32-requires : tie.Need-to-i32-requires Inv-loop μ-loop
-to-i32-requires c κs = search needs
-
 returns : tie.Need-returns Inv-loop μ-loop
 returns c =
     let d = c .before .before .before in
     let a = d .before .before .before .before in
     testing-found _ _ _ _ _ _ (a .loop .inv) (d .before .before .before .loop-test .taken) _ (c .to-i32 .ensures) (d .if1 .taken)
-
-add-i : tie.Need-add-i Inv-loop μ-loop
-add-i c = search needs
-
-loop-less : tie.Need-loop-less Inv-loop μ-loop
-loop-less c = search needs
 
 loop-again : tie.Need-loop-again Inv-loop μ-loop
 loop-again c =
@@ -68,17 +35,17 @@ max-test-spec =
     Inv-loop
     μ-loop
     loop-holds
-    cast-at
-    mul-s
-    shared-slice-read-s
-    mul-if1
-    shared-slice-read-if1
-    int-to-float-to-i32
-    mul-to-i32
-    shared-slice-read-to-i32
-    to-i32-requires
+    (λ c. search needs)
+    (λ c. search needs)
+    (λ c. search needs)
+    (λ c. search needs)
+    (λ c. search needs)
+    (λ c. search needs)
+    (λ c. search needs)
+    (λ c. search needs)
+    (λ c κs. search needs)
     returns
-    add-i
-    loop-less
+    (λ c. search needs)
+    (λ c. search needs)
     loop-again
     returns-2)

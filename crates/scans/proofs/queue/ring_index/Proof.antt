@@ -3,9 +3,6 @@ use borrow.Author.Needs.{needs}
 use Rattle.scans.proofs.queue.ring_index.Statement.{statement}
 use Rattle.scans.proofs.queue.ring_index.Tie as tie
 
-add-i : tie.Need-add-i
-add-i c = search needs
-
 returns : tie.Need-returns
 returns c = rw (lt-ltb _ _ (c .if1 .taken))
 
@@ -13,4 +10,4 @@ returns-2 : tie.Need-returns-2
 returns-2 c = rw (le-ltb _ _ (c .if1 .left))
 
 pub ring-index-spec : {M : Type 1} → statement M
-ring-index-spec = tie.close (tie.spec add-i returns returns-2)
+ring-index-spec = tie.close (tie.spec (λ c. search needs) returns returns-2)

@@ -46,29 +46,14 @@ newest c =
     let n = a .pre .1 .0 in
     newest-at (a .args .p) _ _ _ (a .args .ln .now) (a .args .f .now) _ (a .pre .0) (n .0) (n .2) _ (a .pre .1 .1 .0) (g .before .if1 .left) (g .if2 .left) _ (d .before .before .before .if3 .left) _ (c .ring-index .ensures) .0
 
-none-requires : tie.Need-none-requires
-none-requires c κs = search needs
-
 returns : tie.Need-returns
 returns c = carries-off _ _ _ _ _ (c .before .before .before .before .before .before .pre .1 .1 .0) (c .none .ensures)
-
-none-requires-2 : tie.Need-none-requires-2
-none-requires-2 c κs = search needs
 
 returns-2 : tie.Need-returns-2
 returns-2 c = carries-off _ _ _ _ _ (start (c .before .before) .pre .1 .1 .0) (c .none2 .ensures)
 
-sub-if3 : tie.Need-sub-if3
-sub-if3 c = search needs
-
-none-requires-3 : tie.Need-none-requires-3
-none-requires-3 c κs = search needs
-
 returns-3 : tie.Need-returns-3
 returns-3 c = carries-off _ _ _ _ _ (start (c .before .before .before) .pre .1 .1 .0) (c .none3 .ensures)
-
-none-requires-4 : tie.Need-none-requires-4
-none-requires-4 c κs = search needs
 
 returns-4 : tie.Need-returns-4
 returns-4 c = carries-off _ _ _ _ _ (start (c .before .before .before .before .before .before) .pre .1 .1 .0) (c .none4 .ensures)
@@ -77,12 +62,6 @@ uncount-requires : tie.Need-uncount-requires
 uncount-requires c κs =
     let d = c .before in
     (begun d .pre .0 .queued, (best-in d .1, omega (arith, best-in d .0), subst (λ (m : ℕ). Counted m (begun d .args .scan-counts .now) (drop (begun d .args .st .low) (window (begun d .args .queue .now) (begun d .args .head) (begun d .args .len)))) (sym (begun d .pre .1 .0 .2)) (begun d .pre .1 .1 .0 .here .counted)))
-
-sub-ring-index : tie.Need-sub-ring-index
-sub-ring-index c = search needs
-
-ring-index-requires : tie.Need-ring-index-requires
-ring-index-requires c κs = search needs
 
 sub-ahead : tie.Need-sub-ahead
 sub-ahead c = omega (arith, best-in (passed (walked c)) .0)
@@ -108,9 +87,6 @@ ahead-requires c κs =
     let counted = count-in p _ _ _ ln f _ (a .pre .0) (n .0) (n .2) _ (a .pre .1 .1 .0) (g .before .if1 .left) (g .if2 .left) _ (d .before .before .before .if3 .left) _ (i .ring-index .ensures) _ (u .uncount .ensures) in
     (omega (arith, entry, u .uncount .kept .1 .1 .1 .1 .1 .0), counted _, omega (arith, a .pre .0 .queued .len-in, a .pre .0 .f-long))
 
-same-length : tie.Need-same-length
-same-length c = search needs
-
 returns-5 : tie.Need-returns-5
 returns-5 c =
     let i = c .before .before .before in
@@ -126,21 +102,21 @@ pub carry-ahead-spec : {M : Type 1} → statement M
 carry-ahead-spec =
     tie.close
     (tie.spec
-    none-requires
+    (λ c κs. search needs)
     returns
-    none-requires-2
+    (λ c κs. search needs)
     returns-2
-    sub-if3
-    none-requires-3
+    (λ c. search needs)
+    (λ c κs. search needs)
     returns-3
-    none-requires-4
+    (λ c κs. search needs)
     returns-4
     uncount-requires
-    sub-ring-index
-    ring-index-requires
+    (λ c. search needs)
+    (λ c κs. search needs)
     sub-ahead
     mul-ahead
     shared-slice-read-ahead
     ahead-requires
-    same-length
+    (λ c. search needs)
     returns-5)

@@ -32,18 +32,12 @@ second c = c .scan-quickly .kept .1 .1 .1 .1 .1 .1 .1 .0 ∙ first (start (carri
 third : (c : tie.After-carry-ahead) → length (c .carry-ahead .last .1 .1 .1 .1 .1 .1 .1 .1 .1 .0) ≡ 4 ^ start (carried (scanned c)) .args .p .kmer
 third c = c .carry-ahead .kept .1 .1 .1 .1 .1 .1 .1 .1 .1 .0 ∙ second (scanned c)
 
-scan-quickly-requires : tie.Need-scan-quickly-requires
-scan-quickly-requires c κs = search needs
-
 carry-ahead-requires : tie.Need-carry-ahead-requires
 carry-ahead-requires c κs =
     let k = c .before .before .before in
     let d = carried k in
     let s = start d .pre in
     (ringed (second k) (s .1 .0 .1) (s .0), ((s .1 .0 .0, d .if1 .taken, second k), (k .scan-quickly .ensures, s .1 .1)))
-
-same-length : tie.Need-same-length
-same-length c = search needs
 
 returns : tie.Need-returns
 returns c = quickly-found _ _ _ _ _ (c .before .before .before .carry-ahead .ensures) (c .if2 .taken)
@@ -56,20 +50,11 @@ clear-from-requires c κs =
     let s = start (carried k) .pre in
     (windowed-queued (s .0) (third a), (omega (arith, k .scan-quickly .ensures .here .low-in, long (s .0)), a .carry-ahead .ensures .touched (d .if2 .left)))
 
-nothing-requires : tie.Need-nothing-requires
-nothing-requires c κs = search needs
-
-same-length-2 : tie.Need-same-length-2
-same-length-2 c = search needs
-
 returns-2 : tie.Need-returns-2
 returns-2 c =
     let f = c .before .before .before in
     let a = told (f .before .before) in
     quickly-none _ _ _ _ (c .nothing .ensures) (f .clear-from .ensures ∙ ap (λ (n : ℕ). replicate n 0) (third a))
-
-nothing-requires-2 : tie.Need-nothing-requires-2
-nothing-requires-2 c κs = search needs
 
 returns-3 : tie.Need-returns-3
 returns-3 c = quickly-none _ _ _ _ (c .nothing2 .ensures) (c .before .before .before .before .before .before .before .pre .1 .0 .2)
@@ -78,13 +63,13 @@ pub find-quickly-spec : {M : Type 1} → statement M
 find-quickly-spec =
     tie.close
     (tie.spec
-    scan-quickly-requires
+    (λ c κs. search needs)
     carry-ahead-requires
-    same-length
+    (λ c. search needs)
     returns
     clear-from-requires
-    nothing-requires
-    same-length-2
+    (λ c κs. search needs)
+    (λ c. search needs)
     returns-2
-    nothing-requires-2
+    (λ c κs. search needs)
     returns-3)

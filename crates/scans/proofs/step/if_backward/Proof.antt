@@ -25,14 +25,8 @@ here c =
     let w = start a .pre in
     rw (c .ring-index .ensures) (ring-index-at (length (start a .args .queue .now)) (start a .args .head) (a .loop .i - 1) (omega (arith, w .ring-is, w .head-in)) (omega (arith, a .loop .inv .inside, long w, w .ring-is, w .len-in)))
 
-max-steps-requires : tie.Need-max-steps-requires Inv-loop μ-loop
-max-steps-requires c κs = search needs
-
 loop-holds : tie.Need-loop-holds Inv-loop μ-loop
 loop-holds c = checking-start _ _ _ _ _ _ (c .before .before .before .before .pre) _ (c .max-steps .ensures)
-
-sub-left : tie.Need-sub-left Inv-loop μ-loop
-sub-left c = search needs
 
 sub-i : tie.Need-sub-i Inv-loop μ-loop
 sub-i c = omega (arith, c .before .loop .inv .few)
@@ -61,9 +55,6 @@ returns c =
     let a = d .before .before .before .before in
     checking-no _ _ _ _ _ _ (start a .pre) _ _ _ (a .loop .inv) (d .before .before .before .loop-test .taken) _ (d .before .before .ring-index .ensures) _ (d .window-value .ensures) (c .if1 .taken)
 
-loop-less : tie.Need-loop-less Inv-loop μ-loop
-loop-less c = search needs
-
 loop-again : tie.Need-loop-again Inv-loop μ-loop
 loop-again c =
     let d = c .before .before in
@@ -79,15 +70,15 @@ if-backward-spec =
     (tie.spec
     Inv-loop
     μ-loop
-    max-steps-requires
+    (λ c κs. search needs)
     loop-holds
-    sub-left
+    (λ c. search needs)
     sub-i
     ring-index-requires
     mul-window-value
     shared-slice-read-window-value
     window-value-requires
     returns
-    loop-less
+    (λ c. search needs)
     loop-again
     returns-2)

@@ -5,9 +5,6 @@ use borrow.Author.Needs.{needs}
 use Rattle.scans.proofs.backward.BackwardState.leaves_peak.Statement.{statement}
 use Rattle.scans.proofs.backward.BackwardState.leaves_peak.Tie as tie
 
-near-zero-requires : tie.Need-near-zero-requires
-near-zero-requires c κs = search needs
-
 returns : tie.Need-returns
 returns c = rw (sym (c .before .before .before .before .near-zero .ensures) ∙ c .before .before .before .if1 .taken, c .before .if2 .taken, and-true)
 
@@ -18,4 +15,4 @@ returns-3 : tie.Need-returns-3
 returns-3 c = rw (sym (c .before .near-zero .ensures) ∙ c .if1 .left, and-nothing)
 
 pub leaves-peak-spec : {M : Type 1} → statement M
-leaves-peak-spec = tie.close (tie.spec near-zero-requires returns returns-2 returns-3)
+leaves-peak-spec = tie.close (tie.spec (λ c κs. search needs) returns returns-2 returns-3)

@@ -8,22 +8,13 @@ use Rattle.scans.proofs.candidates.Search.finished.Tie as tie
 returns : tie.Need-returns
 returns c = rw (eq-eqb _ _ (c .if1 .taken))
 
-noting-requires : tie.Need-noting-requires
-noting-requires c κs = search needs
-
 returns-2 : tie.Need-returns-2
 returns-2 c = rw (ne-eqb _ _ (c .before .before .before .if1 .left), eq-eqb _ _ (c .before .if2 .taken)) (c .noting .ensures)
-
-cast-if3 : tie.Need-cast-if3
-cast-if3 c = search needs
 
 returns-3 : tie.Need-returns-3
 returns-3 c =
     let s = c .before .before .before .before .before .args .self in
     rw (ne-eqb _ _ (c .before .before .before .before .if1 .left), ne-eqb _ _ (c .before .before .if2 .left), le-ltb (s .scan .found) (s .last .pos + 1) (omega (arith, c .if3 .taken)))
-
-noting-requires-2 : tie.Need-noting-requires-2
-noting-requires-2 c κs = search needs
 
 returns-4 : tie.Need-returns-4
 returns-4 c =
@@ -34,4 +25,4 @@ returns-4 c =
 pub finished-spec : {M : Type 1} → statement M
 finished-spec =
     tie.close
-    (tie.spec returns noting-requires returns-2 cast-if3 returns-3 noting-requires-2 returns-4)
+    (tie.spec returns (λ c κs. search needs) returns-2 (λ c. search needs) returns-3 (λ c κs. search needs) returns-4)

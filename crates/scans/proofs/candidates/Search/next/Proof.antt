@@ -14,9 +14,6 @@ use Rattle.scans.proofs.candidates.Search.next.Tie as tie
 abbrev start : tie.After-ended → tie.Start
 start c = c .before .before .before .before .before .before .before
 
-ended-requires : tie.Need-ended-requires
-ended-requires c κs = search needs
-
 clear-from-requires : tie.Need-clear-from-requires
 clear-from-requires c κs =
     let s = start (c .before .before) .pre in
@@ -28,9 +25,6 @@ finished-requires c κs =
     let s = start (c .before .before .before .before .before) .pre in
     let w = s .0 in
     (omega (arith, s .1 .1 .scan .found-in, long w, w .len-in, w .small), omega (arith, s .1 .1 .few, long w, w .len-in, w .small))
-
-same-length : tie.Need-same-length
-same-length c = search needs
 
 returns : tie.Need-returns
 returns c =
@@ -52,9 +46,6 @@ gone-on-requires c κs =
     let w = s .0 in
     (omega (arith, b .backward-on .ensures .less, s .1 .1 .scan .low-in, long w, w .len-in, w .small), omega (arith, s .1 .1 .few, long w, w .len-in, w .small))
 
-same-length-2 : tie.Need-same-length-2
-same-length-2 c = search needs
-
 returns-2 : tie.Need-returns-2
 returns-2 c =
     let b = c .before .before .before in
@@ -66,12 +57,12 @@ pub next-spec : {M : Type 1} → statement M
 next-spec =
     tie.close
     (tie.spec
-    ended-requires
+    (λ c κs. search needs)
     clear-from-requires
     finished-requires
-    same-length
+    (λ c. search needs)
     returns
     backward-on-requires
     gone-on-requires
-    same-length-2
+    (λ c. search needs)
     returns-2)

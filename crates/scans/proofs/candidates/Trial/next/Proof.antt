@@ -33,18 +33,6 @@ cleared c =
     let a = start (failed k) in
     c .clear-from .ensures ∙ ap (λ (n : ℕ). replicate n 0) (k .dust-forward .kept .1 .1 .1 .1 .1 .1 .1 .1 .0 ∙ ap length (a .pre .1 .2) ∙ length-replicate (4 ^ a .args .p .kmer) 0)
 
-sub-left : tie.Need-sub-left
-sub-left c = search needs
-
-cast-place : tie.Need-cast-place
-cast-place c = search needs
-
-add-if1 : tie.Need-add-if1
-add-if1 c = search needs
-
-going-requires : tie.Need-going-requires
-going-requires c κs = search needs
-
 returns : tie.Need-returns
 returns c = let d = c .before in let s = begun (d .before) .pre .1 in trial-skip _ _ _ _ _ (s .0) (d .if1 .taken) _ (c .going .ensures)
 
@@ -53,9 +41,6 @@ dust-forward-requires c κs = let s = start (c .before) .pre in (s .0, (s .1 .2,
 
 add-t18 : tie.Need-add-t18
 add-t18 c = let s = start (failed (c .before .before .before .before)) .pre in omega (arith, s .1 .1, s .0 .queued .len-in, s .0 .queued .small)
-
-same-length : tie.Need-same-length
-same-length c = search needs
 
 returns-2 : tie.Need-returns-2
 returns-2 c =
@@ -72,12 +57,6 @@ clear-from-requires c κs =
     let s = start d .pre in
     (queued-as _ (k .dust-forward .kept .1 .1 .1 .1 .1 .1 .1 .1 .0) (s .0 .queued), (omega (arith, s .1 .1), trial-touched _ _ _ _ _ _ (k .dust-forward .ensures)))
 
-going-requires-2 : tie.Need-going-requires-2
-going-requires-2 c κs = search needs
-
-same-length-2 : tie.Need-same-length-2
-same-length-2 c = search needs
-
 returns-3 : tie.Need-returns-3
 returns-3 c =
     let f = c .before .before .before .before in
@@ -86,15 +65,6 @@ returns-3 c =
     let d = failed k in
     let a = start d in
     trial-approx _ _ _ _ _ (a .pre .1 .0) (d .if1 .left) _ _ (k .dust-forward .ensures) (λ e. o .if2 .left (e ∙ window-long a)) _ (cleared f) (c .before .if3 .taken) _ _ (c .going2 .ensures)
-
-max-requires : tie.Need-max-requires
-max-requires c κs = search needs
-
-going-requires-3 : tie.Need-going-requires-3
-going-requires-3 c κs = search needs
-
-same-length-3 : tie.Need-same-length-3
-same-length-3 c = search needs
 
 returns-4 : tie.Need-returns-4
 returns-4 c =
@@ -110,20 +80,20 @@ pub next-spec : {M : Type 1} → statement M
 next-spec =
     tie.close
     (tie.spec
-    sub-left
-    cast-place
-    add-if1
-    going-requires
+    (λ c. search needs)
+    (λ c. search needs)
+    (λ c. search needs)
+    (λ c κs. search needs)
     returns
     dust-forward-requires
     add-t18
-    same-length
+    (λ c. search needs)
     returns-2
     clear-from-requires
-    going-requires-2
-    same-length-2
+    (λ c κs. search needs)
+    (λ c. search needs)
     returns-3
-    max-requires
-    going-requires-3
-    same-length-3
+    (λ c κs. search needs)
+    (λ c κs. search needs)
+    (λ c. search needs)
     returns-4)

@@ -3,9 +3,6 @@ use borrow.Author.Needs.{needs}
 use Rattle.scans.proofs.forward.ForwardState.judged.Statement.{statement}
 use Rattle.scans.proofs.forward.ForwardState.judged.Tie as tie
 
-add-self : tie.Need-add-self
-add-self c = search needs
-
 returns : tie.Need-returns
 returns c = rw (c .if1 .taken) (refl, refl)
 
@@ -13,4 +10,4 @@ returns-2 : tie.Need-returns-2
 returns-2 c = rw (c .if1 .left) (refl, refl)
 
 pub judged-spec : {M : Type 1} → statement M
-judged-spec = tie.close (tie.spec add-self returns returns-2)
+judged-spec = tie.close (tie.spec (λ c. search needs) returns returns-2)
