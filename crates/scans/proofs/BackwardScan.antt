@@ -176,18 +176,18 @@ module _ (S : Setup) (window-counts : List ℕ) (quick : Bool) (len : ℕ) (part
           pub scanning-raised : le (b₁ .best) score ≡ true → (b₂ : BackwardState) → b₂ ≡ withBestAt b₁ score (i - 1 + at) → Scanning S window-counts quick len part at a counts₀ (i - 1) b₂ counts′
           scanning-raised h b₂ z = record { inside = omega (arith, entry-in); same = same-on; room = room-on; rest = turned ∙ rw (on, h, z) }
 
-          module _ (h : le (b₁ .best) score ≡ false) (pause low : Bool) (p : pause ≡ pauses quick (backwardOf b₁) score) (d : low ≡ tooLow (S .drop-limit) (backwardOf b₁) score) (b₂ : BackwardState)
-              (z : b₂ ≡ withPrevious b₁ score) where
-            pub scanning-paused : pause || low ≡ true → (b′ : BackwardState) → b′ ≡ restsAt b₂ (i - 1 + at) pause low
+          module _ (h : le (b₁ .best) score ≡ false) (b₂ : BackwardState) (z : b₂ ≡ withPrevious b₁ score) where
+            pub scanning-paused : pauses quick (backwardOf b₁) score ≡ true → (low : Bool) → low ≡ tooLow (S .drop-limit) (backwardOf b₁) score → (b′ : BackwardState) → b′ ≡ restsAt b₂ (i - 1 + at) true low
                 → restOf b′ counts′ ≡ restOver S window-counts quick len (decoded part) at (length part) (backwardOf a) counts₀
-            scanning-paused t b′ y =
-                let u : pauses quick (backwardOf b₁) score || tooLow (S .drop-limit) (backwardOf b₁) score ≡ true = ap₂ (λ (s₁ s₂ : Bool). s₁ || s₂) (sym p) (sym d) ∙ t in
-                sym (turned ∙ rw (on, h, u, y, z, p, d))
+            scanning-paused t low d b′ y = sym (turned ∙ rw (on, h, t, y, z, d))
 
-            pub scanning-fallen : pause || low ≡ false → Scanning S window-counts quick len part at a counts₀ (i - 1) b₂ counts′
-            scanning-fallen t =
-                let u : pauses quick (backwardOf b₁) score || tooLow (S .drop-limit) (backwardOf b₁) score ≡ false = ap₂ (λ (s₁ s₂ : Bool). s₁ || s₂) (sym p) (sym d) ∙ t in
-                record { inside = omega (arith, entry-in); same = same-on; room = room-on; rest = turned ∙ rw (on, h, u, z) }
+            module _ (n : pauses quick (backwardOf b₁) score ≡ false) where
+              pub scanning-stopped : tooLow (S .drop-limit) (backwardOf b₁) score ≡ true → (b′ : BackwardState) → b′ ≡ restsAt b₂ (i - 1 + at) false true
+                  → restOf b′ counts′ ≡ restOver S window-counts quick len (decoded part) at (length part) (backwardOf a) counts₀
+              scanning-stopped t b′ y = sym (turned ∙ rw (on, h, n, t, y, z))
+
+              pub scanning-fallen : tooLow (S .drop-limit) (backwardOf b₁) score ≡ false → Scanning S window-counts quick len part at a counts₀ (i - 1) b₂ counts′
+              scanning-fallen t = record { inside = omega (arith, entry-in); same = same-on; room = room-on; rest = turned ∙ rw (on, h, n, t, z) }
 
 at-same : (q es : List Place) (at : ℕ) → Stands q es at → (m : ℕ) → m < length es → getD q (m + at) ambiguous ≡ getD es m ambiguous
 at-same q es at stands m l = let n : m + at ≡ at + m = omega arith in ap (λ (x : ℕ). getD q x ambiguous) n ∙ stands-at q es at stands m l

@@ -197,12 +197,14 @@ fn backward_part(
             st = st.raised(sl, at);
             continue;
         }
-        let pause = st.pauses(quick, sl);
-        let low = st.too_low(sl, p.drop_limit);
-        st = st.fallen(sl);
-        if pause | low {
-            return st.resting(at, pause, low);
+        if st.pauses(quick, sl) {
+            let low = st.too_low(sl, p.drop_limit);
+            return st.fallen(sl).resting(at, true, low);
         }
+        if st.too_low(sl, p.drop_limit) {
+            return st.fallen(sl).resting(at, false, true);
+        }
+        st = st.fallen(sl);
     }
     st.resting(from, false, false)
 }

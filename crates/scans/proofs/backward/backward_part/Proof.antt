@@ -1,9 +1,9 @@
-use mathlib.Core.Path.{_∙_}
+use mathlib.Core.Path.{sym, _∙_}
 use Prim.Native.Nat.{_-_}
 use native.Mathlib.Omega.{arith}
 use borrow.Author.Needs.{needs}
 use Rattle.scans.specs.Setup.{setupOf}
-use Rattle.scans.proofs.BackwardScan.{Scanning, scanning-start, scanning-end, add-ready, scanning-ended, scanning-raised, scanning-paused, scanning-fallen}
+use Rattle.scans.proofs.BackwardScan.{Scanning, scanning-start, scanning-end, add-ready, scanning-ended, scanning-raised, scanning-paused, scanning-stopped, scanning-fallen}
 use Rattle.scans.proofs.backward.backward_part.Statement.{statement}
 use Rattle.scans.proofs.backward.backward_part.Tie as tie
 
@@ -30,9 +30,6 @@ added c = c .before .before .before .before
 
 abbrev going : tie.Else2 Inv-loop μ-loop → tie.Else1 Inv-loop μ-loop
 going c = c .before .before .before
-
-abbrev fell : tie.After-fallen Inv-loop μ-loop → tie.Else2 Inv-loop μ-loop
-fell c = c .before .before .before
 
 loop-holds : tie.Need-loop-holds Inv-loop μ-loop
 loop-holds c = scanning-start _ _ _ _ _ _ _ _ (c .before .before .before .before .before .before .pre .1 .1)
@@ -81,35 +78,52 @@ loop-again c =
 
 same-length-2 : tie.Need-same-length-2 Inv-loop μ-loop
 same-length-2 c =
-    let k = added (going (fell (c .before .before))) in
+    let k = added (going (c .before .before .before .before .before)) in
     k .add-entry .kept .1 .1 .1 .1 .1 .0 ∙ at-loop k .loop .inv .same
 
 returns-2 : tie.Need-returns-2 Inv-loop μ-loop
 returns-2 c =
-    let m = c .before .before in
-    let b = fell m in
+    let d = c .before .before in
+    let t = d .before in
+    let b = t .before .before in
     let o = going b in
     let k = added o in
-    scanning-paused _ _ _ _ _ _ _ _ _ _ _ (at-loop k .loop .inv) (begun k .pre .1 .0 .0) (looping k .loop-test .taken) _ _ (k .add-entry .ensures) (o .if1 .left) (b .if2 .left) _ _ (m .before .before .pauses .ensures)
-    (m .before .too-low .ensures) _ (m .fallen .ensures) (c .before .if3 .taken) _ (c .resting2 .ensures)
+    scanning-paused _ _ _ _ _ _ _ _ _ _ _ (at-loop k .loop .inv) (begun k .pre .1 .0 .0) (looping k .loop-test .taken) _ _ (k .add-entry .ensures) (o .if1 .left) (b .if2 .left) _ (c .before .fallen .ensures)
+    (sym (t .before .pauses .ensures) ∙ t .if3 .taken) _ (d .too-low .ensures) _ (c .resting2 .ensures)
+
+same-length-3 : tie.Need-same-length-3 Inv-loop μ-loop
+same-length-3 c =
+    let k = added (going (c .before .before .before .before .before .before)) in
+    k .add-entry .kept .1 .1 .1 .1 .1 .0 ∙ at-loop k .loop .inv .same
+
+returns-3 : tie.Need-returns-3 Inv-loop μ-loop
+returns-3 c =
+    let t = c .before .before in
+    let e = t .before .before in
+    let b = e .before .before in
+    let o = going b in
+    let k = added o in
+    scanning-stopped _ _ _ _ _ _ _ _ _ _ _ (at-loop k .loop .inv) (begun k .pre .1 .0 .0) (looping k .loop-test .taken) _ _ (k .add-entry .ensures) (o .if1 .left) (b .if2 .left) _ (c .before .fallen2 .ensures)
+    (sym (e .before .pauses .ensures) ∙ e .if3 .left) (sym (t .before .too-low2 .ensures) ∙ t .if4 .taken) _ (c .resting3 .ensures)
 
 loop-less-2 : tie.Need-loop-less-2 Inv-loop μ-loop
-loop-less-2 c = omega (arith, looping (added (going (fell (c .before)))) .loop-test .taken)
+loop-less-2 c = omega (arith, looping (added (going (c .before .before .before .before .before))) .loop-test .taken)
 
 loop-again-2 : tie.Need-loop-again-2 Inv-loop μ-loop
 loop-again-2 c =
-    let m = c .before in
-    let b = fell m in
+    let t = c .before in
+    let e = t .before .before in
+    let b = e .before .before in
     let o = going b in
     let k = added o in
-    scanning-fallen _ _ _ _ _ _ _ _ _ _ _ (at-loop k .loop .inv) (begun k .pre .1 .0 .0) (looping k .loop-test .taken) _ _ (k .add-entry .ensures) (o .if1 .left) (b .if2 .left) _ _ (m .before .before .pauses .ensures)
-    (m .before .too-low .ensures) _ (m .fallen .ensures) (c .if3 .left)
+    scanning-fallen _ _ _ _ _ _ _ _ _ _ _ (at-loop k .loop .inv) (begun k .pre .1 .0 .0) (looping k .loop-test .taken) _ _ (k .add-entry .ensures) (o .if1 .left) (b .if2 .left) _ (c .fallen3 .ensures)
+    (sym (e .before .pauses .ensures) ∙ e .if3 .left) (sym (t .before .too-low2 .ensures) ∙ t .if4 .left)
 
-same-length-3 : tie.Need-same-length-3 Inv-loop μ-loop
-same-length-3 c = c .before .before .loop .inv .same
+same-length-4 : tie.Need-same-length-4 Inv-loop μ-loop
+same-length-4 c = c .before .before .loop .inv .same
 
-returns-3 : tie.Need-returns-3 Inv-loop μ-loop
-returns-3 c = scanning-end _ _ _ _ _ _ _ _ _ _ _ (c .before .before .loop .inv) (c .before .loop-test .left) _ (c .resting3 .ensures)
+returns-4 : tie.Need-returns-4 Inv-loop μ-loop
+returns-4 c = scanning-end _ _ _ _ _ _ _ _ _ _ _ (c .before .before .loop .inv) (c .before .loop-test .left) _ (c .resting4 .ensures)
 
 pub backward-part-spec : {M : Type 1} → statement M
 backward-part-spec =
@@ -139,8 +153,14 @@ backward-part-spec =
     (λ c κs. search needs)
     same-length-2
     returns-2
+    (λ c κs. search needs)
+    (λ c κs. search needs)
+    (λ c κs. search needs)
+    same-length-3
+    returns-3
+    (λ c κs. search needs)
     loop-less-2
     loop-again-2
     (λ c κs. search needs)
-    same-length-3
-    returns-3)
+    same-length-4
+    returns-4)
