@@ -8,7 +8,7 @@ use lib.Seq.{length-take-le}
 use Rattle.buffers.specs.Free.{Free}
 use Rattle.buffers.proofs.Lent.{part-free, free-at}
 use Rattle.scans.specs.declared.Params.{Params}
-use Rattle.strand.specs.Held.{StrandLent}
+use Rattle.strand.specs.Terms.Running.{StrandLent}
 use Rattle.longdust.specs.declared.LongdustOptions.{LongdustOptions}
 use Rattle.longdust.specs.Buffers.{Buffers, lengths}
 use Rattle.longdust.specs.Terms.Inner.{Admitted, Exact}

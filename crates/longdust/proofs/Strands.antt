@@ -15,7 +15,8 @@ use Rattle.intervals.proofs.Shape.{ascending-inside}
 use Rattle.scans.specs.declared.Params.{Params}
 use Rattle.scans.specs.Setup.{Setup}
 use Rattle.strand.specs.Step.{intervalsOf}
-use Rattle.strand.specs.Held.{StrandLent}
+use Rattle.strand.specs.Terms.Running.{StrandLent, StrandList}
+use Rattle.strand.proofs.Theorems.{strand-room}
 use Rattle.longdust.specs.Mask.{maskOf}
 use Rattle.longdust.specs.Terms.Inner.{otherIntervals, Scanned, ReverseLent, Mergeable}
 use Rattle.longdust.proofs.Masks.{mask-room, mask-merged, others-shape}
@@ -32,13 +33,18 @@ reverse-as r eq ew es ec = rw (eq, ew, es, ec) r
 pub reversed-whole : (s d d′ : List ℕ) → d′ ≡ put (reverseComplement s) d → length d ≡ length s → d′ ≡ reverseComplement s
 reversed-whole s d d′ e l = e ∙ put-all (reverseComplement s) d (l ∙ sym (reverseComplement-length s))
 
+-- A strand's list as its run leaves it.
+pub scanned : (S : Setup) (codes : List ℕ) (list list′ : List (List ℕ)) (count : ℕ) → (length codes + 1) / (S .kmer + 1) ≤ length list
+    → length list′ ≡ length list → StrandList S codes list′ count → Scanned (intervalsOf S codes) list′ count
+scanned S codes list list′ count h l r = record { list-is = r .list-is; within = omega (arith, r .count-is, strand-room S codes) }
+
 -- The other strand's list: none, or that of the reverse complement.
 pub other-none : (S : Setup) (b : Bool) (s : List ℕ) (xs : List (List ℕ)) → b ≡ true → Scanned (otherIntervals S b s) xs 0
 other-none S b s xs e = record { list-is = rw e; within = omega arith }
 
 pub other-some : (S : Setup) (b : Bool) (s t : List ℕ) (xs : List (List ℕ)) (count : ℕ) → b ≡ false → t ≡ reverseComplement s
-    → listOf (take count xs) ≡ intervalsOf S t → count ≤ length xs → Scanned (otherIntervals S b s) xs count
-other-some S b s t xs count e r q h = record { list-is = q ∙ rw (r, e); within = h }
+    → Scanned (intervalsOf S t) xs count → Scanned (otherIntervals S b s) xs count
+other-some S b s t xs count e r q = record { list-is = q .list-is ∙ rw (r, e); within = q .within }
 
 module _ (S : Setup) (b : Bool) (s : List ℕ) {fs rs : List (List ℕ)} {i j : ℕ} (some : 0 < S .kmer)
     (f : Scanned (intervalsOf S s) fs i) (r : Scanned (otherIntervals S b s) rs j) where

@@ -13,7 +13,7 @@ use Rattle.scans.specs.declared.Params.{Params}
 use Rattle.scans.specs.Setup.{Setup, setupOf}
 use Rattle.strand.specs.Step.{intervalsOf}
 use Rattle.strand.specs.Range.{CheckedSetup}
-use Rattle.strand.specs.Held.{StrandLent}
+use Rattle.strand.specs.Terms.Running.{StrandLent}
 use Rattle.longdust.specs.declared.LongdustOptions.{LongdustOptions}
 use Rattle.longdust.specs.declared.Lent.{Lent}
 use Rattle.longdust.specs.declared.Answer.{Answer}

@@ -4,7 +4,7 @@ use native.Mathlib.Omega.{arith}
 use Rattle.scans.specs.Setup.{Setup, setupOf}
 use Rattle.strand.specs.Step.{intervalsOf}
 use Rattle.longdust.specs.Terms.Inner.{Scanned}
-use Rattle.longdust.proofs.Strands.{reverse-as, mergeable, merged-wrote}
+use Rattle.longdust.proofs.Strands.{reverse-as, scanned, mergeable, merged-wrote}
 use Rattle.longdust.proofs.run.both_strands.Statement.{statement}
 use Rattle.longdust.proofs.run.both_strands.Proof.Tie as tie
 mod Lts
@@ -16,9 +16,11 @@ start c = c .before .before .before .before .before .before .before .before .bef
 abbrev by : tie.Start → Setup
 by s = setupOf (s .args .p) (s .args .ln .now) (s .args .f .now)
 
-scanned : (c : tie.After-inner-process)
+held : (c : tie.After-inner-process)
     → Scanned (intervalsOf (by (start c)) (start c .args .codes .now)) (c .inner-process .last .1 .1 .1 .1 .1 .1 .1 .1 .0) (c .inner-process .result)
-scanned c = record { list-is = c .inner-process .ensures .0; within = c .inner-process .ensures .1 }
+held c =
+    let s = start c in
+    scanned (by s) (s .args .codes .now) (s .args .forward-list .now) _ _ (s .pre .forward .part .list-long) (c .inner-process .kept .1 .1 .1 .1 .1 .1 .1 .1 .0) (c .inner-process .ensures)
 
 abbrev forward : tie.After-reverse-strand → tie.After-inner-process
 forward c = c .before .before .before .before .before .before .before .before .before .before .before .before .before .before .before
@@ -37,14 +39,14 @@ merge-strands-requires c κs =
     let r = c .before .before .before .before .before .before .before .before .before .before .before .before .before in
     let i = forward r in
     let s = start i in
-    mergeable (by s) (s .args .forward-only) (s .args .codes .now) (s .pre .forward .part .kmer-some) (scanned i) (r .reverse-strand .ensures) (s .args .list .now) (s .pre .list)
+    mergeable (by s) (s .args .forward-only) (s .args .codes .now) (s .pre .forward .part .kmer-some) (held i) (r .reverse-strand .ensures) (s .args .list .now) (s .pre .list)
 
 returns : tie.Need-returns
 returns c =
     let r = other c in
     let i = forward r in
     let s = start i in
-    merged-wrote (by s) (s .args .forward-only) (s .args .codes .now) (s .pre .forward .part .kmer-some) (scanned i) (r .reverse-strand .ensures) (c .before .merge-strands .ensures)
+    merged-wrote (by s) (s .args .forward-only) (s .args .codes .now) (s .pre .forward .part .kmer-some) (held i) (r .reverse-strand .ensures) (c .before .merge-strands .ensures)
 
 pub both-strands-spec : {M : Type 1} → statement M
 both-strands-spec =
