@@ -1,6 +1,6 @@
 -- Of the tables only entries 1..w are read: scans by tables that agree there are the same, for any float bits.
 use mathlib.Core.Path.{_≡_, refl, sym, ap, ap₂, subst, _∙_}
-use Prim.Native.Nat.{ℕ, zero, suc, _+_, _-_, _≤_, _<_}
+use Prim.Native.Nat.{ℕ, zero, suc, _+_, _-_, _≤_, _<_, max}
 use native.Mathlib.Omega.{arith}
 use mathlib.Core.Bool.{Bool, true, false, cond, not, _&&_}
 use mathlib.Core.List.{List, [], _∷_, _++_}
@@ -13,7 +13,7 @@ use Rattle.floats.specs.Binary64.{zero64, slack}
 use Rattle.letters.specs.Place.{Place, ambiguous, plain, BelowAt, Below}
 use Rattle.scans.specs.Setup.{Setup, lnAt, fAt, kmers}
 use Rattle.scans.specs.Counts.{hit, count, raise, cleared, Counted}
-use Rattle.scans.specs.Scans.{Outcome, none, at, extends, windowValue, ifBackwardFrom, maxSteps, ifBackward, value, ForwardSums, forwardStart, forwardJudged, Forward, forwardFrom, dustForward, Candidate, secondValue, BackwardSums, backwardStart, noted, isDropped, backwardJudged, Backward, backwardFrom, noCandidate, withBest, larger, tryFrom, tried, dustBackward}
+use Rattle.scans.specs.Scans.{Outcome, none, at, extends, windowValue, ifBackwardFrom, maxSteps, ifBackward, value, ForwardSums, forwardStart, forwardJudged, Forward, forwardFrom, dustForward, Candidate, secondValue, BackwardSums, backwardStart, noted, isDropped, backwardJudged, Backward, backwardFrom, noCandidate, withBest, tryFrom, tried, dustBackward}
 use Rattle.scans.proofs.Counting.{hit-self, count-snoc, count-le, below-drop, raise-counted, cleared-counted}
 
 -- The setup with other tables.
@@ -189,9 +189,9 @@ module _ (S : Setup) (ln f : List Float) (same-ln : SameEntries (S .window-size)
         cond (ltb (c .place + 1) furthest) skipped
         (cond (eqb (z .sums .found) (length q)) (record { find = at (c .place); counts = z .counts })
         (cond (S .approx) (record { find = none; counts = z .counts }) later)) in
-        ap (λ (z : Forward). next z (tryFrom R q cs i furthest counts) (tryFrom R q cs i (larger furthest (z .sums .found)) (z .counts)))
+        ap (λ (z : Forward). next z (tryFrom R q cs i furthest counts) (tryFrom R q cs i (max furthest (z .sums .found)) (z .counts)))
         (dust-forward-same q (c .place) (c .score) long below)
-        ∙ ap₂ (λ (x y : Outcome). next r x y) (try-from-same cs i furthest counts) (try-from-same cs i (larger furthest (r .sums .found)) (r .counts))
+        ∙ ap₂ (λ (x y : Outcome). next r x y) (try-from-same cs i furthest counts) (try-from-same cs i (max furthest (r .sums .found)) (r .counts))
 
     pub dust-backward-same : dustBackward R q ≡ dustBackward S q
     unfolding dustBackward tried

@@ -14,7 +14,7 @@ use borrow.Author.Tests.{ltb-true}
 use Rattle.intervals.specs.Interval.{Interval}
 use Rattle.intervals.specs.Save.{save}
 use Rattle.scans.specs.Scans.{at}
-use Rattle.scans.specs.Window.{findOf}
+use Rattle.scans.specs.Terms.Window.{findOf}
 use Rattle.strand.specs.Step.{st2, startAfter, saveFrom, savedAfter}
 use Rattle.strand.specs.declared.Window.{Window}
 use Rattle.strand.specs.declared.Open.{Open}

@@ -2,7 +2,7 @@
 use mathlib.Core.Path.{_≡_, refl, sym, ap, _∙_, subst}
 use mathlib.Core.Bool.{Bool, true, false, not, true≢false}
 use mathlib.Core.List.{List, [], _∷_, _++_}
-use Prim.Native.Nat.{ℕ, zero, suc, _+_, _-_, _/_, _≤_, _<_}
+use Prim.Native.Nat.{ℕ, zero, suc, _+_, _-_, _≤_, _<_}
 use native.Mathlib.Omega.{arith}
 use lib.ListN.{length, getD, drop, replicate, length-set, length-append, length-drop, length-replicate}
 use lib.Seq.{drop-append-le}
@@ -15,9 +15,9 @@ use Rattle.scans.specs.declared.Scanned.{Scanned}
 use Rattle.scans.specs.Setup.{Setup, kmers}
 use Rattle.scans.specs.Counts.{raise, lower, cleared, Counted}
 use Rattle.scans.specs.Scans.{Find, none, at, Outcome, dustBackward}
-use Rattle.scans.specs.Window.{findOf}
-use Rattle.scans.specs.Carry.{Carried, Touched, countsLeft, Answers, carriedOn}
-use Rattle.scans.proofs.Counting.{count-le, below-left, below-right, below-drop, raise-counted}
+use Rattle.scans.specs.Terms.Window.{findOf}
+use Rattle.scans.specs.Terms.Carry.{Carried, Touched, countsLeft, Answers, carriedOn}
+use Rattle.scans.proofs.Counting.{below-left, below-right, below-drop, raise-counted}
 use Rattle.scans.proofs.Touched.{touched-cleared, touched-none, counted-touched, touched-more, touched-raise, touched-lower, touched-part}
 use Rattle.scans.proofs.ForwardScore.{forward-inside}
 use Rattle.scans.proofs.CarriedScan.{carried-next, found-counted}

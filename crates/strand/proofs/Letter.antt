@@ -19,7 +19,7 @@ use Rattle.scans.specs.Setup.{Setup, setupOf}
 use Rattle.scans.specs.Counts.{count}
 use Rattle.scans.specs.Scans.{Find, none, at, Outcome}
 use Rattle.scans.specs.declared.Carry.{Carry}
-use Rattle.scans.specs.Window.{window, findOf, Windowed}
+use Rattle.scans.specs.Terms.Window.{window, findOf, Windowed}
 use Rattle.scans.proofs.Test.{by-test}
 use Rattle.scans.proofs.Windows.{long}
 use Rattle.strand.specs.Step.{Run, join, isAt, search, st2, startAfter, savedAfter, foundBy, found, look, step}

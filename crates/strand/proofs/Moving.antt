@@ -18,7 +18,7 @@ use Rattle.scans.specs.declared.Params.{Params}
 use Rattle.scans.specs.declared.Carry.{Carry}
 use Rattle.scans.specs.Setup.{Setup, setupOf}
 use Rattle.scans.specs.Counts.{count, raise, lower}
-use Rattle.scans.specs.Window.{queue, ringIndex, window, countedValue, Windowed}
+use Rattle.scans.specs.Terms.Window.{queue, ringIndex, window, countedValue, Windowed}
 use Rattle.scans.proofs.Counting.{Counted, hit-self, count-le, raise-counted, lower-counted}
 use Rattle.scans.proofs.Ring.{ring-index-at, queue-length, queue-join, queue-leave, window-join, window-leave, window-length}
 use Rattle.scans.proofs.Values.{decode-below, decoded-below}

@@ -2,7 +2,7 @@
 use mathlib.Core.Path.{_≡_, refl, sym, ap, _∙_, subst}
 use mathlib.Core.Bool.{false}
 use mathlib.Core.List.{List, []}
-use Prim.Native.Nat.{ℕ, _+_, _-_, _/_, _^_, _≤_, _<_}
+use Prim.Native.Nat.{ℕ, _+_, _/_, _^_, _≤_, _<_}
 use native.Mathlib.Omega.{arith}
 use lib.ListN.{length, take, drop, replicate, length-replicate, drop-of-length-le}
 use lib.Seq.{length-take-le}
@@ -19,7 +19,7 @@ use Rattle.scans.specs.declared.Params.{Params}
 use Rattle.scans.specs.Setup.{Setup, setupOf}
 use Rattle.scans.specs.declared.Scanned.{Scanned}
 use Rattle.scans.specs.Counts.{cleared}
-use Rattle.scans.specs.Window.{queue, window}
+use Rattle.scans.specs.Terms.Window.{queue, window}
 use Rattle.scans.proofs.Counting.{cleared-counted}
 use Rattle.scans.proofs.Windows.{long}
 use Rattle.strand.specs.Step.{Run, begin, isAt, whole, saveFrom, look, step, runFrom, run, intervalsOfPlaces, intervalsOf}

@@ -24,8 +24,8 @@ use Rattle.scans.specs.declared.Scanned.{Scanned}
 use Rattle.scans.specs.Setup.{Setup, setupOf, kmers}
 use Rattle.scans.specs.Counts.{count, raise}
 use Rattle.scans.specs.Scans.{Find, none, at, Outcome, extends, ifBackward, dustBackward}
-use Rattle.scans.specs.Window.{queue, window, findOf, Windowed, Extends}
-use Rattle.scans.specs.Carry.{Touched, countsLeft, Answers, CarriesOn}
+use Rattle.scans.specs.Terms.Window.{queue, window, findOf, Windowed, Extends}
+use Rattle.scans.specs.Terms.Carry.{Touched, countsLeft, Answers, CarriesOn}
 use Rattle.scans.proofs.Counting.{count-le}
 use Rattle.scans.proofs.Windows.{long}
 use Rattle.scans.proofs.Touched.{touched-more}

@@ -16,7 +16,7 @@ use Rattle.floats.proofs.Whole.{Is, is-as, is-sub}
 use Rattle.letters.specs.Place.{Place}
 use Rattle.scans.specs.declared.Carry.{Carry}
 use Rattle.scans.specs.Counts.{lower}
-use Rattle.scans.specs.Carry.{noCarry}
+use Rattle.scans.specs.Terms.Carry.{noCarry}
 use Rattle.strand.specs.Step.{whole, countsWithout, lastQWithout, isAt, st2}
 use Rattle.strand.specs.Terms.KnownCounts.{carryWithout}
 use Rattle.strand.proofs.Shape.{st2-is}

@@ -1,4 +1,12 @@
-// One strand: the run over its letters and the intervals that it saves.
+// One strand: the run over its letters and the intervals that it saves. What the Rust's `inner_process` became:
+//
+// | the Rust | here |
+// |---|---|
+// | its locals, the window's ends | `State`: the rolling k-mer, the next letter, `Window` and `Open` |
+// | a turn of its loop up to the new entry | `State::enter`, with `Window::make_room` and `Window::join` |
+// | the tests before a search | `State::is_searched`, `State::look` |
+// | what follows a search | `State::passed`, `State::extended`, `State::answered` |
+// | its loop | `skim` over letters that are not searched from, in `until_scan` over letters without a backward scan, in `inner_process` |
 
 ghost use mathlib.Core.Path.{_≡_};
 ghost use mathlib.Core.Bool.{true};
@@ -14,8 +22,8 @@ ghost use Rattle.letters.specs.Rolling.{entryOf};
 ghost use Rattle.intervals.specs.Interval.{Interval};
 ghost use Rattle.scans.specs.Setup.{setupOf};
 ghost use Rattle.scans.specs.Counts.{raise, lower};
-ghost use Rattle.scans.specs.Window.{findOf, window, Windowed};
-ghost use Rattle.scans.specs.Parts.{Queued};
+ghost use Rattle.scans.specs.Terms.Window.{findOf, window, Windowed};
+ghost use Rattle.scans.specs.Terms.Parts.{Queued};
 ghost use Rattle.strand.specs.Step.{whole, lastQWithout, isAt, st2, startAfter, saveFrom, savedAfter};
 ghost use Rattle.strand.specs.Terms.KnownCounts.{KnownCounts, Passing, Passes, Clearing, sought, extendedOf, answeredBy};
 ghost use Rattle.strand.specs.Terms.Entering.{held, newestOf, sumLess, sumMore, Left, Joined, Next, Enters};
@@ -38,7 +46,7 @@ struct Window {
 }
 
 // The sum without an entry that leaves: if plain, the ln entry of its count leaves the sum, and the count falls.
-fn sum_without(sum: f64, counts: &mut [u16], ln: &[f64], entry: u32) -> f64
+fn sum_without(sum: f64, entry: u32, ln: &[f64], counts: &mut [u16]) -> f64
     requires { ⌜ (entry / 2 < length (now counts)) × (getD (now counts) (entry / 2) 0 < length (now ln))
         × (decode entry ≡ plain (entry / 2) → 0 < getD (now counts) (entry / 2) 0) ⌝ }
     ensures { λ r. ⌜ (r ≡ sumLess (now (ln .entry)) (now (counts .entry)) sum (decode entry))
@@ -54,7 +62,7 @@ fn sum_without(sum: f64, counts: &mut [u16], ln: &[f64], entry: u32) -> f64
 }
 
 // The sum with an entry that joins: if plain, its count rises, and the ln entry of the count is added.
-fn sum_with(sum: f64, counts: &mut [u16], ln: &[f64], entry: u32) -> f64
+fn sum_with(sum: f64, entry: u32, ln: &[f64], counts: &mut [u16]) -> f64
     requires { ⌜ (entry / 2 < length (now counts)) × (getD (now counts) (entry / 2) 0 < 65535)
         × (getD (now counts) (entry / 2) 0 + 1 < length (now ln)) ⌝ }
     ensures { λ r. ⌜ (r ≡ sumMore (now (ln .entry)) (now (counts .exit)) sum (decode entry))
@@ -90,10 +98,10 @@ impl Window {
     fn leave(
         mut self,
         p: scans::Params,
+        ln: &[f64],
         queue: &[u32],
         window_counts: &mut [u16],
         scan_counts: &mut [u16],
-        ln: &[f64],
     ) -> Self
         requires { ⌜ (self .len ≡ p .«window_size») × (length (now «scan_counts») ≡ 4 ^ p .kmer) ⌝ }
         requires { ⌜ Windowed p (now queue) (self .head) (self .len) (now «window_counts») (length (now ln)) ⌝ }
@@ -103,7 +111,7 @@ impl Window {
         let head = self.head;
         let last_q = self.last_q;
         let entry = queue[head];
-        self.sum = sum_without(self.sum, window_counts, ln, entry);
+        self.sum = sum_without(self.sum, entry, ln, window_counts);
         if last_q == 0 {
             scans::lower_entry(scan_counts, entry);
             self.carry = scans::Carry::none();
@@ -118,10 +126,10 @@ impl Window {
     fn make_room(
         self,
         p: scans::Params,
+        ln: &[f64],
         queue: &[u32],
         window_counts: &mut [u16],
         scan_counts: &mut [u16],
-        ln: &[f64],
     ) -> Self
         requires { ⌜ length (now «scan_counts») ≡ 4 ^ p .kmer ⌝ }
         requires { ⌜ Windowed p (now queue) (self .head) (self .len) (now «window_counts») (length (now ln)) ⌝ }
@@ -129,7 +137,7 @@ impl Window {
             (now («window_counts» .exit)) (now («scan_counts» .exit)) ⌝ }
     {
         if self.len == p.window_size {
-            return self.leave(p, queue, window_counts, scan_counts, ln);
+            return self.leave(p, ln, queue, window_counts, scan_counts);
         }
         self
     }
@@ -138,10 +146,10 @@ impl Window {
     fn join(
         mut self,
         p: scans::Params,
+        entry: u32,
+        ln: &[f64],
         queue: &mut [u32],
         window_counts: &mut [u16],
-        ln: &[f64],
-        entry: u32,
     ) -> Self
         requires { ⌜ (self .len < p .«window_size») × (entry / 2 < 4 ^ p .kmer) ⌝ }
         requires { ⌜ Windowed p (now queue) (self .head) (self .len) (now «window_counts») (length (now ln)) ⌝ }
@@ -150,7 +158,7 @@ impl Window {
     {
         let i = scans::ring_index(p.window_size, self.head, self.len);
         queue[i] = entry;
-        self.sum = sum_with(self.sum, window_counts, ln, entry);
+        self.sum = sum_with(self.sum, entry, ln, window_counts);
         self.len += 1;
         self
     }
@@ -374,8 +382,8 @@ impl State {
         self.kmer = self.kmer.next(codes[i], p.kmer);
         let entry = self.kmer.entry(p.kmer);
         let room = self.window
-            .make_room(p, queue, window_counts, scan_counts, ln);
-        self.window = room.join(p, queue, window_counts, ln, entry);
+            .make_room(p, ln, queue, window_counts, scan_counts);
+        self.window = room.join(p, entry, ln, queue, window_counts);
         self
     }
 
@@ -598,7 +606,7 @@ fn until_scan(
     }
 }
 
-// The intervals of a strand of codes, in the first entries of `list`; answers how many there are.
+// Takes a strand of codes, the tables and the lent buffers; writes the strand's intervals to the first entries of `list`, in order, and answers how many there are.
 pub fn inner_process(
     p: scans::Params,
     codes: &[u8],

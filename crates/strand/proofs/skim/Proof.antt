@@ -1,10 +1,9 @@
-use mathlib.Core.Path.{_≡_, refl, sym, ap, _∙_}
+use mathlib.Core.Path.{_≡_, refl, sym, _∙_}
 use mathlib.Core.List.{List}
-use Prim.Native.Nat.{ℕ, _-_, _/_, _^_, _<_}
+use Prim.Native.Nat.{ℕ, _-_}
 use native.Mathlib.Omega.{arith}
 use lib.ListN.{length}
 use lib.Ieee.{Float}
-use Rattle.letters.specs.Rolling.{entryOf}
 use Rattle.scans.specs.declared.Params.{Params}
 use Rattle.strand.specs.declared.State.{State}
 use Rattle.strand.specs.Terms.Entering.{Enters}

@@ -11,7 +11,7 @@ use Rattle.letters.specs.Rolling.{kmerAfter, entryOf}
 use Rattle.intervals.specs.Interval.{Interval}
 use Rattle.scans.specs.declared.Params.{Params}
 use Rattle.scans.specs.Setup.{setupOf}
-use Rattle.scans.specs.Window.{window, Windowed}
+use Rattle.scans.specs.Terms.Window.{window, Windowed}
 use Rattle.strand.specs.Step.{Run, leave, join}
 use Rattle.strand.specs.declared.Window.{Window}
 use Rattle.strand.specs.declared.Open.{Open}

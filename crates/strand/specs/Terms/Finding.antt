@@ -10,7 +10,7 @@ use Rattle.scans.specs.declared.Params.{Params}
 use Rattle.scans.specs.Setup.{setupOf}
 use Rattle.scans.specs.Counts.{count}
 use Rattle.scans.specs.Scans.{Find, none, at}
-use Rattle.scans.specs.Window.{findOf}
+use Rattle.scans.specs.Terms.Window.{findOf}
 use Rattle.strand.specs.Step.{st2, startAfter, saveFrom, savedAfter}
 use Rattle.strand.specs.declared.Window.{Window}
 use Rattle.strand.specs.declared.Open.{Open}

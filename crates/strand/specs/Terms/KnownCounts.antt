@@ -10,8 +10,7 @@ use Rattle.letters.specs.Place.{Place}
 use Rattle.scans.specs.declared.Params.{Params}
 use Rattle.scans.specs.Setup.{Setup, kmers}
 use Rattle.scans.specs.Counts.{cleared, Counted}
-use Rattle.scans.specs.Window.{window}
-use Rattle.scans.specs.Carry.{noCarry, Carried, Touched, CarriesOn}
+use Rattle.scans.specs.Terms.Carry.{noCarry, Carried, Touched, CarriesOn}
 use Rattle.strand.specs.Step.{whole}
 use Rattle.strand.specs.declared.Window.{Window}
 use Rattle.scans.specs.declared.Carry.{Carry}

@@ -3,7 +3,6 @@ use mathlib.Core.Path.{_≡_}
 use Prim.Native.Nat.{ℕ}
 use mathlib.Core.Bool.{true}
 use mathlib.Core.List.{List}
-use Rattle.scans.specs.Window.{window}
 use Rattle.strand.specs.Step.{Run, isAt}
 
 -- Two runs before letter i that agree but for scan counts that are not read: those of a run whose last letter, i - 1, was not a find.

@@ -13,8 +13,8 @@ use Rattle.intervals.specs.Interval.{Interval}
 use Rattle.scans.specs.declared.Params.{Params}
 use Rattle.scans.specs.Setup.{Setup, setupOf}
 use Rattle.scans.specs.Counts.{count}
-use Rattle.scans.specs.Window.{window, Windowed}
-use Rattle.scans.specs.Carry.{noCarry}
+use Rattle.scans.specs.Terms.Window.{window, Windowed}
+use Rattle.scans.specs.Terms.Carry.{noCarry}
 use Rattle.strand.specs.Step.{Run, whole, runFrom}
 use Rattle.strand.specs.declared.State.{State}
 use Rattle.strand.specs.Terms.Like.{Like}

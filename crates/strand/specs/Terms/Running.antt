@@ -10,8 +10,8 @@ use Rattle.intervals.specs.Interval.{Interval, listOf, Canonical, EndsBelow}
 use Rattle.scans.specs.declared.Params.{Params}
 use Rattle.scans.specs.Setup.{Setup, setupOf}
 use Rattle.scans.specs.Scans.{dustBackward}
-use Rattle.scans.specs.Window.{window, Windowed}
-use Rattle.scans.specs.Carry.{Carried, Answers}
+use Rattle.scans.specs.Terms.Window.{window, Windowed}
+use Rattle.scans.specs.Terms.Carry.{Carried, Answers}
 use Rattle.strand.specs.Step.{Run, whole, runFrom, run, intervalsOf}
 use Rattle.strand.specs.declared.Window.{Window}
 use Rattle.strand.specs.declared.Open.{Open}

@@ -1,8 +1,7 @@
-use mathlib.Core.Path.{_≡_, ap, sym, subst}
+use mathlib.Core.Path.{ap, sym}
 use native.Mathlib.Omega.{arith}
 use borrow.Author.Needs.{needs}
 use Rattle.strand.specs.declared.Window.{Window}
-use Rattle.strand.specs.Terms.KnownCounts.{sought}
 use Rattle.strand.proofs.State.answered.Statement.{statement}
 use Rattle.strand.proofs.State.answered.Tie as tie
 

@@ -2,7 +2,7 @@ use mathlib.Core.Path.{_≡_, refl, sym, subst}
 use Prim.Native.Nat.{ℕ, _+_, _/_, _^_, _<_}
 use native.Mathlib.Omega.{arith}
 use borrow.Author.Needs.{needs}
-use Rattle.letters.specs.Rolling.{kmerAfter, entryOf}
+use Rattle.letters.specs.Rolling.{kmerAfter}
 use Rattle.letters.proofs.Rolling.{kmer-next, run-few, value-small, entry-below}
 use Rattle.strand.specs.Terms.Entering.{Joined}
 use Rattle.strand.proofs.Letter.{entering}
@@ -55,7 +55,7 @@ returns c f k =
     let e = entered m in
     let a = start (e .before) .args in
     entering f (rolled (e .before)) refl refl k (m .make-room .ensures)
-    (subst (λ (e : ℕ). Joined (a .p) (a .ln .now) (m .make-room .result) (j .join .result) e (a .queue .now) (j .join .last .1 .1 .0) (j .join .last .1 .1 .1 .0)) (e .entry .ensures) (j .join .ensures))
+    (subst (λ (e : ℕ). Joined (a .p) (a .ln .now) (m .make-room .result) (j .join .result) e (a .queue .now) (j .join .last .1 .1 .1 .1 .0) (j .join .last .1 .1 .1 .1 .1 .0)) (e .entry .ensures) (j .join .ensures))
 
 pub enter-spec : {M : Type 1} → statement M
 enter-spec =

@@ -1,9 +1,6 @@
-use mathlib.Core.Path.{sym, ap, _∙_}
-use Prim.Native.Nat.{ℕ}
+use mathlib.Core.Path.{sym}
 use borrow.Author.Needs.{needs}
-use Rattle.letters.specs.Entry.{decode}
 use Rattle.scans.proofs.Values.{even-plain, odd-ambiguous}
-use Rattle.strand.specs.Terms.Searching.{isSearched}
 use Rattle.strand.proofs.State.is_searched.Statement.{statement}
 use Rattle.strand.proofs.State.is_searched.Tie as tie
 

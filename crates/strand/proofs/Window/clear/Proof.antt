@@ -2,8 +2,8 @@ use mathlib.Core.Path.{sym, subst}
 use Prim.Native.Nat.{ℕ, _≤_}
 use lib.ListN.{drop}
 use borrow.Author.Needs.{needs}
-use Rattle.scans.specs.Window.{window}
-use Rattle.scans.specs.Carry.{Touched}
+use Rattle.scans.specs.Terms.Window.{window}
+use Rattle.scans.specs.Terms.Carry.{Touched}
 use Rattle.strand.proofs.Window.clear.Statement.{statement}
 use Rattle.strand.proofs.Window.clear.Tie as tie
 

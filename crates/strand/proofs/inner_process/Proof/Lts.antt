@@ -933,7 +933,7 @@ abbrev b33 : Syntax.Body
 b33 = Syntax.assign (Syntax.place 36 List.[]) (Syntax.aggregate ((Syntax.copy (Syntax.place 35 List.[])) ∷ (Syntax.copy (Syntax.place 8 ((Syntax.field 1) ∷ []))) ∷ []))
 
 abbrev b34 : Syntax.Body
-b34 = Syntax.call "scans::dust_backward" ((Syntax.copy (Syntax.place 1 List.[])) ∷ (Syntax.copy (Syntax.place 10 ((Syntax.field 2) ∷ (Syntax.field 5) ∷ []))) ∷ (Syntax.copy (Syntax.place 11 List.[])) ∷ (Syntax.copy (Syntax.place 30 List.[])) ∷ (Syntax.copy (Syntax.place 10 ((Syntax.field 2) ∷ (Syntax.field 2) ∷ []))) ∷ (Syntax.copy (Syntax.place 10 ((Syntax.field 2) ∷ (Syntax.field 3) ∷ []))) ∷ (Syntax.copy (Syntax.place 32 List.[])) ∷ (Syntax.copy (Syntax.place 3 List.[])) ∷ (Syntax.copy (Syntax.place 4 List.[])) ∷ (Syntax.copy (Syntax.place 34 List.[])) ∷ (Syntax.copy (Syntax.place 36 List.[])) ∷ []) (Syntax.place 12 List.[])
+b34 = Syntax.call "scans::dust::dust_backward" ((Syntax.copy (Syntax.place 1 List.[])) ∷ (Syntax.copy (Syntax.place 10 ((Syntax.field 2) ∷ (Syntax.field 5) ∷ []))) ∷ (Syntax.copy (Syntax.place 11 List.[])) ∷ (Syntax.copy (Syntax.place 30 List.[])) ∷ (Syntax.copy (Syntax.place 10 ((Syntax.field 2) ∷ (Syntax.field 2) ∷ []))) ∷ (Syntax.copy (Syntax.place 10 ((Syntax.field 2) ∷ (Syntax.field 3) ∷ []))) ∷ (Syntax.copy (Syntax.place 32 List.[])) ∷ (Syntax.copy (Syntax.place 3 List.[])) ∷ (Syntax.copy (Syntax.place 4 List.[])) ∷ (Syntax.copy (Syntax.place 34 List.[])) ∷ (Syntax.copy (Syntax.place 36 List.[])) ∷ []) (Syntax.place 12 List.[])
 
 abbrev b35 : Syntax.Body
 b35 = Syntax.assign (Syntax.place 37 List.[]) (Syntax.addrOf (Syntax.place 9 ((Syntax.field 0) ∷ (Syntax.deref (Syntax.tyArray y0 2)) ∷ [])))
@@ -1698,7 +1698,7 @@ module _ (claims· : Claims) where
       (Post· : (κs : Lifetimes.Lfts 8) → (a : Kinds.Dens κs ps) → Kinds.Plain 8 ps r κs) where
     module _ (M : Type 1) where
       abbrev pub Closed : Type 2
-      Closed = (𝓤 : URA.URA M) (H : Wp.Heap 𝓤) (A : Atoms.Atoms 𝓤) (W : Kit.Given 𝓤 H A) (𝓣 : Wp.Tables 𝓤 H) (known0 : Plain.Known 𝓤 H A W 𝓣 2 ps·0 r·0 (claims· .0) (claims· .1) "strand::begin") (known1 : Plain.Known 𝓤 H A W 𝓣 7 ps·1 r·1 (claims· .2) (claims· .3) "strand::until_scan") (known2 : Plain.Known 𝓤 H A W 𝓣 1 ps·2 r·2 (claims· .4) (claims· .5) "strand::Open::close") (known3 : Plain.Known 𝓤 H A W 𝓣 0 ps·3 r·3 (claims· .6) (claims· .7) "strand::Window::last_q_index") (known4 : Plain.Known 𝓤 H A W 𝓣 6 ps·4 r·4 (claims· .8) (claims· .9) "scans::dust_backward") (known5 : Plain.Known 𝓤 H A W 𝓣 1 ps·5 r·5 (claims· .10) (claims· .11) "strand::State::answered") → Statement.Triple 𝓤 (Wp.WpFn 𝓤 H (𝓣 .C) (𝓣 .Λ) (Function.fnOf 8 ps r xs m hs body)) (Function.plainOf 𝓤 H A 8 ps r Pre· Post·)
+      Closed = (𝓤 : URA.URA M) (H : Wp.Heap 𝓤) (A : Atoms.Atoms 𝓤) (W : Kit.Given 𝓤 H A) (𝓣 : Wp.Tables 𝓤 H) (known0 : Plain.Known 𝓤 H A W 𝓣 2 ps·0 r·0 (claims· .0) (claims· .1) "strand::begin") (known1 : Plain.Known 𝓤 H A W 𝓣 7 ps·1 r·1 (claims· .2) (claims· .3) "strand::until_scan") (known2 : Plain.Known 𝓤 H A W 𝓣 1 ps·2 r·2 (claims· .4) (claims· .5) "strand::Open::close") (known3 : Plain.Known 𝓤 H A W 𝓣 0 ps·3 r·3 (claims· .6) (claims· .7) "strand::Window::last_q_index") (known4 : Plain.Known 𝓤 H A W 𝓣 6 ps·4 r·4 (claims· .8) (claims· .9) "scans::dust::dust_backward") (known5 : Plain.Known 𝓤 H A W 𝓣 1 ps·5 r·5 (claims· .10) (claims· .11) "strand::State::answered") → Statement.Triple 𝓤 (Wp.WpFn 𝓤 H (𝓣 .C) (𝓣 .Λ) (Function.fnOf 8 ps r xs m hs body)) (Function.plainOf 𝓤 H A 8 ps r Pre· Post·)
 
     module _ (Inv·0 : InvT-loop) (μ·0 : MeasureT-loop) where
       abbrev at0 : Typed.TF T64 O4
@@ -2019,7 +2019,7 @@ module _ (claims· : Claims) where
       module _ {M : Type 1} (𝓤 : URA.URA M) (H : Wp.Heap 𝓤) (A : Atoms.Atoms 𝓤)
           (W : Kit.Given 𝓤 H A) (𝓣 : Wp.Tables 𝓤 H) where
         abbrev Knowns : Type 1
-        Knowns = Plain.Known 𝓤 H A W 𝓣 2 ps·0 r·0 (claims· .0) (claims· .1) "strand::begin" × Plain.Known 𝓤 H A W 𝓣 7 ps·1 r·1 (claims· .2) (claims· .3) "strand::until_scan" × Plain.Known 𝓤 H A W 𝓣 1 ps·2 r·2 (claims· .4) (claims· .5) "strand::Open::close" × Plain.Known 𝓤 H A W 𝓣 0 ps·3 r·3 (claims· .6) (claims· .7) "strand::Window::last_q_index" × Plain.Known 𝓤 H A W 𝓣 6 ps·4 r·4 (claims· .8) (claims· .9) "scans::dust_backward" × Plain.Known 𝓤 H A W 𝓣 1 ps·5 r·5 (claims· .10) (claims· .11) "strand::State::answered"
+        Knowns = Plain.Known 𝓤 H A W 𝓣 2 ps·0 r·0 (claims· .0) (claims· .1) "strand::begin" × Plain.Known 𝓤 H A W 𝓣 7 ps·1 r·1 (claims· .2) (claims· .3) "strand::until_scan" × Plain.Known 𝓤 H A W 𝓣 1 ps·2 r·2 (claims· .4) (claims· .5) "strand::Open::close" × Plain.Known 𝓤 H A W 𝓣 0 ps·3 r·3 (claims· .6) (claims· .7) "strand::Window::last_q_index" × Plain.Known 𝓤 H A W 𝓣 6 ps·4 r·4 (claims· .8) (claims· .9) "scans::dust::dust_backward" × Plain.Known 𝓤 H A W 𝓣 1 ps·5 r·5 (claims· .10) (claims· .11) "strand::State::answered"
 
       module _ (κs : Lifetimes.Lfts 8) (qs : Lifetimes.Shares 8) where
         abbrev li0 : Row.Life
@@ -2710,7 +2710,7 @@ module _ (claims· : Claims) where
           d33 = Typed.g-pre 𝓤 H A W 𝓣 E G80 G81 b39 Δ3 (Typed.pass T80 T81 s78) at32 (Scalar.g-room 𝓤 H A W E G80 30 y17 (Shared.room-sslice 𝓤 H A W q3 y16 15)) d32
 
           d34 : Typed.Typed 𝓤 H A 𝓣 E G79 b40 Δ3 at34
-          d34 = Typed.s-seq 𝓤 H A W 𝓣 E G79 G80 b34 b39 Δ3 (Typed.both s77) at33 (Plain.t-call-plain 𝓤 H A W 𝓣 6 ps·4 r·4 (claims· .8) (claims· .9) "scans::dust_backward" (known .4) E (λ pos β. β) G79 (record { pos = 1; st = List.[]; d = 0; at = λ x. x }, (record { pos = 10; st = (Syntax.field 2) ∷ (Syntax.field 5) ∷ []; d = 64; at = λ x. Window.struct .as-values (State.struct .as-values x .1 .1 .0) .1 .1 .1 .1 .1 .0 }, (Num.vAt 11 λ x. x, (record { pos = 30; ty = y16; ref = λ x. x }, (Num.vFld 10 ((Syntax.field 2) ∷ (Syntax.field 2) ∷ []) 40 λ x. Window.struct .as-values (State.struct .as-values x .1 .1 .0) .1 .1 .0, (Num.vFld 10 ((Syntax.field 2) ∷ (Syntax.field 3) ∷ []) 48 λ x. Window.struct .as-values (State.struct .as-values x .1 .1 .0) .1 .1 .1 .0, (record { pos = 32; ty = y18; ref = λ x. x }, (record { pos = 3; ty = y24; ref = λ x. x }, (record { pos = 4; ty = y25; ref = λ x. x }, (record { pos = 34; ty = y10; ref = λ x. x }, (record { pos = 36; ty = y20; ref = λ x. x }, tt))))))))))) 12 (15 ∷ 16 ∷ 1 ∷ 2 ∷ 17 ∷ 18 ∷ []) (Call.sub-id 𝓤 H A W (G79 .slots)) ((Yields.yields-copy 𝓤 H A W (λ ρ. Unit) q0 Path'.refl (Copies.cStruct Params.the-type Laws'.the-laws Laws'.the-copy .copy 𝓤 H A W) (Rows.whole q0) (λ x. x) (λ x. x) (λ ρ told. Local.mem-whole 𝓤 H A W q0 ρ) λ ρ told. Local.whole-mem 𝓤 H A W q0 ρ, Path'.refl), ((Yields'.yields-acc 𝓤 H A W (Rows.whole q5) q8 64 (λ x. Window.struct .as-values (State.struct .as-values x .1 .1 .0) .1 .1 .1 .1 .1 .0) Path'.refl (Copies.cStruct Carry.the-type Laws.the-laws Laws.the-copy .copy 𝓤 H A W) (Yields'.acc-record 𝓤 H A W (Rows.whole q5) Carry.the-type 64 (λ x. Window.struct .as-values (State.struct .as-values x .1 .1 .0) .1 .1 .1 .1 .1 .0) (Yields'.acc-part 𝓤 H A W (Rows.whole q5) q7 (Struct.Struct (Declared.shape Carry.the-type)) 24 40 (λ x. State.struct .as-values x .1 .1 .0) (λ y. Carry.the-type .to (Window.struct .as-values y .1 .1 .1 .1 .1 .0)) (Yields'.acc-record 𝓤 H A W (Rows.whole q5) Window.the-type 24 (λ x. State.struct .as-values x .1 .1 .0) (Yields'.acc-part 𝓤 H A W (Rows.whole q5) q5 (Struct.Struct (Declared.shape Window.the-type)) 0 24 (λ x. x) (λ y. Window.the-type .to (State.struct .as-values y .1 .1 .0)) (Yields'.acc-whole 𝓤 H A W q5) λ y a. Behind.look-at 𝓤 H A W TreeShare.fullShare State.the-type Laws'4.the-laws 2 24 Path'.refl Path'.refl a y (State.struct .as-values y) Path'.refl)) λ y a. Behind.look-at 𝓤 H A W TreeShare.fullShare Window.the-type Laws'5.the-laws 5 40 Path'.refl Path'.refl a y (Window.struct .as-values y) Path'.refl)), Path'.refl), ((Scalar.reads-sc 𝓤 H A W z0, Path'.refl), (ShrSlice.spares-sslice 𝓤 H A W q3 y16 15, Shared.reads-sslice 𝓤 H A W q3 y16 15, Path'.refl, ((Reads.reads-inner 𝓤 H A W Window.the-type Laws'5.the-laws (Rows.whole q5) 24 (λ x. State.struct .as-values x .1 .1 .0) (Reads.reads-field 𝓤 H A W State.the-type Laws'4.the-laws 2 y5 24 Path'.refl) 2 y1 16 Path'.refl, Path'.refl), ((Reads.reads-inner 𝓤 H A W Window.the-type Laws'5.the-laws (Rows.whole q5) 24 (λ x. State.struct .as-values x .1 .1 .0) (Reads.reads-field 𝓤 H A W State.the-type Laws'4.the-laws 2 y5 24 Path'.refl) 3 y1 24 Path'.refl, Path'.refl), (ShrSlice.spares-sslice 𝓤 H A W q4 y18 16, Shared.reads-sslice 𝓤 H A W q4 y18 16, Path'.refl, (ShrSlice.spares-sslice 𝓤 H A W q2 y24 1, Shared.reads-sslice 𝓤 H A W q2 y24 1, Path'.refl, (ShrSlice.spares-sslice 𝓤 H A W q2 y25 2, Shared.reads-sslice 𝓤 H A W q2 y25 2, Path'.refl, (Reads'.as-is 𝓤 H A (Mut.mslice q4 y10 17), Mut.reads-mslice 𝓤 H A W q4 y10 17, Path'.refl, (Reads'.as-is 𝓤 H A (Mut.mslice Rec·type.the-row y20 18), Mut.reads-mslice 𝓤 H A W Rec·type.the-row y20 18, Path'.refl, tt))))))))))) (Reads'.room-gone 𝓤 H A y8) (tt, (tt, (tt, (tt, (tt, (tt, tt)))))) Path'.refl) d33
+          d34 = Typed.s-seq 𝓤 H A W 𝓣 E G79 G80 b34 b39 Δ3 (Typed.both s77) at33 (Plain.t-call-plain 𝓤 H A W 𝓣 6 ps·4 r·4 (claims· .8) (claims· .9) "scans::dust::dust_backward" (known .4) E (λ pos β. β) G79 (record { pos = 1; st = List.[]; d = 0; at = λ x. x }, (record { pos = 10; st = (Syntax.field 2) ∷ (Syntax.field 5) ∷ []; d = 64; at = λ x. Window.struct .as-values (State.struct .as-values x .1 .1 .0) .1 .1 .1 .1 .1 .0 }, (Num.vAt 11 λ x. x, (record { pos = 30; ty = y16; ref = λ x. x }, (Num.vFld 10 ((Syntax.field 2) ∷ (Syntax.field 2) ∷ []) 40 λ x. Window.struct .as-values (State.struct .as-values x .1 .1 .0) .1 .1 .0, (Num.vFld 10 ((Syntax.field 2) ∷ (Syntax.field 3) ∷ []) 48 λ x. Window.struct .as-values (State.struct .as-values x .1 .1 .0) .1 .1 .1 .0, (record { pos = 32; ty = y18; ref = λ x. x }, (record { pos = 3; ty = y24; ref = λ x. x }, (record { pos = 4; ty = y25; ref = λ x. x }, (record { pos = 34; ty = y10; ref = λ x. x }, (record { pos = 36; ty = y20; ref = λ x. x }, tt))))))))))) 12 (15 ∷ 16 ∷ 1 ∷ 2 ∷ 17 ∷ 18 ∷ []) (Call.sub-id 𝓤 H A W (G79 .slots)) ((Yields.yields-copy 𝓤 H A W (λ ρ. Unit) q0 Path'.refl (Copies.cStruct Params.the-type Laws'.the-laws Laws'.the-copy .copy 𝓤 H A W) (Rows.whole q0) (λ x. x) (λ x. x) (λ ρ told. Local.mem-whole 𝓤 H A W q0 ρ) λ ρ told. Local.whole-mem 𝓤 H A W q0 ρ, Path'.refl), ((Yields'.yields-acc 𝓤 H A W (Rows.whole q5) q8 64 (λ x. Window.struct .as-values (State.struct .as-values x .1 .1 .0) .1 .1 .1 .1 .1 .0) Path'.refl (Copies.cStruct Carry.the-type Laws.the-laws Laws.the-copy .copy 𝓤 H A W) (Yields'.acc-record 𝓤 H A W (Rows.whole q5) Carry.the-type 64 (λ x. Window.struct .as-values (State.struct .as-values x .1 .1 .0) .1 .1 .1 .1 .1 .0) (Yields'.acc-part 𝓤 H A W (Rows.whole q5) q7 (Struct.Struct (Declared.shape Carry.the-type)) 24 40 (λ x. State.struct .as-values x .1 .1 .0) (λ y. Carry.the-type .to (Window.struct .as-values y .1 .1 .1 .1 .1 .0)) (Yields'.acc-record 𝓤 H A W (Rows.whole q5) Window.the-type 24 (λ x. State.struct .as-values x .1 .1 .0) (Yields'.acc-part 𝓤 H A W (Rows.whole q5) q5 (Struct.Struct (Declared.shape Window.the-type)) 0 24 (λ x. x) (λ y. Window.the-type .to (State.struct .as-values y .1 .1 .0)) (Yields'.acc-whole 𝓤 H A W q5) λ y a. Behind.look-at 𝓤 H A W TreeShare.fullShare State.the-type Laws'4.the-laws 2 24 Path'.refl Path'.refl a y (State.struct .as-values y) Path'.refl)) λ y a. Behind.look-at 𝓤 H A W TreeShare.fullShare Window.the-type Laws'5.the-laws 5 40 Path'.refl Path'.refl a y (Window.struct .as-values y) Path'.refl)), Path'.refl), ((Scalar.reads-sc 𝓤 H A W z0, Path'.refl), (ShrSlice.spares-sslice 𝓤 H A W q3 y16 15, Shared.reads-sslice 𝓤 H A W q3 y16 15, Path'.refl, ((Reads.reads-inner 𝓤 H A W Window.the-type Laws'5.the-laws (Rows.whole q5) 24 (λ x. State.struct .as-values x .1 .1 .0) (Reads.reads-field 𝓤 H A W State.the-type Laws'4.the-laws 2 y5 24 Path'.refl) 2 y1 16 Path'.refl, Path'.refl), ((Reads.reads-inner 𝓤 H A W Window.the-type Laws'5.the-laws (Rows.whole q5) 24 (λ x. State.struct .as-values x .1 .1 .0) (Reads.reads-field 𝓤 H A W State.the-type Laws'4.the-laws 2 y5 24 Path'.refl) 3 y1 24 Path'.refl, Path'.refl), (ShrSlice.spares-sslice 𝓤 H A W q4 y18 16, Shared.reads-sslice 𝓤 H A W q4 y18 16, Path'.refl, (ShrSlice.spares-sslice 𝓤 H A W q2 y24 1, Shared.reads-sslice 𝓤 H A W q2 y24 1, Path'.refl, (ShrSlice.spares-sslice 𝓤 H A W q2 y25 2, Shared.reads-sslice 𝓤 H A W q2 y25 2, Path'.refl, (Reads'.as-is 𝓤 H A (Mut.mslice q4 y10 17), Mut.reads-mslice 𝓤 H A W q4 y10 17, Path'.refl, (Reads'.as-is 𝓤 H A (Mut.mslice Rec·type.the-row y20 18), Mut.reads-mslice 𝓤 H A W Rec·type.the-row y20 18, Path'.refl, tt))))))))))) (Reads'.room-gone 𝓤 H A y8) (tt, (tt, (tt, (tt, (tt, (tt, tt)))))) Path'.refl) d33
 
           d35 : Typed.Typed 𝓤 H A 𝓣 E G78 b41 Δ3 at35
           d35 = Typed.s-seq 𝓤 H A W 𝓣 E G78 G79 b33 b40 Δ3 (Typed.ask s76) at34 (Relend.t-sl-aggregate 𝓤 H A W E Rec·type.the-row 𝓣 (Relend.asMut Rec·type.the-row) G78 35 36 18 y20 y20 (λ x. x) (Scalar.oFld 8 ((Syntax.field 1) ∷ []) y1 8 λ v. Shared.lenV (v .0)) (Reads'.as-is 𝓤 H A (Relend.msptr Rec·type.the-row y20 18)) (Reads'.room-gone 𝓤 H A y21) (Relend.reads-owed-len 𝓤 H A W Rec·type.the-row y29 6 18 li4 8 Path'.refl, Path'.refl) Path'.refl Path'.refl λ b o k. tt) d34
@@ -4073,7 +4073,7 @@ module _ (claims· : Claims) where
             r·4
             (claims· .8)
             (claims· .9)
-            "scans::dust_backward")
+            "scans::dust::dust_backward")
             (known5 : Plain.Known
             𝓤
             H

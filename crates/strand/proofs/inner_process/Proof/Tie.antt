@@ -1,6 +1,6 @@
 -- Made by tools/lift from the prover's `Tie` of `inner_process` over a slice of `[u64; 2]`; not to be edited.
 use Rattle.scans.proofs.dust_backward.Met
-use Rattle.scans.proofs.DustBackwardReads as Reads
+use Rattle.scans.proofs.DustDustBackwardReads as Reads
 use Rattle.scans.proofs.dust_backward.Symbol
 use Rattle.strand.proofs.Open.close.Met as Met'
 use Rattle.strand.proofs.Open.close.Reads as Reads'
