@@ -24,13 +24,13 @@ static uint16_t window_counts[KMERS], scan_counts[KMERS];
 
 /* What depends on the contig's length. */
 static uint8_t *contig, *codes, *reverse_codes;
-static uint32_t *list[6];
+static uint32_t (*list[3])[2];
 
 static void free_all(void) {
     free(contig);
     free(codes);
     free(reverse_codes);
-    for (int i = 0; i < 6; i++) free(list[i]);
+    for (int i = 0; i < 3; i++) free(list[i]);
 }
 
 static void stop(const char *what) {
@@ -64,7 +64,7 @@ static int mask(size_t n) {
     uint32_t in_range;
     codes = room(NULL, n);
     reverse_codes = room(NULL, n);
-    for (int i = 0; i < 6; i++) list[i] = room(NULL, rows * sizeof *list[i]);
+    for (int i = 0; i < 3; i++) list[i] = room(NULL, rows * sizeof *list[i]);
 
     int64_t count = longdust_process(
         contig, n, KMER, WINDOW, 0.6,
@@ -74,11 +74,11 @@ static int mask(size_t n) {
         ln, WINDOW + 1, f, WINDOW + 2, queue, WINDOW,
         window_counts, KMERS, scan_counts, KMERS,
         candidates, WINDOW, codes, n, reverse_codes, n,
-        list[0], rows, list[1], rows, list[2], rows, list[3], rows, list[4], rows, list[5], rows,
+        list[0], rows, list[1], rows, list[2], rows,
         &in_range);
 
     if (count < 0) printf("refused %" PRId64 "\n", -count);
-    for (int64_t i = 0; i < count; i++) printf("%" PRIu32 "\t%" PRIu32 "\n", list[4][i], list[5][i]);
+    for (int64_t i = 0; i < count; i++) printf("%" PRIu32 "\t%" PRIu32 "\n", list[2][i][0], list[2][i][1]);
     return count < 0;
 }
 

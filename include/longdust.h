@@ -33,7 +33,7 @@
  *   window_counts, scan_counts        4^k each
  *   candidates                        w
  *   codes, reverse_codes              n each
- *   forward_list, reverse_list, list  R pairs each
+ *   forward_list, reverse_list, list  R each; an interval is two numbers, its start and its end
  * The work slices may hold anything before a call and are left with any content.
  *
  * The result is the number of masked intervals, and list[i][0] to list[i][1] (from 0, the end not

@@ -38,18 +38,12 @@ macro_rules! declare {
                 codes_len: usize,
                 reverse_codes: *mut u8,
                 reverse_codes_len: usize,
-                forward_starts: *mut u32,
-                forward_starts_len: usize,
-                forward_ends: *mut u32,
-                forward_ends_len: usize,
-                reverse_starts: *mut u32,
-                reverse_starts_len: usize,
-                reverse_ends: *mut u32,
-                reverse_ends_len: usize,
-                starts: *mut u32,
-                starts_len: usize,
-                ends: *mut u32,
-                ends_len: usize,
+                forward_list: *mut [u32; 2],
+                forward_list_len: usize,
+                reverse_list: *mut [u32; 2],
+                reverse_list_len: usize,
+                list: *mut [u32; 2],
+                list_len: usize,
                 in_range: *mut u32,
             ) -> i64;
         }
@@ -94,7 +88,7 @@ pub fn call(request: &Request, lent: &mut Buffers) -> (i64, u32) {
     let (candidates, candidates_len) = raw(&mut lent.candidates);
     let (codes, codes_len) = raw(&mut lent.codes);
     let (reverse_codes, reverse_codes_len) = raw(&mut lent.reverse_codes);
-    let [forward_starts, forward_ends, reverse_starts, reverse_ends, starts, ends] = lent.lists.each_mut().map(raw);
+    let [forward, reverse, list] = lent.lists.each_mut().map(raw);
     let mut in_range = 0xdead;
     // SAFETY: each pointer is null with length 0, or to a live slice at least as long as its length; none overlap.
     let result = unsafe {
@@ -127,18 +121,12 @@ pub fn call(request: &Request, lent: &mut Buffers) -> (i64, u32) {
             codes_len,
             reverse_codes,
             reverse_codes_len,
-            forward_starts.0,
-            forward_starts.1,
-            forward_ends.0,
-            forward_ends.1,
-            reverse_starts.0,
-            reverse_starts.1,
-            reverse_ends.0,
-            reverse_ends.1,
-            starts.0,
-            starts.1,
-            ends.0,
-            ends.1,
+            forward.0,
+            forward.1,
+            reverse.0,
+            reverse.1,
+            list.0,
+            list.1,
             &mut in_range,
         )
     };

@@ -65,8 +65,8 @@ pub struct Buffers {
     pub candidates: Lent<Candidate>,
     pub codes: Lent<u8>,
     pub reverse_codes: Lent<u8>,
-    /// Starts and ends of the forward, the reverse and the final list.
-    pub lists: [Lent<u32>; 6],
+    /// The forward, the reverse and the final list: start and end of each interval.
+    pub lists: [Lent<[u32; 2]>; 3],
 }
 
 /// The length of a slice that a request says nothing of, where it is refused before the sizes.
@@ -117,12 +117,13 @@ impl Buffers {
             candidates: Lent::new(length(5), |i| Candidate { pos: any(5, i) as u32, max_score: !any(5, i) }),
             codes: Lent::new(length(6), |i| any(6, i) as u8),
             reverse_codes: Lent::new(length(7), |i| any(7, i) as u8),
-            lists: [8, 9, 10, 11, 12, 13].map(|slice| Lent::new(length(slice), |i| any(slice, i) as u32)),
+            lists: [8, 9, FINAL]
+                .map(|slice| Lent::new(length(slice), |i| [any(slice, i) as u32, !any(slice, i) as u32])),
         }
     }
 
     fn slices(&self) -> [&dyn Slice; SLICES] {
-        let [a, b, c, d, e, g] = &self.lists;
+        let [forward, reverse, mask] = &self.lists;
         [
             &self.ln,
             &self.f,
@@ -132,12 +133,9 @@ impl Buffers {
             &self.candidates,
             &self.codes,
             &self.reverse_codes,
-            a,
-            b,
-            c,
-            d,
-            e,
-            g,
+            forward,
+            reverse,
+            mask,
         ]
     }
 
@@ -147,19 +145,18 @@ impl Buffers {
 
     /// This many intervals of the final list.
     fn mask(&self, count: usize) -> Result<Vec<(usize, usize)>, String> {
-        let [.., starts, ends] = &self.lists;
-        if count > starts.length.min(ends.length) {
+        let [.., mask] = &self.lists;
+        if count > mask.length {
             return Err(format!("count {count} is past the list"));
         }
-        let rows = starts.now.iter().zip(&ends.now).take(count);
-        Ok(rows.map(|(&start, &end)| (start as usize, end as usize)).collect())
+        Ok(mask.now[..count].iter().map(|&[start, end]| (start as usize, end as usize)).collect())
     }
 
     /// Writes an interval of the final list.
     #[cfg(test)]
     pub fn put(&mut self, row: usize, (start, end): (usize, usize)) {
-        let [.., starts, ends] = &mut self.lists;
-        (starts.now[row], ends.now[row]) = (start as u32, end as u32);
+        let [.., mask] = &mut self.lists;
+        mask.now[row] = [start as u32, end as u32];
     }
 
     /// The port's result as an answer, or why it is none.

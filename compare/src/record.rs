@@ -6,10 +6,9 @@
 //!     k w min_start_cnt xdrop_set xdrop approx forward_only T gc_kind gc
 //!         whole numbers and two floats; gc_kind: 0 uniform, 1 fixed, 2 auto; gc is 0 unless fixed
 //!     short
-//!         0: every slice has the listed length; 1 to 14: the slice of this number in the order of the call
+//!         0: every slice has the listed length; 1 to 11: the slice of this number in the order of the call
 //!         (ln, f, queue, window counts, scan counts, candidates, codes, reverse codes,
-//!         then starts and ends of the forward, the reverse and the final list) has one entry less;
-//!         15: every slice is empty
+//!         then the forward, the reverse and the final list) has one entry less; 12: every slice is empty
 //!     tables
 //!         0: the filling call; 1: the call on lent tables, which follow: the number of runs of the ln table,
 //!         for each run how often its entry stands and the entry, a float; then the f table in the same way.
@@ -130,7 +129,7 @@ fn table(table: &[u64]) -> String {
     runs.iter().fold(runs.len().to_string(), |line, (entry, times)| format!("{line} {times} {}", float(*entry)))
 }
 
-/// The word `short` of a record: 0, the number of the only slice that is shorter than listed, or 15 if all are.
+/// The word `short` of a record: 0, the number of the only slice that is shorter than listed, or one past the last if all are.
 fn short(request: &Request) -> usize {
     match request.sizes.iter().position(Option::is_some) {
         None => 0,

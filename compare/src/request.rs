@@ -11,9 +11,8 @@
 //!     seq N, a newline and N raw bytes; seqhex 41c3..; seqrle A*5000 AC*20
 //!     virtual_n N          a length to be checked without its letters or buffers
 //!
-//! Four more lines say what a host may vary without changing the answer, or get wrong:
+//! Three more lines say what a host may vary without changing the answer, or get wrong:
 //!
-//!     size fwd2|rev2|final2 COUNT              the length of the second slice of a pair alone
 //!     gc kind N <hex>      a GC choice that is none of the three
 //!     yes N                the number that stands for a yes
 //!     garbage N            what the buffers hold before the call: 0 zeros, 1 ones, or a seed
@@ -22,18 +21,13 @@ use crate::original::unmodified::{GcOption, LongdustOptions};
 use std::fmt::{self, Display, Formatter, Write};
 
 /// How many slices a call is lent.
-pub const SLICES: usize = 14;
+pub const SLICES: usize = 11;
 /// Their names, in the order of the call.
-pub const NAMES: [&str; SLICES] = [
-    "ln", "f", "queue", "wcounts", "scounts", "cands", "code1", "code2", "fwd", "fwd2", "rev", "rev2", "final",
-    "final2",
-];
+pub const NAMES: [&str; SLICES] =
+    ["ln", "f", "queue", "wcounts", "scounts", "cands", "code1", "code2", "fwd", "rev", "final"];
 pub const LN: usize = 0;
 pub const F: usize = 1;
-/// The final list's.
-pub const FINAL: usize = 12;
-/// Places in NAMES of slices that are the second of a pair.
-const SECOND: [usize; 3] = [9, 11, 13];
+pub const FINAL: usize = 10;
 
 #[derive(Clone, Copy, Debug, PartialEq)]
 pub enum Gc {
@@ -105,18 +99,17 @@ impl Request {
         let (n, w) = (self.sequence.len(), self.window_size);
         let kmers = 1 << (2 * self.kmer);
         let rows = (n + 1) / (self.kmer + 1);
-        [w + 1, w + 2, w, kmers, kmers, w, n, n, rows, rows, rows, rows, rows, rows]
+        [w + 1, w + 2, w, kmers, kmers, w, n, n, rows, rows, rows]
     }
 
     /// The length that a `size` line, or given words, set for a slice.
     pub fn size_said(&self, slice: usize) -> Option<usize> {
-        let pair = if SECOND.contains(&slice) { self.sizes[slice - 1] } else { None };
         let words = match (&self.tables, slice) {
             (Tables::Given { ln, .. }, LN) => Some(ln.len()),
             (Tables::Given { f, .. }, F) => Some(f.len()),
             _ => None,
         };
-        self.sizes[slice].or(pair).or(words)
+        self.sizes[slice].or(words)
     }
 
     pub fn parse(mut text: &[u8]) -> Result<Request, String> {
@@ -316,15 +309,15 @@ mod tests {
     fn reads_every_line() {
         let text = b"# all of it\nseq 3\nA\nC\nk 3 # small\nw 12\nmin_start_cnt 2\nxdrop none\napprox 1\n\
             forward_only 1\nT 3fe0000000000000\ngc fixed 3fd0000000000000\ntables given\n\
-            ln 0*2 0x3ff0000000000000\nf 8000000000000000*14\nln 1*10\nsize fwd2 4\nsize fwd 9\n\
+            ln 0*2 0x3ff0000000000000\nf 8000000000000000*14\nln 1*10\nsize fwd 9\n\
             seqhex 41c3\nseqrle A*3 AC*2 G\n";
         let request = Request::parse(text).unwrap();
         assert_eq!(request.sequence, b"A\nCA\xc3AAAACACG");
         assert_eq!((request.kmer, request.window_size, request.min_start_cnt), (3, 12, 2));
         assert_eq!((request.xdrop, request.approx, request.forward_only), (None, true, true));
         assert_eq!((request.score_threshold, request.gc), (0.5, Gc::Fixed(0.25)));
-        let sizes = [0, 1, 8, 9, 10].map(|slice| request.size_said(slice));
-        assert_eq!(sizes, [Some(13), Some(14), Some(9), Some(4), None]);
+        let sizes = [0, 1, 8, 9].map(|slice| request.size_said(slice));
+        assert_eq!(sizes, [Some(13), Some(14), Some(9), None]);
         assert_eq!(Request::parse(request.to_string().as_bytes()).unwrap(), request);
     }
 
