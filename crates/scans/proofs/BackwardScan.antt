@@ -61,27 +61,25 @@ not-above best sl h = go (lt best sl) (eq best sl) h
     go true c e = e
     go false c e = refl
 
--- ---- A scan, one entry on: b are the sums with the entry at index i - 1 + at, fl its f entry.
-module _ (S : Setup) (window-counts : List ℕ) (quick : Bool) (len : ℕ) (es : List Place) (at i : ℕ) (a : BackwardSums) (counts : List ℕ) (some : 0 < i) (e : Place) (pe : getD es (i - 1) ambiguous ≡ e)
-    (b : BackwardSums) (raised : List ℕ) (fl : Float) (rs : raised ≡ raise counts e) (bs : b ≡ sumsWith S window-counts raised e a) (fs : fl ≡ fAt S (len - (i - 1 + at))) where
+-- ---- A scan, one entry on, at index j: b are the sums with it, fl its f entry.
+module _ (S : Setup) (window-counts : List ℕ) (quick : Bool) (len : ℕ) (es : List Place) (at k j : ℕ) (j-is : j ≡ k + at) (a : BackwardSums) (counts : List ℕ) (e : Place) (pe : getD es k ambiguous ≡ e)
+    (b : BackwardSums) (raised : List ℕ) (rs : raised ≡ raise counts e) (bs : b ≡ sumsWith S window-counts raised e a) where
+  abbrev fl : Float
+  fl = fAt S (len - j)
+
   abbrev sl : Float
   sl = b .s ⊖ fl
-
-  abbrev j : ℕ
-  j = i - 1 + at
 
   abbrev scan : ℕ → BackwardSums → List ℕ → Rest
   scan = restOver S window-counts quick len es at
 
-  pub turn : scan i a counts
+  turn : scan (suc k) a counts
       ≡ cond (lt (b .sw ⊖ fl) zero64) (record { sums = b; low = j; paused = false; done = true; counts = raised })
-      (cond (le (b .best) sl) (scan (i - 1) (raisedAt b sl j) raised)
+      (cond (le (b .best) sl) (scan k (raisedAt b sl j) raised)
       (cond (pauses quick b sl || tooLow (S .drop-limit) b sl)
-      (record { sums = fallenTo b sl; low = j; paused = pauses quick b sl; done = tooLow (S .drop-limit) b sl; counts = raised }) (scan (i - 1) (fallenTo b sl) raised)))
+      (record { sums = fallenTo b sl; low = j; paused = pauses quick b sl; done = tooLow (S .drop-limit) b sl; counts = raised }) (scan k (fallenTo b sl) raised)))
   unfolding restOver
-  turn =
-      let m : i ≡ suc (i - 1) = omega arith in
-      ap (λ (x : ℕ). scan x a counts) m ∙ rw (fs, bs, rs, pe)
+  turn = rw (j-is, bs, rs, pe)
 
 -- ---- The code's loop over the entries of a part, the last first: what is left of the scan is the whole scan.
 count-take : (x i : ℕ) (es : List Place) → i < length es → count x (take (suc i) es) ≡ hit x (getD es i ambiguous) + count x (take i es)
@@ -100,11 +98,16 @@ pub record Scanning (S : Setup) (window-counts : List ℕ) (quick : Bool) (len :
   pub rest : restOver S window-counts quick len (decoded part) at (length part) (backwardOf a) counts₀ ≡ restOver S window-counts quick len (decoded part) at i (backwardOf b) counts
 
 module _ (S : Setup) (window-counts : List ℕ) (quick : Bool) (len : ℕ) (part : List ℕ) (at : ℕ) (a : BackwardState) (counts₀ : List ℕ) where
-  pub scanning-start : Room len window-counts counts₀ (decoded part) → Scanning S window-counts quick len part at a counts₀ (length part) a counts₀
-  scanning-start r =
-      let n : length (decoded part) ≡ length part = decoded-length part in
-      let t : take (length part) (decoded part) ≡ decoded part = ap (λ (z : ℕ). take z (decoded part)) (sym n) ∙ take-all (decoded part) in
-      record { inside = omega arith; same = refl; room = λ x. omega (arith, r .left x, ap (λ (z : List Place). count x z) t); rest = refl }
+  pub scanning-start : (i : ℕ) → i ≡ length part → Room len window-counts counts₀ (decoded part) → Scanning S window-counts quick len part at a counts₀ i a counts₀
+  scanning-start i e r =
+      let n : i ≡ length (decoded part) = e ∙ sym (decoded-length part) in
+      let t : take i (decoded part) ≡ decoded part = ap (λ (z : ℕ). take z (decoded part)) n ∙ take-all (decoded part) in
+      record {
+        inside = omega arith;
+        same = refl;
+        room = λ x. omega (arith, r .left x, ap (λ (z : List Place). count x z) t);
+        rest = ap (λ (z : ℕ). restOver S window-counts quick len (decoded part) at z (backwardOf a) counts₀) (sym e);
+      }
 
   module _ (i : ℕ) (b : BackwardState) (counts : List ℕ) (c : Scanning S window-counts quick len part at a counts₀ i b counts) where
     pub scanning-end : i ≤ 0 → (b′ : BackwardState) → b′ ≡ restsAt b at false false → restOf b′ counts ≡ restOver S window-counts quick len (decoded part) at (length part) (backwardOf a) counts₀
@@ -113,28 +116,28 @@ module _ (S : Setup) (window-counts : List ℕ) (quick : Bool) (len : ℕ) (part
         let n : i ≡ 0 = omega arith in
         sym (c .rest ∙ ap (λ (x : ℕ). restOver S window-counts quick len (decoded part) at x (backwardOf b) counts) n ∙ sym (ap (λ (x : BackwardState). restOf x counts) z))
 
-    module _ (r : Coded part (length counts₀)) (more : 0 < i) where
+    -- The next entry is the part's k-th, and the window's j-th.
+    module _ (r : Coded part (length counts₀)) (k j : ℕ) (i-is : i ≡ suc k) (j-is : j ≡ k + at) where
       abbrev entry : ℕ
-      entry = getD part (i - 1) 0
+      entry = getD part k 0
 
       abbrev e : Place
       e = decode entry
 
-      entry-in : i - 1 < length part
+      entry-in : k < length part
       entry-in = omega (arith, c .inside)
 
-      place : getD (decoded part) (i - 1) ambiguous ≡ e
-      place = decoded-at part (i - 1) entry-in
+      place : getD (decoded part) k ambiguous ≡ e
+      place = decoded-at part k entry-in
 
       below : entry / 2 < length counts
-      below = omega (arith, r .below (i - 1) entry-in, c .same)
+      below = omega (arith, r .below k entry-in, c .same)
 
-      left : (x : ℕ) → getD counts x 0 + (hit x e + count x (take (i - 1) (decoded part))) ≤ getD window-counts x 0
+      left : (x : ℕ) → getD counts x 0 + (hit x e + count x (take k (decoded part))) ≤ getD window-counts x 0
       left x =
-          let m : suc (i - 1) ≡ i = omega arith in
-          let k : count x (take i (decoded part)) ≡ hit x e + count x (take (i - 1) (decoded part)) =
-          ap (λ (z : ℕ). count x (take z (decoded part))) (sym m) ∙ count-take x (i - 1) (decoded part) (omega (arith, entry-in, decoded-length part))
-          ∙ ap (λ (y : Place). hit x y + count x (take (i - 1) (decoded part))) place in
+          let n : count x (take i (decoded part)) ≡ hit x e + count x (take k (decoded part)) =
+          ap (λ (z : ℕ). count x (take z (decoded part))) i-is ∙ count-take x k (decoded part) (omega (arith, entry-in, decoded-length part))
+          ∙ ap (λ (y : Place). hit x y + count x (take k (decoded part))) place in
           omega (arith, c .room x)
 
       uncounted : entry % 2 ≡ 0 → getD counts (entry / 2) 0 < getD window-counts (entry / 2) 0
@@ -146,47 +149,48 @@ module _ (S : Setup) (window-counts : List ℕ) (quick : Bool) (len : ℕ) (part
       add-ready n small long same most = ((omega (arith, below, c .same), below, omega (arith, most (entry / 2)), omega (arith, most (entry / 2))), uncounted)
 
       -- The entry is added: b₁ with counts′.
-      module _ (b₁ : BackwardState) (counts′ : List ℕ) (k : AddsEntry (S .score-threshold) window-counts (S .ln) e b b₁ counts counts′) where
-        abbrev fl : Float
-        fl = fAt S (len - (i - 1 + at))
+      module _ (b₁ : BackwardState) (counts′ : List ℕ) (adds : AddsEntry (S .score-threshold) window-counts (S .ln) e b b₁ counts counts′) where
+        abbrev f-entry : Float
+        f-entry = fAt S (len - j)
 
         abbrev score : Float
-        score = b₁ .s ⊖ fl
+        score = b₁ .s ⊖ f-entry
 
         turned : restOver S window-counts quick len (decoded part) at (length part) (backwardOf a) counts₀
-            ≡ cond (lt (b₁ .sw ⊖ fl) zero64) (record { sums = backwardOf b₁; low = i - 1 + at; paused = false; done = true; counts = counts′ })
-            (cond (le (b₁ .best) score) (restOver S window-counts quick len (decoded part) at (i - 1) (raisedAt (backwardOf b₁) score (i - 1 + at)) counts′)
+            ≡ cond (lt (b₁ .sw ⊖ f-entry) zero64) (record { sums = backwardOf b₁; low = j; paused = false; done = true; counts = counts′ })
+            (cond (le (b₁ .best) score) (restOver S window-counts quick len (decoded part) at k (raisedAt (backwardOf b₁) score j) counts′)
             (cond (pauses quick (backwardOf b₁) score || tooLow (S .drop-limit) (backwardOf b₁) score)
-            (record { sums = fallenTo (backwardOf b₁) score; low = i - 1 + at; paused = pauses quick (backwardOf b₁) score; done = tooLow (S .drop-limit) (backwardOf b₁) score; counts = counts′ })
-            (restOver S window-counts quick len (decoded part) at (i - 1) (fallenTo (backwardOf b₁) score) counts′)))
+            (record { sums = fallenTo (backwardOf b₁) score; low = j; paused = pauses quick (backwardOf b₁) score; done = tooLow (S .drop-limit) (backwardOf b₁) score; counts = counts′ })
+            (restOver S window-counts quick len (decoded part) at k (fallenTo (backwardOf b₁) score) counts′)))
         turned =
-            c .rest ∙ turn S window-counts quick len (decoded part) at i (backwardOf b) counts more e place (backwardOf b₁) counts′ fl (k .counts-are) (ap backwardOf (k .sums-are)) refl
+            c .rest ∙ ap (λ (z : ℕ). restOver S window-counts quick len (decoded part) at z (backwardOf b) counts) i-is
+            ∙ turn S window-counts quick len (decoded part) at k j j-is (backwardOf b) counts e place (backwardOf b₁) counts′ (adds .counts-are) (ap backwardOf (adds .sums-are))
 
-        room-on : (x : ℕ) → getD counts′ x 0 + count x (take (i - 1) (decoded part)) ≤ getD window-counts x 0
-        room-on x = omega (arith, left x, ap (λ (g : List ℕ). getD g x 0) (k .counts-are) ∙ raise-hit counts e x (decode-below (length counts) entry below))
+        room-on : (x : ℕ) → getD counts′ x 0 + count x (take k (decoded part)) ≤ getD window-counts x 0
+        room-on x = omega (arith, left x, ap (λ (g : List ℕ). getD g x 0) (adds .counts-are) ∙ raise-hit counts e x (decode-below (length counts) entry below))
 
         same-on : length counts′ ≡ length counts₀
-        same-on = ap length (k .counts-are) ∙ raise-length counts e ∙ c .same
+        same-on = ap length (adds .counts-are) ∙ raise-length counts e ∙ c .same
 
-        pub scanning-ended : (b′ : BackwardState) → b′ ≡ restsAt b₁ (i - 1 + at) false true → lt (b₁ .sw ⊖ fl) zero64 ≡ true
+        pub scanning-ended : (b′ : BackwardState) → b′ ≡ restsAt b₁ j false true → lt (b₁ .sw ⊖ f-entry) zero64 ≡ true
             → restOf b′ counts′ ≡ restOver S window-counts quick len (decoded part) at (length part) (backwardOf a) counts₀
         scanning-ended b′ z h = sym (turned ∙ rw (h, z))
 
-        module _ (on : lt (b₁ .sw ⊖ fl) zero64 ≡ false) where
-          pub scanning-raised : le (b₁ .best) score ≡ true → (b₂ : BackwardState) → b₂ ≡ withBestAt b₁ score (i - 1 + at) → Scanning S window-counts quick len part at a counts₀ (i - 1) b₂ counts′
+        module _ (on : lt (b₁ .sw ⊖ f-entry) zero64 ≡ false) where
+          pub scanning-raised : le (b₁ .best) score ≡ true → (b₂ : BackwardState) → b₂ ≡ withBestAt b₁ score j → Scanning S window-counts quick len part at a counts₀ k b₂ counts′
           scanning-raised h b₂ z = record { inside = omega (arith, entry-in); same = same-on; room = room-on; rest = turned ∙ rw (on, h, z) }
 
           module _ (h : le (b₁ .best) score ≡ false) (b₂ : BackwardState) (z : b₂ ≡ withPrevious b₁ score) where
-            pub scanning-paused : pauses quick (backwardOf b₁) score ≡ true → (low : Bool) → low ≡ tooLow (S .drop-limit) (backwardOf b₁) score → (b′ : BackwardState) → b′ ≡ restsAt b₂ (i - 1 + at) true low
+            pub scanning-paused : pauses quick (backwardOf b₁) score ≡ true → (low : Bool) → low ≡ tooLow (S .drop-limit) (backwardOf b₁) score → (b′ : BackwardState) → b′ ≡ restsAt b₂ j true low
                 → restOf b′ counts′ ≡ restOver S window-counts quick len (decoded part) at (length part) (backwardOf a) counts₀
             scanning-paused t low d b′ y = sym (turned ∙ rw (on, h, t, y, z, d))
 
             module _ (n : pauses quick (backwardOf b₁) score ≡ false) where
-              pub scanning-stopped : tooLow (S .drop-limit) (backwardOf b₁) score ≡ true → (b′ : BackwardState) → b′ ≡ restsAt b₂ (i - 1 + at) false true
+              pub scanning-stopped : tooLow (S .drop-limit) (backwardOf b₁) score ≡ true → (b′ : BackwardState) → b′ ≡ restsAt b₂ j false true
                   → restOf b′ counts′ ≡ restOver S window-counts quick len (decoded part) at (length part) (backwardOf a) counts₀
               scanning-stopped t b′ y = sym (turned ∙ rw (on, h, n, t, y, z))
 
-              pub scanning-fallen : tooLow (S .drop-limit) (backwardOf b₁) score ≡ false → Scanning S window-counts quick len part at a counts₀ (i - 1) b₂ counts′
+              pub scanning-fallen : tooLow (S .drop-limit) (backwardOf b₁) score ≡ false → Scanning S window-counts quick len part at a counts₀ k b₂ counts′
               scanning-fallen t = record { inside = omega (arith, entry-in); same = same-on; room = room-on; rest = turned ∙ rw (on, h, n, t, z) }
 
 at-same : (q es : List Place) (at : ℕ) → Stands q es at → (m : ℕ) → m < length es → getD q (m + at) ambiguous ≡ getD es m ambiguous

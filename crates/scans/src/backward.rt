@@ -183,12 +183,17 @@ fn backward_part(
 {
     let mut st = state;
     let from = state.low - part.len();
-    let mut i = part.len();
-    while 0 < i {
-        i -= 1;
-        let at = i + from;
+    let mut at = state.low;
+    while from < at {
+        at -= 1;
         let fl = f[len - at];
-        st = st.add_entry(p.score_threshold, part[i], window_counts, ln, scan_counts);
+        st = st.add_entry(
+            p.score_threshold,
+            part[at - from],
+            window_counts,
+            ln,
+            scan_counts,
+        );
         if st.sw - fl < 0.0 {
             return st.resting(at, false, true);
         }

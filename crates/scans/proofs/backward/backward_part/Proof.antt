@@ -1,5 +1,5 @@
 use mathlib.Core.Path.{sym, _∙_}
-use Prim.Native.Nat.{_-_}
+use Prim.Native.Nat.{_-_, _≤_}
 use native.Mathlib.Omega.{arith}
 use borrow.Author.Needs.{needs}
 use Rattle.scans.specs.Setup.{setupOf}
@@ -8,10 +8,10 @@ use Rattle.scans.proofs.backward.backward_part.Statement.{statement}
 use Rattle.scans.proofs.backward.backward_part.Tie as tie
 
 abbrev Inv-loop : tie.InvT-loop
-Inv-loop p quick part len window-counts ln f scan-counts₀ st₀ from i₀ scan-counts st i = Scanning (setupOf p ln f) window-counts quick len part from st₀ scan-counts₀ i st scan-counts
+Inv-loop p quick part len window-counts ln f scan-counts₀ st₀ from at₀ scan-counts st at = (from ≤ at) × Scanning (setupOf p ln f) window-counts quick len part from st₀ scan-counts₀ (at - from) st scan-counts
 
 abbrev μ-loop : tie.MeasureT-loop
-μ-loop p quick part len window-counts ln f scan-counts₀ st₀ from i₀ scan-counts st i = i
+μ-loop p quick part len window-counts ln f scan-counts₀ st₀ from at₀ scan-counts st at = at
 
 abbrev start : tie.At-loop Inv-loop μ-loop → tie.Start Inv-loop μ-loop
 start c = c .before .before .before .before .before .before .before
@@ -32,40 +32,40 @@ abbrev going : tie.Else2 Inv-loop μ-loop → tie.Else1 Inv-loop μ-loop
 going c = c .before .before .before
 
 loop-holds : tie.Need-loop-holds Inv-loop μ-loop
-loop-holds c = scanning-start _ _ _ _ _ _ _ _ (c .before .before .before .before .before .before .pre .1 .1)
-
-add-at : tie.Need-add-at Inv-loop μ-loop
-add-at c = let a = c .before in omega (arith, c .loop-test .taken, a .loop .inv .inside, start a .pre .0)
+loop-holds c = let s = c .before .before .before .before .before .before .pre in (omega arith, scanning-start _ _ _ _ _ _ _ _ _ (omega (arith, s .0)) (s .1 .1))
 
 sub-fl : tie.Need-sub-fl Inv-loop μ-loop
-sub-fl c = let a = c .before in omega (arith, c .loop-test .taken, a .loop .inv .inside, start a .pre .0)
+sub-fl c = let a = c .before in omega (arith, c .loop-test .taken, a .loop .inv .1 .inside, start a .pre .0)
 
 mul-fl : tie.Need-mul-fl Inv-loop μ-loop
 mul-fl c = omega (arith, start (c .before) .pre .0)
 
 shared-slice-read-fl : tie.Need-shared-slice-read-fl Inv-loop μ-loop
-shared-slice-read-fl c = omega (arith, start (c .before .before) .pre .0)
+shared-slice-read-fl c = omega (arith, c .before .loop-test .taken, start (c .before .before) .pre .0)
+
+sub-add-entry : tie.Need-sub-add-entry Inv-loop μ-loop
+sub-add-entry c = omega (arith, c .before .loop-test .taken)
 
 mul-add-entry : tie.Need-mul-add-entry Inv-loop μ-loop
-mul-add-entry c = let a = c .before .before in omega (arith, c .before .loop-test .taken, a .loop .inv .inside, start a .pre .0)
+mul-add-entry c = let a = c .before .before in omega (arith, c .before .loop-test .taken, a .loop .inv .1 .inside, start a .pre .0)
 
 shared-slice-read-add-entry : tie.Need-shared-slice-read-add-entry Inv-loop μ-loop
-shared-slice-read-add-entry c = let d = c .before .before in omega (arith, d .loop-test .taken, d .before .loop .inv .inside)
+shared-slice-read-add-entry c = let d = c .before .before in omega (arith, d .loop-test .taken, d .before .loop .inv .1 .inside)
 
 add-entry-requires : tie.Need-add-entry-requires Inv-loop μ-loop
 add-entry-requires c κs =
     let d = c .before .before .before in
     let a = d .before in
     let s = start a .pre in
-    add-ready _ _ _ _ _ _ _ _ _ _ _ (a .loop .inv) (s .1 .0 .0) (d .loop-test .taken) _ (s .0 .2) (s .0 .3) (s .1 .0 .1) (s .1 .1 .at-most)
+    add-ready _ _ _ _ _ _ _ _ _ _ _ (a .loop .inv .1) (s .1 .0 .0) _ (a .loop .at - 1) (omega (arith, d .loop-test .taken)) (omega (arith, d .loop-test .taken)) _ (s .0 .2) (s .0 .3) (s .1 .0 .1) (s .1 .1 .at-most)
 
 returns : tie.Need-returns Inv-loop μ-loop
 returns c =
     let k = c .before .before .before .before .before in
-    scanning-ended _ _ _ _ _ _ _ _ _ _ _ (at-loop k .loop .inv) (begun k .pre .1 .0 .0) (looping k .loop-test .taken) _ _ (k .add-entry .ensures) _ (c .resting .ensures) (c .before .if1 .taken)
+    scanning-ended _ _ _ _ _ _ _ _ _ _ _ (at-loop k .loop .inv .1) (begun k .pre .1 .0 .0) _ (at-loop k .loop .at - 1) (omega (arith, looping k .loop-test .taken)) (omega (arith, looping k .loop-test .taken)) _ _ (k .add-entry .ensures) _ (c .resting .ensures) (c .before .if1 .taken)
 
 raised-requires : tie.Need-raised-requires Inv-loop μ-loop
-raised-requires c κs = let k = added (c .before .before .before) in omega (arith, looping k .loop-test .taken, at-loop k .loop .inv .inside, begun k .pre .0)
+raised-requires c κs = let k = added (c .before .before .before) in omega (arith, looping k .loop-test .taken, at-loop k .loop .inv .1 .inside, begun k .pre .0)
 
 loop-less : tie.Need-loop-less Inv-loop μ-loop
 loop-less c = omega (arith, looping (added (c .before .before .before .before)) .loop-test .taken)
@@ -74,12 +74,12 @@ loop-again : tie.Need-loop-again Inv-loop μ-loop
 loop-again c =
     let o = c .before .before .before .before in
     let k = added o in
-    scanning-raised _ _ _ _ _ _ _ _ _ _ _ (at-loop k .loop .inv) (begun k .pre .1 .0 .0) (looping k .loop-test .taken) _ _ (k .add-entry .ensures) (o .if1 .left) (c .before .if2 .taken) _ (c .raised .ensures)
+    (omega (arith, looping k .loop-test .taken), scanning-raised _ _ _ _ _ _ _ _ _ _ _ (at-loop k .loop .inv .1) (begun k .pre .1 .0 .0) _ (at-loop k .loop .at - 1) (omega (arith, looping k .loop-test .taken)) (omega (arith, looping k .loop-test .taken)) _ _ (k .add-entry .ensures) (o .if1 .left) (c .before .if2 .taken) _ (c .raised .ensures))
 
 same-length-2 : tie.Need-same-length-2 Inv-loop μ-loop
 same-length-2 c =
     let k = added (going (c .before .before .before .before .before)) in
-    k .add-entry .kept .1 .1 .1 .1 .1 .0 ∙ at-loop k .loop .inv .same
+    k .add-entry .kept .1 .1 .1 .1 .1 .0 ∙ at-loop k .loop .inv .1 .same
 
 returns-2 : tie.Need-returns-2 Inv-loop μ-loop
 returns-2 c =
@@ -88,13 +88,13 @@ returns-2 c =
     let b = t .before .before in
     let o = going b in
     let k = added o in
-    scanning-paused _ _ _ _ _ _ _ _ _ _ _ (at-loop k .loop .inv) (begun k .pre .1 .0 .0) (looping k .loop-test .taken) _ _ (k .add-entry .ensures) (o .if1 .left) (b .if2 .left) _ (c .before .fallen .ensures)
+    scanning-paused _ _ _ _ _ _ _ _ _ _ _ (at-loop k .loop .inv .1) (begun k .pre .1 .0 .0) _ (at-loop k .loop .at - 1) (omega (arith, looping k .loop-test .taken)) (omega (arith, looping k .loop-test .taken)) _ _ (k .add-entry .ensures) (o .if1 .left) (b .if2 .left) _ (c .before .fallen .ensures)
     (sym (t .before .pauses .ensures) ∙ t .if3 .taken) _ (d .too-low .ensures) _ (c .resting2 .ensures)
 
 same-length-3 : tie.Need-same-length-3 Inv-loop μ-loop
 same-length-3 c =
     let k = added (going (c .before .before .before .before .before .before)) in
-    k .add-entry .kept .1 .1 .1 .1 .1 .0 ∙ at-loop k .loop .inv .same
+    k .add-entry .kept .1 .1 .1 .1 .1 .0 ∙ at-loop k .loop .inv .1 .same
 
 returns-3 : tie.Need-returns-3 Inv-loop μ-loop
 returns-3 c =
@@ -103,7 +103,7 @@ returns-3 c =
     let b = e .before .before in
     let o = going b in
     let k = added o in
-    scanning-stopped _ _ _ _ _ _ _ _ _ _ _ (at-loop k .loop .inv) (begun k .pre .1 .0 .0) (looping k .loop-test .taken) _ _ (k .add-entry .ensures) (o .if1 .left) (b .if2 .left) _ (c .before .fallen2 .ensures)
+    scanning-stopped _ _ _ _ _ _ _ _ _ _ _ (at-loop k .loop .inv .1) (begun k .pre .1 .0 .0) _ (at-loop k .loop .at - 1) (omega (arith, looping k .loop-test .taken)) (omega (arith, looping k .loop-test .taken)) _ _ (k .add-entry .ensures) (o .if1 .left) (b .if2 .left) _ (c .before .fallen2 .ensures)
     (sym (e .before .pauses .ensures) ∙ e .if3 .left) (sym (t .before .too-low2 .ensures) ∙ t .if4 .taken) _ (c .resting3 .ensures)
 
 loop-less-2 : tie.Need-loop-less-2 Inv-loop μ-loop
@@ -115,15 +115,17 @@ loop-again-2 c =
     let e = t .before .before in
     let b = e .before .before in
     let o = going b in
-    let k = added o in
-    scanning-fallen _ _ _ _ _ _ _ _ _ _ _ (at-loop k .loop .inv) (begun k .pre .1 .0 .0) (looping k .loop-test .taken) _ _ (k .add-entry .ensures) (o .if1 .left) (b .if2 .left) _ (c .fallen3 .ensures)
-    (sym (e .before .pauses .ensures) ∙ e .if3 .left) (sym (t .before .too-low2 .ensures) ∙ t .if4 .left)
+    let k = added o in (
+      omega (arith, looping k .loop-test .taken),
+      scanning-fallen _ _ _ _ _ _ _ _ _ _ _ (at-loop k .loop .inv .1) (begun k .pre .1 .0 .0) _ (at-loop k .loop .at - 1) (omega (arith, looping k .loop-test .taken)) (omega (arith, looping k .loop-test .taken)) _ _ (k .add-entry .ensures) (o .if1 .left) (b .if2 .left) _ (c .fallen3 .ensures)
+          (sym (e .before .pauses .ensures) ∙ e .if3 .left) (sym (t .before .too-low2 .ensures) ∙ t .if4 .left),
+    )
 
 same-length-4 : tie.Need-same-length-4 Inv-loop μ-loop
-same-length-4 c = c .before .before .loop .inv .same
+same-length-4 c = c .before .before .loop .inv .1 .same
 
 returns-4 : tie.Need-returns-4 Inv-loop μ-loop
-returns-4 c = scanning-end _ _ _ _ _ _ _ _ _ _ _ (c .before .before .loop .inv) (c .before .loop-test .left) _ (c .resting4 .ensures)
+returns-4 c = scanning-end _ _ _ _ _ _ _ _ _ _ _ (c .before .before .loop .inv .1) (omega (arith, c .before .loop-test .left)) _ (c .resting4 .ensures)
 
 pub backward-part-spec : {M : Type 1} → statement M
 backward-part-spec =
@@ -134,10 +136,10 @@ backward-part-spec =
     (λ c. search needs)
     loop-holds
     (λ c. search needs)
-    add-at
     sub-fl
     mul-fl
     shared-slice-read-fl
+    sub-add-entry
     mul-add-entry
     shared-slice-read-add-entry
     add-entry-requires
