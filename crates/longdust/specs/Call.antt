@@ -40,7 +40,8 @@ pub record Refused (b b′ : Buffers) (r : Answer) : Type 0 where
   pub flag : r .«in_range» ≡ false
   pub same : b′ ≡ b
 
--- The final list holds the mask, by the tables that the run reads, its other entries unchanged; the others hold free content within the listed sizes.
+-- The final list holds the mask, by the tables that the run reads, its other entries unchanged.
+-- The other buffers hold free content within the listed sizes.
 pub record Masked (o : LongdustOptions) (s : List ℕ) (b b′ : Buffers) (count : ℕ) : Type 0 where
   pub list : Wrote (mask o s (lnRead o b′) (fRead o b′)) (b .list) (b′ .list) count
   pub queue : Free (o .«window_size») (b .queue) (b′ .queue)
@@ -71,7 +72,8 @@ pub record Filled (o : LongdustOptions) (s : List ℕ) (b b′ : Buffers) : Type
   pub f : b′ .f ≡ put (fTable (o .kmer) (o .«window_size») (density (o .kmer) (o .gc) (codes s))) (b .f)
 
 -- What both calls answer; `Tables` says what the tables hold after acceptance.
-pub record Answered (Tables : LongdustOptions → List ℕ → Buffers → Buffers → Type 0) (o : LongdustOptions) (s : List ℕ) (b b′ : Buffers) (r : Answer) : Type 0 where
+pub record Answered (Tables : LongdustOptions → List ℕ → Buffers → Buffers → Type 0) (o : LongdustOptions) (s : List ℕ)
+    (b b′ : Buffers) (r : Answer) : Type 0 where
   pub number : r .refusal ≡ refusal o s (lengths b)
   pub refused : 0 < r .refusal → Refused b b′ r
   pub accepted : r .refusal ≡ 0 → Accepted o s b b′ r

@@ -7,7 +7,8 @@ use lib.ListN.{length}
 use lib.Ieee.{le}
 use Rattle.floats.specs.Binary64.{zero64, one64}
 use Rattle.checks.specs.Checks.{Check, check, first}
-use Rattle.checks.specs.Tests.{kmerOutside, anyHigh, tooFewLetters, windowBelow, windowAbove, thresholdBad, minStartBelow, tooManyLetters, mostIntervals}
+use Rattle.checks.specs.Tests.{kmerOutside, anyHigh, tooFewLetters, windowBelow, windowAbove, thresholdBad}
+use Rattle.checks.specs.Tests.{minStartBelow, tooManyLetters, mostIntervals}
 use Rattle.scans.specs.declared.Xdrop.{Xdrop}
 use Rattle.scans.specs.declared.Xdrop.the-variants.{Off, Length}
 use Rattle.tables.specs.declared.GcOption.{GcOption}

@@ -111,7 +111,8 @@ pub extern "C" fn longdust_process_tables(
     in_range: &mut u32,
 ) -> i64
     ensures { λ r. ⌜ Exported Kept
-        (optionsOf kmer «window_size» «score_threshold» «gc_kind» «gc_value» «xdrop_set» «xdrop_length» «min_start_cnt» approx «forward_only»)
+        (optionsOf kmer «window_size» «score_threshold» «gc_kind» «gc_value» «xdrop_set» «xdrop_length»
+        «min_start_cnt» approx «forward_only»)
         (now (sequence .entry))
         (buffers (now (ln .entry)) (now (f .entry)) (now (queue .entry)) (now («window_counts» .entry)) (now («scan_counts» .entry))
         (now (candidates .entry)) (now (codes .entry)) (now («reverse_codes» .entry))
@@ -180,7 +181,8 @@ pub extern "C" fn longdust_process(
     in_range: &mut u32,
 ) -> i64
     ensures { λ r. ⌜ Exported Filled
-        (optionsOf kmer «window_size» «score_threshold» «gc_kind» «gc_value» «xdrop_set» «xdrop_length» «min_start_cnt» approx «forward_only»)
+        (optionsOf kmer «window_size» «score_threshold» «gc_kind» «gc_value» «xdrop_set» «xdrop_length»
+        «min_start_cnt» approx «forward_only»)
         (now (sequence .entry))
         (buffers (now (ln .entry)) (now (f .entry)) (now (queue .entry)) (now («window_counts» .entry)) (now («scan_counts» .entry))
         (now (candidates .entry)) (now (codes .entry)) (now («reverse_codes» .entry))

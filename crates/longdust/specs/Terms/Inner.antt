@@ -80,11 +80,13 @@ pub record ReverseLent (p : Params) (n n-ln n-f n-queue n-window-counts n-scan-c
 -- Both strands' buffers, at p's numbers and n letters.
 pub record Exact (p : Params) (n : ℕ) (b : Lent) : Type 0 where
   pub forward : StrandLent p n (b .ln) (b .f) (b .queue) (b .«window_counts») (b .«scan_counts») (b .candidates) (b .«forward_list»)
-  pub reverse : ReverseLent p n (b .ln) (b .f) (b .queue) (b .«window_counts») (b .«scan_counts») (b .candidates) (b .«reverse_codes») (b .«reverse_list»)
+  pub reverse : ReverseLent p n (b .ln) (b .f) (b .queue) (b .«window_counts») (b .«scan_counts») (b .candidates) (b .«reverse_codes»)
+      (b .«reverse_list»)
   pub list : mostIntervals n (p .kmer) ≤ b .list
 
 -- Two lists in the fronts of their slices, the second within n letters, and room for what they give joined.
-pub record Mergeable (forward : List (List ℕ)) (forward-count : ℕ) (reverse : List (List ℕ)) (reverse-count n : ℕ) (list : List (List ℕ)) : Type 0 where
+pub record Mergeable (forward : List (List ℕ)) (forward-count : ℕ) (reverse : List (List ℕ)) (reverse-count n : ℕ)
+    (list : List (List ℕ)) : Type 0 where
   pub forward-within : forward-count ≤ length forward
   pub reverse-within : reverse-count ≤ length reverse
   pub inside : Inside n (listOf (take reverse-count reverse))

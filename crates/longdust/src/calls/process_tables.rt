@@ -9,7 +9,7 @@ use crate::refusals::check;
 use crate::refusals::refused;
 use crate::run::mask_encoded;
 
-// Masks `sequence` by the tables `ln` and `f`. The intervals go to the front of `list`; the answer has their count, or the refusal's number.
+// Masks `sequence` by the tables `ln` and `f`. The intervals go to the front of `list`; the answer has their count, or the refusal.
 pub fn process_tables(
     sequence: &[u8],
     options: LongdustOptions,
