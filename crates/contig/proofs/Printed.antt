@@ -12,14 +12,14 @@ use Rattle.intervals.specs.Rows.{rows, Room}
 use Rattle.intervals.proofs.Rows.{length-rows}
 use Rattle.intervals.proofs.Shape.{ascending-inside, canonical-room}
 use Rattle.intervals.proofs.Order.{lt-or-le}
-use Rattle.report.specs.Letters.{lettersOf, kept}
+use Rattle.report.specs.Letters.{lettersOf, Holds}
 use Rattle.report.specs.Text.{report, refusalLine, sizeLine}
 use Rattle.report.specs.Written.{Fits}
 use Rattle.report.proofs.Decimal.{length-decimal}
 use Rattle.report.proofs.Lines.{length-report}
 use Rattle.contig.specs.declared.Outcome.{Outcome}
 use Rattle.contig.specs.Run.{contigRefusal, contigMask, unless, Ran}
-use Rattle.contig.specs.Printed.{answered, printed}
+use Rattle.contig.specs.Printed.{answered, printed, textOf}
 
 pub too-many : (s : List ℕ) → 32768 < length s → sizeLine ≡ printed s
 unfolding printed
@@ -63,13 +63,14 @@ module _ {s starts ends starts′ ends′ : List ℕ} {r : Outcome} (few-letters
       let h = count-small in
       record { room = omega (arith, length-report (length s) is (omega arith) (ascending-inside (length s) 7 0 is shape) (omega arith)) }
 
--- A buffer for more than 32,768 letters loses none that matter.
-pub printed-kept : (size : ℕ) (bytes : List ℕ) → 32768 < size → printed (kept size [] bytes) ≡ printed (lettersOf bytes)
-unfolding kept
-printed-kept size bytes h =
-    ⊎-elim
-    (λ (more : size < length (lettersOf bytes)).
-    let l : length (take size (lettersOf bytes)) ≡ size = length-take-le size (lettersOf bytes) (omega arith) in
-    sym (too-many (take size (lettersOf bytes)) (omega arith)) ∙ too-many (lettersOf bytes) (omega arith))
-    (λ (all : length (lettersOf bytes) ≤ size). ap printed (take-all size (lettersOf bytes) all))
-    (lt-or-le size (length (lettersOf bytes)))
+-- A buffer for more than 32,768 letters loses none that matters.
+pub printed-held : {bytes d : List ℕ} {count : ℕ} → 32768 < length d → Holds bytes d count → printed (take count d) ≡ textOf bytes
+unfolding textOf
+printed-held {bytes} {d} h k =
+    ap printed (k .letters-are)
+    ∙ ⊎-elim
+    (λ (more : length d < length (lettersOf bytes)).
+    let l : length (take (length d) (lettersOf bytes)) ≡ length d = length-take-le (length d) (lettersOf bytes) (omega arith) in
+    sym (too-many (take (length d) (lettersOf bytes)) (omega arith)) ∙ too-many (lettersOf bytes) (omega arith))
+    (λ (all : length (lettersOf bytes) ≤ length d). ap printed (take-all (length d) (lettersOf bytes) all))
+    (lt-or-le (length d) (length (lettersOf bytes)))

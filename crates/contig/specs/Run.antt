@@ -15,6 +15,16 @@ use Rattle.longdust.specs.Checks.{refusal}
 use Rattle.longdust.specs.Mask.{mask}
 use Rattle.contig.specs.declared.Outcome.{Outcome}
 
+-- The most letters that are taken, R of them, and the length of the longest text: R lines of 12 bytes and the count's line of 15.
+abbrev pub mostLetters : ℕ
+mostLetters = 32768
+
+abbrev pub mostIntervals : ℕ
+mostIntervals = 4096
+
+abbrev pub mostText : ℕ
+mostText = 49167
+
 -- The buffers' sizes for 32,768 letters, k = 7 and w = 5,000.
 abbrev pub lent : Lent
 lent =

@@ -42,6 +42,32 @@ module _ {xs d : List ℕ} {from : ℕ} {d′ : List ℕ} {i : ℕ} (k : Copying
             ∙ ap (λ (l : List ℕ). take from d ++ (l ++ drop (from + i) d)) (take-all i xs h);
       }
 
+-- A text that was written, from what stands before its end and after it.
+pub written-by : {xs d d′ : List ℕ} {from end : ℕ} → from ≤ length d → end ≤ length d′ → take end d′ ≡ take from d ++ xs
+    → drop end d′ ≡ drop end d → Written xs d from d′ end
+written-by {xs} {d} {d′} {from} {end} h r t e =
+    record {
+      end-is =
+          sym (length-take-le end d′ r)
+          ∙ ap (λ (l : List ℕ). length l) t
+          ∙ length-append (take from d) xs
+          ∙ ap (λ (n : ℕ). n + length xs) (length-take-le from d h);
+      text-is =
+          sym (take-append-drop end d′)
+          ∙ ap₂ (λ (l m : List ℕ). l ++ m) t e
+          ∙ append-assoc (take from d) xs (drop end d);
+    }
+
+-- What stands before its end.
+pub take-written : {xs d d′ : List ℕ} {from end : ℕ} → from ≤ length d → Written xs d from d′ end → take end d′ ≡ take from d ++ xs
+take-written {xs} {d} {d′} {from} {end} h w =
+    ap (λ (l : List ℕ). take end l) (w .text-is ∙ sym (append-assoc (take from d) xs (drop end d)))
+    ∙ take-at
+    (take from d ++ xs)
+    (drop end d)
+    end
+    (length-append (take from d) xs ∙ omega (arith, length-take-le from d h, w .end-is))
+
 -- A second text after the first.
 pub next : {xs ys d d′ d″ : List ℕ} {from at end : ℕ} → Fits (xs ++ ys) d from → Written xs d from d′ at → Written ys d′ at d″ end
     → Written (xs ++ ys) d from d″ end

@@ -1,22 +1,28 @@
 // What a program reads and prints: the letters of the bytes that it reads, and the text of a report.
 
-ghost use Prim.Native.Nat.{_≤_};
+ghost use Prim.Native.Nat.{ℕ, _≤_};
+ghost use mathlib.Core.List.{List, _++_};
 ghost use lib.ListN.{length};
+ghost use Rattle.io.specs.Counts.{Counts};
 ghost use Rattle.intervals.specs.Interval.{interval};
 ghost use Rattle.intervals.specs.Rows.{rows, Room};
-ghost use Rattle.report.specs.Letters.{KeptLetters};
+ghost use Rattle.report.specs.Letters.{fitting, Holds};
 ghost use Rattle.report.specs.Text.{decimal, line, lines, numbered, countLine, report, refusalLine, sizeLine};
 ghost use Rattle.report.specs.Written.{Fits, Written};
 
-// Puts the bytes but 10 after the first `count` letters, as many as there is room for, and answers how many letters there are then.
-pub fn keep_letters(bytes: &[u8], letters: &mut [u8], count: usize) -> usize
+// Joins a block of bytes to those read before it: its letters, as many as there is room for, follow the `count` that the buffer
+// holds. Answers how many it holds then.
+pub fn keep_letters(block: &[u8], letters: &mut [u8], count: usize) -> usize
     requires { ⌜ count ≤ length (now letters) ⌝ }
-    ensures { λ r. ⌜ KeptLetters (now (bytes .entry)) (now (letters .entry)) count (now (letters .exit)) r ⌝ }
+    ensures { λ r. ⌜ (let D = now (letters .entry) in Written (fitting (now (block .entry)) D count) D count (now (letters .exit)) r) ⌝ }
+    ensures { λ r. ⌜ ((bytes : List ℕ) → Holds bytes (now (letters .entry)) count
+        → Holds (bytes ++ now (block .entry)) (now (letters .exit)) r) ⌝ }
+    ensures { λ r. ⌜ Counts r (now (letters .exit)) ⌝ }
 {
     let mut at = count;
     let mut i = 0;
-    while i < bytes.len() {
-        let byte = bytes[i];
+    while i < block.len() {
+        let byte = block[i];
         i += 1;
         if byte == 10 {
             continue;

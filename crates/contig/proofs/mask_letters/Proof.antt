@@ -6,15 +6,6 @@ use Rattle.contig.proofs.mask_letters.Proof.Tie as tie
 mod Lts
 mod Tie
 
-no-candidates-requires : tie.Need-no-candidates-requires
-no-candidates-requires c κs = search needs
-
-default-requires : tie.Need-default-requires
-default-requires c κs = search needs
-
-process-requires : tie.Need-process-requires
-process-requires c κs = search needs
-
 returns : tie.Need-returns
 returns c =
     let P = c .before .before .before .before .before .before .before .before .before .before .before .before .before .before .before .before in
@@ -26,8 +17,8 @@ pub mask-letters-spec : {M : Type 1} → statement M
 mask-letters-spec =
     tie.close
     (tie.spec
-    no-candidates-requires
-    default-requires
+    (λ c κs. search needs)
+    (λ c κs. search needs)
     (λ c. search needs)
     (λ c. search needs)
     (λ c. search needs)
@@ -40,7 +31,7 @@ mask-letters-spec =
     (λ c. search needs)
     (λ c. search needs)
     (λ c. search needs)
-    process-requires
+    (λ c κs. search needs)
     (λ c. search needs)
     (λ c. search needs)
     returns)

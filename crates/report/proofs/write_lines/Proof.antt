@@ -14,37 +14,16 @@ abbrev μ-loop : tie.MeasureT-loop
 loop-holds : tie.Need-loop-holds Inv-loop μ-loop
 loop-holds c = list-none _ _ _ _ _
 
-mul-write-line : tie.Need-mul-write-line Inv-loop μ-loop
-mul-write-line c = search needs
-
-shared-slice-read-write-line : tie.Need-shared-slice-read-write-line Inv-loop μ-loop
-shared-slice-read-write-line c = search needs
-
-mul-write-line-2 : tie.Need-mul-write-line-2 Inv-loop μ-loop
-mul-write-line-2 c = search needs
-
-shared-slice-read-write-line-2 : tie.Need-shared-slice-read-write-line-2 Inv-loop μ-loop
-shared-slice-read-write-line-2 c = search needs
-
 write-line-requires : tie.Need-write-line-requires Inv-loop μ-loop
 write-line-requires c κs =
     let L = c .before .before .before .before in
     list-fits (L .loop .inv) (c .before .before .before .loop-test .taken) (L .before .before .before .before .pre .1)
-
-add-i : tie.Need-add-i Inv-loop μ-loop
-add-i c = search needs
-
-loop-less : tie.Need-loop-less Inv-loop μ-loop
-loop-less c = search needs
 
 loop-again : tie.Need-loop-again Inv-loop μ-loop
 loop-again c =
     let W = c .before .before .write-line in
     let T = c .before .before .before .before .before .before in
     list-next (T .before .loop .inv) (T .loop-test .taken) (T .before .before .before .before .before .pre .1) (W .kept .1 .1 .0) (W .ensures)
-
-same-length : tie.Need-same-length Inv-loop μ-loop
-same-length c = search needs
 
 returns : tie.Need-returns Inv-loop μ-loop
 returns c = listed (c .before .loop .inv) (c .loop-test .left)
@@ -56,13 +35,13 @@ write-lines-spec =
     Inv-loop
     μ-loop
     loop-holds
-    mul-write-line
-    shared-slice-read-write-line
-    mul-write-line-2
-    shared-slice-read-write-line-2
+    (λ c. search needs)
+    (λ c. search needs)
+    (λ c. search needs)
+    (λ c. search needs)
     write-line-requires
-    add-i
-    loop-less
+    (λ c. search needs)
+    (λ c. search needs)
     loop-again
-    same-length
+    (λ c. search needs)
     returns)

@@ -24,9 +24,6 @@ write-count-requires c κs =
     let L = c .before .before .before in
     fits-next (both-fit (L .before .before .before .before .before)) (L .write-lines .kept .1 .1 .1 .0) (L .write-lines .ensures)
 
-same-length : tie.Need-same-length
-same-length c = search needs
-
 returns : tie.Need-returns
 returns c =
     let L = c .before .before .before .before .before .before in
@@ -36,4 +33,4 @@ returns c =
     (next (both-fit S) (L .write-lines .ensures) (c .before .before .write-count .ensures))
 
 pub write-report-spec : {M : Type 1} → statement M
-write-report-spec = tie.close (tie.spec write-lines-requires write-count-requires same-length returns)
+write-report-spec = tie.close (tie.spec write-lines-requires write-count-requires (λ c. search needs) returns)
