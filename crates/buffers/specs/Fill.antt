@@ -1,11 +1,15 @@
--- Terms of contracts: what a lent buffer holds after its front was filled.
+-- Terms of contracts: what a lent buffer holds after something was written to it.
 use Prim.Native.Nat.{ℕ, zero, suc}
 use mathlib.Core.List.{List, [], _∷_, _++_}
-use lib.ListN.{length, drop}
+use lib.ListN.{length, take, drop}
 
 -- The buffer d with xs over its front.
 abbrev pub put {ℓ} : {A : Type ℓ} → List A → List A → List A
 put xs d = xs ++ drop (length xs) d
+
+-- The buffer d with xs written from index i on.
+abbrev pub putAt {ℓ} : {A : Type ℓ} → ℕ → List A → List A → List A
+putAt i xs d = take i d ++ put xs (drop i d)
 
 -- The n values f i, f (i + 1) ..
 unfoldable pub tabulateFrom {ℓ} : {A : Type ℓ} → (ℕ → A) → ℕ → ℕ → List A

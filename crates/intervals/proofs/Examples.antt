@@ -2,7 +2,7 @@
 use mathlib.Core.Path.{_≡_, refl}
 use mathlib.Core.List.{[], _∷_}
 use Rattle.intervals.specs.Interval.{interval}
-use Rattle.intervals.specs.Save.{kept, save}
+use Rattle.intervals.specs.Save.{staying, save}
 use Rattle.intervals.specs.Merge.{insert, interleave, nonempty, join, merge}
 
 touching-joined : merge (interval 0 5 ∷ interval 9 12 ∷ []) (interval 5 7 ∷ []) ≡ interval 0 7 ∷ interval 9 12 ∷ []
@@ -10,9 +10,9 @@ unfolding merge interleave insert join nonempty
 touching-joined = refl
 
 saved-over-last : save (interval 0 2 ∷ interval 4 6 ∷ []) 3 8 ≡ interval 0 2 ∷ interval 3 8 ∷ []
-unfolding save kept
+unfolding save staying
 saved-over-last = refl
 
 saved-over-both : save (interval 0 2 ∷ interval 4 6 ∷ []) 2 8 ≡ interval 0 8 ∷ []
-unfolding save kept
+unfolding save staying
 saved-over-both = refl

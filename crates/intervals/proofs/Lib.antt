@@ -7,7 +7,8 @@ pub mod Unique
 pub mod Theorems
 pub mod Saving
 pub mod Examples
-pub mod Rows
+pub mod Counted
+pub mod Slice
 pub mod SaveSteps
 pub mod PickSteps
 pub mod MergeSteps

@@ -3,124 +3,116 @@ use Prim.Native.Nat.{ℕ, _+_, _-_, _≤_, _<_, max}
 use mathlib.Core.Path.{_≡_, refl, ap, _∙_}
 use mathlib.Core.List.{List, [], _++_, append-assoc, append-nil, _∷_}
 use native.Mathlib.Omega.{arith}
-use lib.ListN.{length, length-append}
-use Rattle.intervals.specs.Interval.{Interval, interval}
-use Rattle.intervals.specs.Merge.{nonempty, join, merge, backwards}
-use Rattle.intervals.specs.Rows.{rows, Room, Rows}
-use Rattle.intervals.specs.Pick.{Mergeable, remaining, Picks}
+use lib.ListN.{length, take, length-append}
+use lib.Seq.{take-all}
+use Rattle.buffers.specs.Fill.{putAt}
+use Rattle.intervals.specs.Interval.{Interval, interval, entries, listOf, Wrote}
+use Rattle.intervals.specs.Merge.{nonempty, join, interleave, merge, backwards}
+use Rattle.intervals.specs.Terms.Pick.{remaining, Picks}
 use Rattle.intervals.specs.declared.Picked.{Picked}
-use Rattle.intervals.proofs.Joining.{nonempty-some, join-touch, join-gap}
-use Rattle.intervals.proofs.Rows.{length-rows, rows-count, rows-same, rows-as, rows-now, rows-then, inside-fewer}
+use Rattle.intervals.proofs.Joining.{join-touch, join-gap}
+use Rattle.intervals.proofs.Slice.{length-list, wrote-next}
 use Rattle.intervals.proofs.PickSteps.{none-remains}
 
--- Where the loop stands: the first c intervals are written, [s, e) grows, the others remain at i and j.
-pub record Merging (fs fe : List ℕ) (fc : ℕ) (rs re : List ℕ) (rc n : ℕ) (ss₀ es₀ ss es : List ℕ) (i j left s e c : ℕ) : Type 0 where
-  pub forward-within : i ≤ fc
-  pub reverse-within : j ≤ rc
-  pub counted : left ≡ (fc - i) + j
-  pub starts-long : length ss ≡ length ss₀
-  pub ends-long : length es ≡ length es₀
-  pub written : Rows (rows c ss es) ss₀ es₀ ss es c
-  pub so-far : rows c ss es ++ join s e (remaining fs fe fc i rs re j n) ≡ merge (rows fc fs fe) (backwards n (rows rc rs re))
+abbrev pub merged : List (List ℕ) → List (List ℕ) → ℕ → List Interval
+merged fs rs n = merge (listOf fs) (backwards n (listOf rs))
 
-pub merging-start : {fs fe : List ℕ} {fc : ℕ} {rs re : List ℕ} {rc n : ℕ} {ss es : List ℕ}
-    → Merging fs fe fc rs re rc n ss es ss es 0 rc (fc + rc) 0 0 0
-unfolding remaining rows merge
-merging-start {ss = ss} {es = es} =
+-- Where the loop stands: some intervals are written, [s, e) grows, the others remain at i and j.
+pub record Merging (fs rs : List (List ℕ)) (n : ℕ) (xs xs′ : List (List ℕ)) (i j left s e c : ℕ) : Type 0 where
+  pub done : List Interval
+  pub forward-within : i ≤ length fs
+  pub reverse-within : j ≤ length rs
+  pub counted : left ≡ (length fs - i) + j
+  pub long : length xs′ ≡ length xs
+  pub wrote : Wrote done xs xs′ c
+  pub so-far : done ++ join s e (remaining (listOf fs) i (listOf rs) j n) ≡ merged fs rs n
+
+pub merging-start : {fs rs : List (List ℕ)} {n : ℕ} {xs : List (List ℕ)}
+    → Merging fs rs n xs xs 0 (length rs) (length fs + length rs) 0 0 0
+unfolding remaining merge
+merging-start {fs} {rs} {n} =
+    let l = length-list rs in
+    let t : take (length rs) (listOf rs) ≡ listOf rs = take-all (length rs) (listOf rs) (omega arith) in
     record {
+      done = [];
       forward-within = omega arith;
       reverse-within = omega arith;
       counted = omega arith;
-      starts-long = refl;
-      ends-long = refl;
-      written = rows-same ss es 0;
-      so-far = refl;
+      long = refl;
+      wrote = record { list-is = refl; count-is = refl };
+      so-far = ap (λ (is : List Interval). join 0 0 (interleave (listOf fs) (backwards n is))) t;
     }
 
-module _ {fs fe : List ℕ} {fc : ℕ} {rs re : List ℕ} {rc n : ℕ} {ss₀ es₀ ss es : List ℕ} {i j left s e c : ℕ}
-    (m : Merging fs fe fc rs re rc n ss₀ es₀ ss es i j left s e c) where
-  abbrev pub whole : List Interval
-  whole = merge (rows fc fs fe) (backwards n (rows rc rs re))
+module _ {fs rs : List (List ℕ)} {n : ℕ} {xs xs′ : List (List ℕ)} {i j left s e c : ℕ} (m : Merging fs rs n xs xs′ i j left s e c) where
+  -- The slice has room for the whole list, hence for what is written of it.
+  room : (tail : List Interval) → m .done ++ (nonempty s e ++ tail) ≡ merged fs rs n → length (merged fs rs n) ≤ length xs
+      → c + length (nonempty s e) ≤ length xs′
+  room tail q h =
+      let l = m .long in
+      let k = m .wrote .count-is in
+      let w = simp length-append at (ap length q) in
+      omega arith
 
-  pub still-mergeable : Mergeable fs fe fc rs re rc n → Mergeable fs fe fc rs re j n
-  still-mergeable h =
-      let l = m .reverse-within in
-      record {
-        forward-held = h .forward-held;
-        reverse-held = omega arith;
-        reverse-inside = inside-fewer n j rc rs re l (h .reverse-inside);
-      }
-
-  -- The slices have room for the whole list, hence for one more interval of it.
-  room : (tail : List Interval) → rows c ss es ++ (nonempty s e ++ tail) ≡ whole → Room (length whole) ss₀ es₀ → s < e → Room (c + 1) ss es
-  room tail q h l =
-      let r : rows c ss es ++ (interval s e ∷ tail) ≡ whole = rw (nonempty-some s e l) at q in
-      let u = m .starts-long in
-      let v = m .ends-long in
-      let w = simp (length-append, length-rows) at (ap length r) in
-      (omega arith, omega arith)
-
-  put : {ss′ es′ : List ℕ} {c′ : ℕ} → Rows (rows c ss es ++ nonempty s e) ss es ss′ es′ c′
-      → Rows (rows c ss es ++ nonempty s e) ss₀ es₀ ss′ es′ c′
-  put r = rows-then (omega (arith, rows-count r, length-append (rows c ss es) (nonempty s e), length-rows ss es c)) (m .written) r
-
-  module _ {p : Picked} (k : Picks fs fe fc i rs re j n p) where
+  module _ {p : Picked} (k : Picks (listOf fs) i (listOf rs) j n p) where
     after : List Interval
-    after = remaining fs fe fc (p .forward) rs re (p .reverse) n
+    after = remaining (listOf fs) (p .forward) (listOf rs) (p .reverse) n
 
-    touch : p .start ≤ e → join s e (remaining fs fe fc i rs re j n) ≡ join s (max e (p .end)) after
+    touch : p .start ≤ e → join s e (remaining (listOf fs) i (listOf rs) j n) ≡ join s (max e (p .end)) after
     unfolding after
     touch t = ap (λ (is : List Interval). join s e is) (k .first) ∙ join-touch s e (interval (p .start) (p .end)) after t
 
-    gap : e < p .start → rows c ss es ++ (nonempty s e ++ join (p .start) (p .end) after) ≡ whole
+    gap : e < p .start → m .done ++ (nonempty s e ++ join (p .start) (p .end) after) ≡ merged fs rs n
     unfolding after
     gap t =
         let q = ap (λ (is : List Interval). join s e is) (k .first) ∙ join-gap s e (interval (p .start) (p .end)) after t in
         rw (← q) (m .so-far)
 
     pub merging-touch : {e′ : ℕ} → p .start ≤ e → e′ ≡ max e (p .end)
-        → Merging fs fe fc rs re rc n ss₀ es₀ ss es (p .forward) (p .reverse) (left - 1) s e′ c
+        → Merging fs rs n xs xs′ (p .forward) (p .reverse) (left - 1) s e′ c
     unfolding after
     merging-touch t q =
+        let l = length-list fs in
         record {
-          forward-within = k .forward-within;
-          reverse-within = omega arith;
-          counted = omega arith;
-          starts-long = m .starts-long;
-          ends-long = m .ends-long;
-          written = m .written;
+          done = m .done;
+          forward-within = omega (arith, k .forward-within);
+          reverse-within = omega (arith, k .reverse-within, m .reverse-within);
+          counted = omega (arith, k .one-less, m .counted);
+          long = m .long;
+          wrote = m .wrote;
           so-far = rw (q, ← touch t) (m .so-far);
         }
 
-    pub merging-room : Room (length whole) ss₀ es₀ → e < p .start → s < e → Room (c + 1) ss es
+    pub merging-room : length (merged fs rs n) ≤ length xs → e < p .start → c + length (nonempty s e) ≤ length xs′
     merging-room h t = room (join (p .start) (p .end) after) (gap t) h
 
-    pub merging-gap : {ss′ es′ : List ℕ} {c′ : ℕ} → e < p .start → Rows (rows c ss es ++ nonempty s e) ss es ss′ es′ c′
-        → length ss′ ≡ length ss → length es′ ≡ length es
-        → Merging fs fe fc rs re rc n ss₀ es₀ ss′ es′ (p .forward) (p .reverse) (left - 1) (p .start) (p .end) c′
+    pub merging-gap : {xs″ : List (List ℕ)} {c′ : ℕ} → e < p .start → xs″ ≡ putAt c (entries (nonempty s e)) xs′
+        → c′ ≡ c + length (nonempty s e) → length xs″ ≡ length xs′
+        → Merging fs rs n xs xs″ (p .forward) (p .reverse) (left - 1) (p .start) (p .end) c′
     unfolding after
-    merging-gap t r u v =
+    merging-gap t w v u =
+        let l = length-list fs in
         record {
-          forward-within = k .forward-within;
-          reverse-within = omega arith;
-          counted = omega arith;
-          starts-long = u ∙ m .starts-long;
-          ends-long = v ∙ m .ends-long;
-          written = rows-now (put r);
-          so-far = rw (r .list-is, append-assoc) (gap t);
+          done = m .done ++ nonempty s e;
+          forward-within = omega (arith, k .forward-within);
+          reverse-within = omega (arith, k .reverse-within, m .reverse-within);
+          counted = omega (arith, k .one-less, m .counted);
+          long = u ∙ m .long;
+          wrote = wrote-next (nonempty s e) (m .wrote) w v;
+          so-far = rw append-assoc (gap t);
         }
 
   module _ (z : left ≡ 0) where
-    last : rows c ss es ++ nonempty s e ≡ whole
+    last : m .done ++ nonempty s e ≡ merged fs rs n
     unfolding join
     last =
-        let y : j ≡ 0 = omega arith in
+        let y : j ≡ 0 = omega (arith, m .counted) in
         let q = m .so-far in
-        let q′ : rows c ss es ++ join s e (remaining fs fe fc i rs re 0 n) ≡ whole = rw y at q in
-        rw (none-remains fs fe fc i rs re n (omega arith)) at q′
+        let q′ : m .done ++ join s e (remaining (listOf fs) i (listOf rs) 0 n) ≡ merged fs rs n = rw y at q in
+        rw (none-remains (listOf fs) i (listOf rs) n (omega (arith, m .counted, length-list fs))) at q′
 
-    pub merging-last-room : Room (length whole) ss₀ es₀ → s < e → Room (c + 1) ss es
+    pub merging-last-room : length (merged fs rs n) ≤ length xs → c + length (nonempty s e) ≤ length xs′
     merging-last-room = room [] (rw append-nil last)
 
-    pub merging-end : {ss′ es′ : List ℕ} {c′ : ℕ} → Rows (rows c ss es ++ nonempty s e) ss es ss′ es′ c′ → Rows whole ss₀ es₀ ss′ es′ c′
-    merging-end r = rows-as last (put r)
+    pub merging-end : {xs″ : List (List ℕ)} {c′ : ℕ} → xs″ ≡ putAt c (entries (nonempty s e)) xs′
+        → c′ ≡ c + length (nonempty s e) → Wrote (merged fs rs n) xs xs″ c′
+    merging-end w v = rw last at (wrote-next (nonempty s e) (m .wrote) w v)

@@ -1,60 +1,83 @@
 -- What remains of a merge after a pick, for each of the four answers of `pick`.
 use Prim.Native.Nat.{ℕ, zero, suc, _+_, _-_, _≤_, _<_}
-use mathlib.Core.Path.{_≡_}
+use mathlib.Core.Path.{_≡_, ap, _∙_}
 use mathlib.Core.List.{List, [], _∷_}
 use native.Mathlib.Omega.{arith}
-use lib.ListN.{drop}
+use native.Mathlib.Numerals.{add-one}
+use lib.ListN.{length, take, drop, getD, drop-of-length-le}
+use lib.Seq.{drop-cons, take-suc}
+use Rattle.intervals.specs.Interval.{Interval, interval, listOf}
 use Rattle.intervals.specs.Merge.{insert, interleave, flip, backwards}
-use Rattle.intervals.specs.Rows.{row, rows}
-use Rattle.intervals.specs.Pick.{picked, remaining, Picks}
+use Rattle.intervals.specs.Terms.Pick.{picked, remaining, Picks}
 use Rattle.intervals.specs.declared.Picked.{Picked}
 use Rattle.intervals.proofs.Joining.{insert-here, insert-later}
 use Rattle.intervals.proofs.Backward.{backwards-snoc}
-use Rattle.intervals.proofs.Rows.{drop-rows, drop-rows-end}
+use Rattle.intervals.proofs.Slice.{length-list, list-at}
 
-backwards-rows : (n j : ℕ) (ss es : List ℕ) → 0 < j
-    → backwards n (rows j ss es) ≡ flip n (row ss es (j - 1)) ∷ backwards n (rows (j - 1) ss es)
-unfolding rows
-backwards-rows n zero ss es h = absurd (omega arith)
-backwards-rows n (suc j) ss es h = let q : suc j - 1 ≡ j = omega arith in rw q (backwards-snoc n (rows j ss es) (row ss es j))
+abbrev at : List Interval → ℕ → Interval
+at is i = getD is i (interval 0 0)
 
-pub none-remains : (fs fe : List ℕ) (fc i : ℕ) (rs re : List ℕ) (n : ℕ) → fc ≤ i → remaining fs fe fc i rs re 0 n ≡ []
-unfolding remaining rows backwards interleave
-none-remains fs fe fc i rs re n h = rw (drop-rows-end fs fe fc i h)
+forward-next : (fs : List Interval) (i : ℕ) → i < length fs → drop i fs ≡ at fs i ∷ drop (i + 1) fs
+forward-next fs i h = rw add-one (drop-cons fs i (interval 0 0) h)
 
--- What `pick` answers in each of its four cases.
-module _ {fs fe : List ℕ} {fc i : ℕ} {rs re : List ℕ} {j n : ℕ} {p : Picked} where
-  takes-forward : i < fc → remaining fs fe fc i rs re j n ≡ row fs fe i ∷ remaining fs fe fc (i + 1) rs re j n
-      → p ≡ picked (row fs fe i) (i + 1) j → Picks fs fe fc i rs re j n p
+reverse-next : (n j : ℕ) (rs : List Interval) → 0 < j → j ≤ length rs
+    → backwards n (take j rs) ≡ flip n (at rs (j - 1)) ∷ backwards n (take (j - 1) rs)
+reverse-next n zero rs h l = absurd (omega arith)
+reverse-next n (suc j) rs h l =
+    let q : suc j - 1 ≡ j = omega arith in
+    rw q
+    (ap (λ (is : List Interval). backwards n is) (take-suc rs j (interval 0 0) (omega arith))
+    ∙ backwards-snoc n (take j rs) (at rs j))
+
+pub none-remains : (fs : List Interval) (i : ℕ) (rs : List Interval) (n : ℕ) → length fs ≤ i → remaining fs i rs 0 n ≡ []
+unfolding remaining backwards interleave
+none-remains fs i rs n h = rw (drop-of-length-le fs {i = i} h)
+
+module _ {fs : List Interval} {i : ℕ} {rs : List Interval} {j n : ℕ} {p : Picked} where
+  takes-forward : i < length fs → remaining fs i rs j n ≡ at fs i ∷ remaining fs (i + 1) rs j n
+      → p ≡ picked (at fs i) (i + 1) j → Picks fs i rs j n p
   takes-forward h f q = rw q (record { first = f; forward-within = omega arith; reverse-within = omega arith; one-less = omega arith })
 
-  takes-reverse : i ≤ fc → 0 < j
-      → remaining fs fe fc i rs re j n ≡ flip n (row rs re (j - 1)) ∷ remaining fs fe fc i rs re (j - 1) n
-      → p ≡ picked (flip n (row rs re (j - 1))) i (j - 1) → Picks fs fe fc i rs re j n p
+  takes-reverse : i ≤ length fs → 0 < j → remaining fs i rs j n ≡ flip n (at rs (j - 1)) ∷ remaining fs i rs (j - 1) n
+      → p ≡ picked (flip n (at rs (j - 1))) i (j - 1) → Picks fs i rs j n p
   takes-reverse h l f q = rw q (record { first = f; forward-within = h; reverse-within = omega arith; one-less = omega arith })
 
-  pub forward-only : i < fc → j ≡ 0 → p ≡ picked (row fs fe i) (i + 1) j → Picks fs fe fc i rs re j n p
-  unfolding remaining rows backwards interleave insert
-  forward-only h z = takes-forward h (rw (z, drop-rows fs fe fc i h))
+-- What `pick` answers in each of its four cases, with the lists in the slices fs and rs.
+module _ (fs rs : List (List ℕ)) {i j n : ℕ} {p : Picked} where
+  pub forward-only : i < length fs → j ≡ 0 → p ≡ picked (at (listOf fs) i) (i + 1) j
+      → Picks (listOf fs) i (listOf rs) j n p
+  unfolding remaining backwards interleave insert
+  forward-only h z =
+      let h′ : i < length (listOf fs) = omega (arith, length-list fs) in
+      takes-forward h′ (rw (z, forward-next (listOf fs) i h′))
 
-  pub reverse-only : i ≡ fc → 0 < j → p ≡ picked (flip n (row rs re (j - 1))) i (j - 1) → Picks fs fe fc i rs re j n p
+  pub reverse-only : i ≡ length fs → 0 < j → j ≤ length rs → p ≡ picked (flip n (at (listOf rs) (j - 1))) i (j - 1)
+      → Picks (listOf fs) i (listOf rs) j n p
   unfolding remaining interleave
-  reverse-only h l = takes-reverse (omega arith) l (rw (drop-rows-end fs fe fc i (omega arith), backwards-rows n j rs re l))
+  reverse-only h l m =
+      let e : length (listOf fs) ≡ i = omega (arith, length-list fs) in
+      let m′ : j ≤ length (listOf rs) = omega (arith, length-list rs) in
+      takes-reverse (omega arith) l (rw (drop-of-length-le (listOf fs) {i = i} (omega arith), reverse-next n j (listOf rs) l m′))
 
-  pub forward-first : i < fc → 0 < j → row fs fe i .start < n - row rs re (j - 1) .end
-      → p ≡ picked (row fs fe i) (i + 1) j → Picks fs fe fc i rs re j n p
-  unfolding remaining interleave
-  forward-first h l m =
-      takes-forward h
-      (rw (drop-rows fs fe fc i h, backwards-rows n j rs re l)
-      (insert-here (row fs fe i) (interleave (drop (i + 1) (rows fc fs fe))) (flip n (row rs re (j - 1)))
-      (backwards n (rows (j - 1) rs re)) m))
+  module _ (h : i < length fs) (l : 0 < j) (m : j ≤ length rs) where
+    pub forward-first : getD (getD fs i []) 0 0 < n - getD (getD rs (j - 1) []) 1 0 → p ≡ picked (at (listOf fs) i) (i + 1) j
+        → Picks (listOf fs) i (listOf rs) j n p
+    unfolding remaining interleave
+    forward-first t =
+        let h′ : i < length (listOf fs) = omega (arith, length-list fs) in
+        let m′ : j ≤ length (listOf rs) = omega (arith, length-list rs) in
+        takes-forward h′
+        (rw (forward-next (listOf fs) i h′, reverse-next n j (listOf rs) l m′)
+        (insert-here (at (listOf fs) i) (interleave (drop (i + 1) (listOf fs))) (flip n (at (listOf rs) (j - 1)))
+        (backwards n (take (j - 1) (listOf rs))) (rw (list-at fs i, list-at rs (j - 1)) t)))
 
-  pub reverse-first : i < fc → 0 < j → n - row rs re (j - 1) .end ≤ row fs fe i .start
-      → p ≡ picked (flip n (row rs re (j - 1))) i (j - 1) → Picks fs fe fc i rs re j n p
-  unfolding remaining interleave
-  reverse-first h l m =
-      takes-reverse (omega arith) l
-      (rw (drop-rows fs fe fc i h, backwards-rows n j rs re l)
-      (insert-later (row fs fe i) (interleave (drop (i + 1) (rows fc fs fe))) (flip n (row rs re (j - 1)))
-      (backwards n (rows (j - 1) rs re)) m))
+    pub reverse-first : n - getD (getD rs (j - 1) []) 1 0 ≤ getD (getD fs i []) 0 0 → p ≡ picked (flip n (at (listOf rs) (j - 1))) i (j - 1)
+        → Picks (listOf fs) i (listOf rs) j n p
+    unfolding remaining interleave
+    reverse-first t =
+        let h′ : i < length (listOf fs) = omega (arith, length-list fs) in
+        let m′ : j ≤ length (listOf rs) = omega (arith, length-list rs) in
+        takes-reverse (omega arith) l
+        (rw (forward-next (listOf fs) i h′, reverse-next n j (listOf rs) l m′)
+        (insert-later (at (listOf fs) i) (interleave (drop (i + 1) (listOf fs))) (flip n (at (listOf rs) (j - 1)))
+        (backwards n (take (j - 1) (listOf rs))) (rw (list-at fs i, list-at rs (j - 1)) t)))

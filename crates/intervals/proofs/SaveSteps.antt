@@ -1,73 +1,95 @@
--- The steps of `save_interval`: its loop over the ends, and a save to a list that two slices hold.
+-- The steps of `save_interval`: its loop over the ends, and a save to the list in the first entries of a slice.
 use Prim.Native.Nat.{ℕ, zero, suc, _+_, _-_, _≤_, _<_, min, max}
-use mathlib.Core.Path.{_≡_, refl, _∙_}
-use mathlib.Core.List.{List, [], _∷_, _++_, map}
+use mathlib.Core.Path.{_≡_, refl, sym, ap, _∙_}
+use mathlib.Core.List.{List, [], _∷_, _++_}
 use mathlib.Core.Logic.{⊎-elim}
 use native.Mathlib.Omega.{arith}
-use lib.ListN.{length, getD, length-append, List·getD-map}
+use lib.ListN.{length, take, drop, getD, set, length-append, length-set, drop-of-length-le}
+use lib.Seq.{drop-cons, getD-take, length-take-le, take-take, drop-set-lt}
 use borrow.Author.Tests.{le-leb, lt-leb}
-use Rattle.intervals.specs.Interval.{Interval, interval}
-use Rattle.intervals.specs.Save.{kept, saveAt, save}
-use Rattle.intervals.specs.Rows.{rows}
+use Rattle.buffers.specs.Fill.{put}
+use Rattle.buffers.proofs.Put.{put-store}
+use Rattle.intervals.specs.Interval.{Interval, interval, listOf}
+use Rattle.intervals.specs.Terms.Saved.{Saved}
+use Rattle.intervals.specs.Save.{staying, absorb, saveAt, save}
 use Rattle.intervals.proofs.Order.{lt-or-le}
-use Rattle.intervals.proofs.Rows.{length-rows, getD-rows, take-rows, drop-rows, drop-rows-end}
+use Rattle.intervals.proofs.Slice.{length-list, list-at, take-list, set-list}
 
-module _ (ends : List ℕ) (s : ℕ) where
-  pub kept-less : (m : ℕ) → 0 < m → s ≤ getD ends (m - 1) 0 → kept ends s m ≡ kept ends s (m - 1)
-  unfolding kept
-  kept-less zero h l = absurd (omega arith)
-  kept-less (suc m) h l =
+module _ (ps : List (List ℕ)) (s : ℕ) where
+  pub staying-less : (m : ℕ) → 0 < m → s ≤ getD (getD ps (m - 1) []) 1 0 → staying (listOf ps) s m ≡ staying (listOf ps) s (m - 1)
+  unfolding staying
+  staying-less zero h l = absurd (omega arith)
+  staying-less (suc m) h l =
       let q : suc m - 1 ≡ m = omega arith in
-      let l′ : s ≤ getD ends m 0 = rw q at l in
-      rw (q, le-leb s (getD ends m 0) l′)
+      let l′ : s ≤ getD (getD ps m []) 1 0 = rw q at l in
+      rw (q, list-at ps m, le-leb s (getD (getD ps m []) 1 0) l′)
 
-  pub kept-all : (m : ℕ) → 0 < m → getD ends (m - 1) 0 < s → kept ends s m ≡ m
-  unfolding kept
-  kept-all zero h l = absurd (omega arith)
-  kept-all (suc m) h l =
+  pub staying-all : (m : ℕ) → 0 < m → getD (getD ps (m - 1) []) 1 0 < s → staying (listOf ps) s m ≡ m
+  unfolding staying
+  staying-all zero h l = absurd (omega arith)
+  staying-all (suc m) h l =
       let q : suc m - 1 ≡ m = omega arith in
-      let l′ : getD ends m 0 < s = rw q at l in
-      rw (lt-leb s (getD ends m 0) l′)
+      let l′ : getD (getD ps m []) 1 0 < s = rw q at l in
+      rw (list-at ps m, lt-leb s (getD (getD ps m []) 1 0) l′)
 
-  pub kept-zero : kept ends s 0 ≡ 0
-  unfolding kept
-  kept-zero = refl
+pub staying-zero : (is : List Interval) (s : ℕ) → staying is s 0 ≡ 0
+unfolding staying
+staying-zero is s = refl
 
-  pub kept-le : (m : ℕ) → kept ends s m ≤ m
-  unfolding kept
-  kept-le zero = omega arith
-  kept-le (suc m) =
-      ⊎-elim
-      (λ gt. rw (lt-leb s (getD ends m 0) gt) (omega arith))
-      (λ le. rw (le-leb s (getD ends m 0) le) (omega (arith, kept-le m)))
-      (lt-or-le (getD ends m 0) s)
+staying-le : (is : List Interval) (s m : ℕ) → staying is s m ≤ m
+unfolding staying
+staying-le is s zero = omega arith
+staying-le is s (suc m) =
+    let end : ℕ = getD is m (interval 0 0) .end in
+    ⊎-elim (λ gt. rw (lt-leb s end gt) (omega arith)) (λ le. rw (le-leb s end le) (omega (arith, staying-le is s m))) (lt-or-le end s)
 
-kept-ext : (xs ys : List ℕ) (s m : ℕ) → ((i : ℕ) → i < m → getD xs i 0 ≡ getD ys i 0) → kept xs s m ≡ kept ys s m
-unfolding kept
-kept-ext xs ys s zero h = refl
-kept-ext xs ys s (suc m) h =
-    let q = kept-ext xs ys s m (λ i l. h i (omega arith)) in
-    let r = h m (omega arith) in
-    rw (q, r)
+-- The list of the first c entries of a slice xs, of which the first k stay.
+module _ (xs : List (List ℕ)) (c s e k : ℕ) (fits : c ≤ length xs) (q : k ≡ staying (listOf (take c xs)) s (length (take c xs))) where
+  abbrev list : List Interval
+  list = listOf (take c xs)
 
-module _ (c : ℕ) (ss es : List ℕ) (s e k : ℕ) (q : k ≡ kept es s c) where
-  save-rows : save (rows c ss es) s e ≡ saveAt k (rows c ss es) s e
+  pub staying-within : k ≤ c
+  staying-within = omega (arith, staying-le list s (length (take c xs)), length-take-le c xs fits)
+
+  save-list : save list s e ≡ saveAt k list s e
   unfolding save
-  save-rows =
-      let r = kept-ext (map (λ i. i .end) (rows c ss es)) es s c
-      (λ i l. List·getD-map (λ (j : Interval). j .end) (rows c ss es) i (interval 0 0) ∙ rw (getD-rows ss es c i (interval 0 0) l)) in
-      rw (length-rows, r, ← q)
+  save-list = rw (length-list (take c xs), ← q)
 
-  pub save-absorbs : {s′ e′ : ℕ} → k < c → s′ ≡ min s (getD ss k 0) → e′ ≡ max e (getD es k 0)
-      → rows k ss es ++ (interval s′ e′ ∷ []) ≡ save (rows c ss es) s e
-  save-absorbs h a b = rw (save-rows, take-rows ss es k c (omega arith), drop-rows ss es c k h, a, b)
+  first-stay : take k list ≡ listOf (take k xs)
+  first-stay = sym (take-list k (take c xs)) ∙ ap (λ (ps : List (List ℕ)). listOf ps) (take-take k c xs staying-within)
 
-  pub save-appends : c ≤ k → rows k ss es ++ (interval s e ∷ []) ≡ save (rows c ss es) s e
-  save-appends h =
-      let l = kept-le es s c in
-      rw (save-rows, take-rows ss es k c (omega arith), drop-rows-end ss es c k h)
-
-  pub save-length : length (save (rows c ss es) s e) ≡ k + 1
+  pub save-length : length (save list s e) ≡ k + 1
   save-length =
-      let l = kept-le es s c in
-      rw save-rows (simp (length-append, take-rows ss es k c (omega arith), length-rows) (omega arith))
+      let w = staying-within in
+      ap (λ (is : List Interval). length is) (save-list ∙ ap (λ (is : List Interval). is ++ (absorb (drop k list) s e ∷ [])) first-stay)
+      ∙ length-append (listOf (take k xs)) (absorb (drop k list) s e ∷ [])
+      ∙ omega (arith, length-list (take k xs), length-take-le k xs (omega arith))
+
+  saved : k < length xs → {s′ e′ : ℕ} → interval s′ e′ ≡ absorb (drop k list) s e
+      → Saved (save list s e) xs (set xs k (s′ ∷ e′ ∷ [])) (k + 1)
+  saved h {s′} {e′} a =
+      let i : Interval = interval s′ e′ in
+      record {
+        list-is =
+            set-list xs k (s′ ∷ e′ ∷ [])
+            ∙ put-store k i (listOf xs) (omega (arith, length-list xs))
+            ∙ ap (λ (is : List Interval). put (is ++ (i ∷ [])) (listOf xs)) (sym (take-list k xs) ∙ sym first-stay)
+            ∙ ap (λ (j : Interval). put (take k list ++ (j ∷ [])) (listOf xs)) a
+            ∙ ap (λ (is : List Interval). put is (listOf xs)) (sym save-list);
+        count-is = sym save-length;
+        others = record { long = length-set xs k (s′ ∷ e′ ∷ []); past = drop-set-lt (k + 1) xs k (s′ ∷ e′ ∷ []) (omega arith) };
+      }
+
+  pub save-absorbs : k < c → {s′ e′ : ℕ} → s′ ≡ min s (getD (getD xs k []) 0 0) → e′ ≡ max e (getD (getD xs k []) 1 0)
+      → Saved (save list s e) xs (set xs k (s′ ∷ e′ ∷ [])) (k + 1)
+  save-absorbs h {s′} {e′} a b =
+      let t = length-take-le c xs fits in
+      let l = length-list (take c xs) in
+      let d : drop k list ≡ getD list k (interval 0 0) ∷ drop (suc k) list = drop-cons list k (interval 0 0) (omega arith) in
+      saved (omega arith) {s′ = s′} {e′ = e′} (rw (d, list-at (take c xs) k, getD-take c xs k [] h, a, b))
+
+  pub save-appends : k < length xs → c ≤ k → Saved (save list s e) xs (set xs k (s ∷ e ∷ [])) (k + 1)
+  save-appends h g =
+      let t = length-take-le c xs fits in
+      let l = length-list (take c xs) in
+      saved h {s′ = s} {e′ = e} (rw (drop-of-length-le list {i = k} (omega arith)))

@@ -1,33 +1,33 @@
 -- Saving to a canonical list keeps it canonical, and covers the list's letters and the new interval's where its end is past every end.
 use Prim.Native.Nat.{ℕ, zero, suc, _+_, _≤_, _<_, min, max}
 use mathlib.Core.Path.{_≡_, refl}
-use mathlib.Core.List.{List, [], _∷_, map}
+use mathlib.Core.List.{List, [], _∷_}
 use mathlib.Core.Logic.{_⊎_, inl, inr, ⊎-elim, _↔_}
 use native.Mathlib.Omega.{arith}
 use lib.ListN.{length, getD}
 use borrow.Author.Tests.{le-leb, lt-leb}
 use Rattle.intervals.specs.Interval.{Interval, interval, Holds, Covers, Ascending, Canonical, EndsBelow}
-use Rattle.intervals.specs.Save.{kept, save}
+use Rattle.intervals.specs.Save.{staying, save}
 use Rattle.intervals.proofs.Order.{lt-or-le}
 use Rattle.intervals.proofs.Covered.{first-apart}
 
-kept-none : (ends : List ℕ) (s m : ℕ) → ((i : ℕ) → i < m → s ≤ getD ends i 0) → kept ends s m ≡ 0
-unfolding kept
-kept-none ends s zero h = refl
-kept-none ends s (suc m) h =
-    simp (le-leb s (getD ends m 0) (h m (omega arith))) (kept-none ends s m (λ i l. h i (omega arith)))
+staying-none : (is : List Interval) (s m : ℕ) → ((i : ℕ) → i < m → s ≤ getD is i (interval 0 0) .end) → staying is s m ≡ 0
+unfolding staying
+staying-none is s zero h = refl
+staying-none is s (suc m) h =
+    simp (le-leb s (getD is m (interval 0 0) .end) (h m (omega arith))) (staying-none is s m (λ i l. h i (omega arith)))
 
-kept-first : (end : ℕ) (ends : List ℕ) (s m : ℕ) → end < s → kept (end ∷ ends) s (suc m) ≡ suc (kept ends s m)
-unfolding kept
-kept-first end ends s zero h = simp (lt-leb _ _ h)
-kept-first end ends s (suc m) h =
+staying-first : (i : Interval) (is : List Interval) (s m : ℕ) → i .end < s → staying (i ∷ is) s (suc m) ≡ suc (staying is s m)
+unfolding staying
+staying-first i is s zero h = simp (lt-leb _ _ h)
+staying-first i is s (suc m) h =
+    let end : ℕ = getD is m (interval 0 0) .end in
     ⊎-elim
-    (λ gt. simp (lt-leb s (getD ends m 0) gt))
-    (λ le. simp (le-leb s (getD ends m 0) le) (kept-first end ends s m h))
-    (lt-or-le (getD ends m 0) s)
+    (λ gt. simp (lt-leb s end gt))
+    (λ le. simp (le-leb s end le) (staying-first i is s m h))
+    (lt-or-le end s)
 
-ends-above : (n k lo : ℕ) (is : List Interval) → Ascending n k lo is
-    → (i : ℕ) → i < length is → lo ≤ getD (map (λ j. j .end) is) i 0
+ends-above : (n k lo : ℕ) (is : List Interval) → Ascending n k lo is → (i : ℕ) → i < length is → lo ≤ getD is i (interval 0 0) .end
 ends-above n k lo [] a i h = absurd (omega arith)
 ends-above n k lo (j ∷ js) a zero h = omega arith
 ends-above n k lo (j ∷ js) a (suc i) h = omega (arith, ends-above n k (j .end + 1) js (a .3) i (omega arith))
@@ -36,18 +36,18 @@ ends-above n k lo (j ∷ js) a (suc i) h = omega (arith, ends-above n k (j .end 
 module _ (n k lo s e : ℕ) (i : Interval) (is : List Interval) (a : Ascending n k lo (i ∷ is)) where
   save-touch : s ≤ i .end → save (i ∷ is) s e ≡ interval (min s (i .start)) (max e (i .end)) ∷ []
   unfolding save
-  save-touch h = rw (kept-none (map (λ j. j .end) (i ∷ is)) s (length (i ∷ is)) all)
+  save-touch h = rw (staying-none (i ∷ is) s (length (i ∷ is)) all)
     where
-      all : (j : ℕ) → j < length (i ∷ is) → s ≤ getD (map (λ j′. j′ .end) (i ∷ is)) j 0
+      all : (j : ℕ) → j < length (i ∷ is) → s ≤ getD (i ∷ is) j (interval 0 0) .end
       all zero l = h
       all (suc j) l = omega (arith, ends-above n k (i .end + 1) is (a .3) j (omega arith))
 
   save-past : i .end < s → save (i ∷ is) s e ≡ i ∷ save is s e
   unfolding save
-  save-past h = rw (kept-first (i .end) (map (λ j. j .end) is) s (length is) h)
+  save-past h = rw (staying-first i is s (length is) h)
 
 save-ascending : (n k lo s e : ℕ) (is : List Interval) → lo ≤ s → s + k ≤ e → e ≤ n → Ascending n k lo is → Ascending n k lo (save is s e)
-unfolding save kept
+unfolding save staying
 save-ascending n k lo s e [] h l m a = (h, l, m, tt)
 save-ascending n k lo s e (i ∷ is) h l m a =
     ⊎-elim
@@ -66,7 +66,7 @@ ends-hold n k lo s e x (i ∷ is) h a b c =
 
 save-ascending-covers : (n k lo s e : ℕ) (is : List Interval) (x : ℕ) → Ascending n k lo is → EndsBelow e is
     → Covers (save is s e) x ↔ (Covers is x ⊎ Holds (interval s e) x)
-unfolding save kept
+unfolding save staying
 save-ascending-covers n k lo s e [] x a b =
     ((λ h. ⊎-elim (λ c. inr c) (λ c. absurd c) h), (λ h. ⊎-elim (λ c. absurd c) (λ c. inl c) h))
 save-ascending-covers n k lo s e (i ∷ is) x a b =
@@ -89,7 +89,7 @@ save-covers n k s e is x a b = save-ascending-covers n k 0 s e is x a b
 
 -- An end that is past every end of the list and past the new one is past every end of the new list.
 save-ascending-ends : (n k lo s e e′ : ℕ) (is : List Interval) → Ascending n k lo is → e < e′ → EndsBelow e′ is → EndsBelow e′ (save is s e)
-unfolding save kept
+unfolding save staying
 save-ascending-ends n k lo s e e′ [] a h b = (h, tt)
 save-ascending-ends n k lo s e e′ (i ∷ is) a h b =
     ⊎-elim

@@ -1,7 +1,12 @@
--- The paper, 'Records' and 'Both strands': intervals of letters, the letters that a list of them covers, and the shape of a mask.
-use Prim.Native.Nat.{ℕ, _+_, _≤_, _<_}
-use mathlib.Core.List.{List, [], _∷_}
+-- The paper, 'Records' and 'Both strands': intervals of letters, the letters that a list of them covers, the shape of a mask, and a list in a slice.
+use Prim.Native.Nat.{ℕ, zero, suc, _+_, _≤_, _<_}
+use mathlib.Core.Path.{_≡_}
+use mathlib.Core.Bool.{Bool, false, _&&_, _||_, cond}
+use mathlib.Core.List.{List, [], _∷_, map}
 use mathlib.Core.Logic.{_⊎_}
+use lib.Dec.{ltb, leb}
+use lib.ListN.{length, getD}
+use Rattle.buffers.specs.Fill.{put}
 
 -- [start, end): the letters start, start + 1, .., end - 1.
 pub record Interval : Type 0 where
@@ -18,6 +23,16 @@ Holds i x = (i .start ≤ x) × (x < i .end)
 abbrev pub Covers : List Interval → ℕ → Type 0
 Covers [] x = ⊥
 Covers (i ∷ is) x = Holds i x ⊎ Covers is x
+
+-- The same, as a test.
+unfoldable pub covered : List Interval → ℕ → Bool
+covered [] x = false
+covered (i ∷ is) x = (leb (i .start) x && ltb x (i .end)) || covered is x
+
+-- How many letters x with a <= x < b the list covers.
+unfoldable pub coveredIn : List Interval → ℕ → ℕ → ℕ
+coveredIn is a zero = 0
+coveredIn is a (suc b) = coveredIn is a b + cond (leb a b && covered is b) 1 0
 
 -- From letter lo on and within n letters, each interval of at least k letters, with a letter or more between two.
 abbrev pub Ascending : ℕ → ℕ → ℕ → List Interval → Type 0
@@ -37,3 +52,22 @@ EndsBelow e (i ∷ is) = (i .end < e) × EndsBelow e is
 abbrev pub Inside : ℕ → List Interval → Type 0
 Inside n [] = Unit
 Inside n (i ∷ is) = (i .start ≤ n) × (i .end ≤ n) × Inside n is
+
+-- A list of intervals as a slice holds it: an entry of two numbers for each.
+abbrev pub pair : Interval → List ℕ
+pair i = i .start ∷ i .end ∷ []
+
+abbrev pub entries : List Interval → List (List ℕ)
+entries is = map pair is
+
+-- The list that a slice holds.
+abbrev pub intervalOf : List ℕ → Interval
+intervalOf p = interval (getD p 0 0) (getD p 1 0)
+
+abbrev pub listOf : List (List ℕ) → List Interval
+listOf ps = map intervalOf ps
+
+-- The list was written to the front of a slice xs, which is now xs′, and has count intervals.
+pub record Wrote (is : List Interval) (xs xs′ : List (List ℕ)) (count : ℕ) : Type 0 where
+  pub list-is : xs′ ≡ put (entries is) xs
+  pub count-is : count ≡ length is

@@ -1,5 +1,4 @@
 pub mod Interval
 pub mod Save
 pub mod Merge
-pub mod Rows
-pub mod Pick
+pub mod Terms

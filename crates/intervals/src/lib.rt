@@ -1,36 +1,34 @@
-// Lists of intervals, each in two lent slices: entry i of `starts` and of `ends`, for i below a count, is the interval [start, end).
+// Lists of intervals, each in a slice: its entries [start, end], one for each interval [start, end).
 
 ghost use mathlib.Core.Path.{_≡_};
-ghost use mathlib.Core.List.{[], _∷_, _++_};
 ghost use Prim.Native.Nat.{_+_, _-_, _≤_, _<_, min, max};
-ghost use lib.ListN.{length};
-ghost use Rattle.intervals.specs.Interval.{interval, Inside};
-ghost use Rattle.intervals.specs.Save.{kept, save};
+ghost use lib.ListN.{length, take, getD};
+ghost use Rattle.buffers.specs.Fill.{putAt};
+ghost use Rattle.intervals.specs.Interval.{interval, Inside, entries, listOf, Wrote};
+ghost use Rattle.intervals.specs.Save.{staying, save};
 ghost use Rattle.intervals.specs.Merge.{nonempty, merge, flip, backwards};
-ghost use Rattle.intervals.specs.Rows.{row, rows, Room, Rows};
-ghost use Rattle.intervals.specs.Pick.{Mergeable, picked, Picks};
+ghost use Rattle.intervals.specs.Terms.Saved.{Saved};
+ghost use Rattle.intervals.specs.Terms.Pick.{picked, Picks};
 
-fn smaller(a: u32, b: u32) -> u32
+fn min_u32(a: u32, b: u32) -> u32
     ensures { λ r. ⌜ r ≡ min a b ⌝ }
 {
     if a < b { a } else { b }
 }
 
-fn larger(a: u32, b: u32) -> u32
+fn max_u32(a: u32, b: u32) -> u32
     ensures { λ r. ⌜ r ≡ max a b ⌝ }
 {
     if a < b { b } else { a }
 }
 
-// How many of the first `count` intervals stay when one that begins at `start` is saved.
-fn kept_count(ends: &[u32], count: usize, start: u32) -> usize
-    requires { ⌜ count ≤ length (now ends) ⌝ }
-    ensures { λ r. ⌜ r ≡ kept (now (ends .entry)) start count ⌝ }
+// How many intervals stay when one that begins at `start` is saved.
+fn count_staying(list: &[[u32; 2]], start: u32) -> usize
+    ensures { λ r. ⌜ r ≡ staying (listOf (now (list .entry))) start (length (now (list .entry))) ⌝ }
 {
-    let mut k = count;
+    let mut k = list.len();
     while 0 < k {
-        let end = ends[k - 1];
-        if end < start {
+        if list[k - 1][1] < start {
             return k;
         }
         k -= 1;
@@ -38,47 +36,32 @@ fn kept_count(ends: &[u32], count: usize, start: u32) -> usize
     0
 }
 
-// Puts [start, end) after the first `count` intervals, and answers how many there are then.
-fn put_interval(starts: &mut [u32], ends: &mut [u32], count: usize, start: u32, end: u32) -> usize
-    requires { ⌜ Room (count + 1) (now starts) (now ends) ⌝ }
-    ensures { λ r. ⌜ Rows (rows count (now (starts .entry)) (now (ends .entry)) ++ (interval start end ∷ []))
-        (now (starts .entry)) (now (ends .entry)) (now (starts .exit)) (now (ends .exit)) r ⌝ }
+// Saves [start, end) to the list of the first `count` entries, and answers how many there are then.
+pub fn save_interval(list: &mut [[u32; 2]], count: usize, start: u32, end: u32) -> usize
+    requires { ⌜ count ≤ length (now list) ⌝ }
+    requires { ⌜ length (save (listOf (take count (now list))) start end) ≤ length (now list) ⌝ }
+    ensures { λ r. ⌜ Saved (save (listOf (take count (now (list .entry)))) start end) (now (list .entry)) (now (list .exit)) r ⌝ }
 {
-    starts[count] = start;
-    ends[count] = end;
-    count + 1
-}
-
-// Saves [start, end) to a list of `count` intervals, and answers how many there are then.
-pub fn save_interval(
-    starts: &mut [u32],
-    ends: &mut [u32],
-    count: usize,
-    start: u32,
-    end: u32,
-) -> usize
-    requires { ⌜ Room count (now starts) (now ends) ⌝ }
-    requires { ⌜ Room (length (save (rows count (now starts) (now ends)) start end)) (now starts) (now ends) ⌝ }
-    ensures { λ r. ⌜ Rows (save (rows count (now (starts .entry)) (now (ends .entry))) start end)
-        (now (starts .entry)) (now (ends .entry)) (now (starts .exit)) (now (ends .exit)) r ⌝ }
-{
-    let k = kept_count(ends, count, start);
+    let k = count_staying(&list[..count], start);
     if k < count {
-        let s = smaller(start, starts[k]);
-        let e = larger(end, ends[k]);
-        return put_interval(starts, ends, k, s, e);
+        let s = min_u32(start, list[k][0]);
+        let e = max_u32(end, list[k][1]);
+        list[k] = [s, e];
+        return k + 1;
     }
-    put_interval(starts, ends, k, start, end)
+    list[k] = [start, end];
+    k + 1
 }
 
-// Puts [start, end) after the first `count` intervals if it has a letter, and answers how many there are then.
-fn put_nonempty(starts: &mut [u32], ends: &mut [u32], count: usize, start: u32, end: u32) -> usize
-    requires { ⌜ (start < end → Room (count + 1) (now starts) (now ends)) ⌝ }
-    ensures { λ r. ⌜ Rows (rows count (now (starts .entry)) (now (ends .entry)) ++ nonempty start end)
-        (now (starts .entry)) (now (ends .entry)) (now (starts .exit)) (now (ends .exit)) r ⌝ }
+// Puts [start, end) after the first `count` entries if it has a letter, and answers how many there are then.
+fn push_nonempty(list: &mut [[u32; 2]], count: usize, start: u32, end: u32) -> usize
+    requires { ⌜ count + length (nonempty start end) ≤ length (now list) ⌝ }
+    ensures { λ r. ⌜ (now (list .exit) ≡ putAt count (entries (nonempty start end)) (now (list .entry)))
+        × (r ≡ count + length (nonempty start end)) ⌝ }
 {
     if start < end {
-        return put_interval(starts, ends, count, start, end);
+        list[count] = [start, end];
+        return count + 1;
     }
     count
 }
@@ -92,109 +75,80 @@ struct Picked {
 }
 
 // Takes interval i of the forward list.
-fn pick_forward(forward_starts: &[u32], forward_ends: &[u32], i: usize, j: usize) -> Picked
-    requires { ⌜ Room (i + 1) (now «forward_starts») (now «forward_ends») ⌝ }
-    ensures { λ r. ⌜ r ≡ picked (row (now («forward_starts» .entry)) (now («forward_ends» .entry)) i) (i + 1) j ⌝ }
+fn pick_forward(forward: &[[u32; 2]], i: usize, j: usize) -> Picked
+    requires { ⌜ i < length (now forward) ⌝ }
+    ensures { λ r. ⌜ r ≡ picked (getD (listOf (now (forward .entry))) i (interval 0 0)) (i + 1) j ⌝ }
 {
     Picked {
-        start: forward_starts[i],
-        end: forward_ends[i],
+        start: forward[i][0],
+        end: forward[i][1],
         forward: i + 1,
         reverse: j,
     }
 }
 
 // Takes interval j - 1 of the reverse list, as seen from the other end of n letters.
-fn pick_reverse(reverse_starts: &[u32], reverse_ends: &[u32], i: usize, j: usize, n: u32) -> Picked
-    requires { ⌜ Room j (now «reverse_starts») (now «reverse_ends») × (0 < j) ⌝ }
-    requires { ⌜ Inside n (rows j (now «reverse_starts») (now «reverse_ends»)) ⌝ }
-    ensures { λ r. ⌜ r ≡ picked (flip n (row (now («reverse_starts» .entry)) (now («reverse_ends» .entry)) (j - 1))) i (j - 1) ⌝ }
+fn pick_reverse(reverse: &[[u32; 2]], i: usize, j: usize, n: u32) -> Picked
+    requires { ⌜ Inside n (listOf (now reverse)) × (0 < j) × (j ≤ length (now reverse)) ⌝ }
+    ensures { λ r. ⌜ r ≡ picked (flip n (getD (listOf (now (reverse .entry))) (j - 1) (interval 0 0))) i (j - 1) ⌝ }
 {
     let last = j - 1;
     Picked {
-        start: n - reverse_ends[last],
-        end: n - reverse_starts[last],
+        start: n - reverse[last][1],
+        end: n - reverse[last][0],
         forward: i,
         reverse: last,
     }
 }
 
 // Takes the one of these two that starts first; of equal starts the reverse list's.
-fn pick(
-    forward_starts: &[u32],
-    forward_ends: &[u32],
-    forward_count: usize,
-    i: usize,
-    reverse_starts: &[u32],
-    reverse_ends: &[u32],
-    j: usize,
-    n: u32,
-) -> Picked
-    requires { ⌜ Mergeable (now «forward_starts») (now «forward_ends») «forward_count»
-        (now «reverse_starts») (now «reverse_ends») j n ⌝ }
-    requires { ⌜ (i ≤ «forward_count») × (0 < («forward_count» - i) + j) ⌝ }
-    ensures { λ r. ⌜ Picks (now («forward_starts» .entry)) (now («forward_ends» .entry)) «forward_count» i
-        (now («reverse_starts» .entry)) (now («reverse_ends» .entry)) j n r ⌝ }
+fn pick(forward: &[[u32; 2]], i: usize, reverse: &[[u32; 2]], j: usize, n: u32) -> Picked
+    requires { ⌜ Inside n (listOf (now reverse)) × (j ≤ length (now reverse)) ⌝ }
+    requires { ⌜ (i ≤ length (now forward)) × (0 < (length (now forward) - i) + j) ⌝ }
+    ensures { λ r. ⌜ Picks (listOf (now (forward .entry))) i (listOf (now (reverse .entry))) j n r ⌝ }
 {
     if j == 0 {
-        return pick_forward(forward_starts, forward_ends, i, j);
+        return pick_forward(forward, i, j);
     }
-    if i == forward_count {
-        return pick_reverse(reverse_starts, reverse_ends, i, j, n);
+    if i == forward.len() {
+        return pick_reverse(reverse, i, j, n);
     }
-    if forward_starts[i] < n - reverse_ends[j - 1] {
-        return pick_forward(forward_starts, forward_ends, i, j);
+    if forward[i][0] < n - reverse[j - 1][1] {
+        return pick_forward(forward, i, j);
     }
-    pick_reverse(reverse_starts, reverse_ends, i, j, n)
+    pick_reverse(reverse, i, j, n)
 }
 
 // Joins the forward list and the reverse list, this one read backwards in n letters, and answers how many intervals there are then.
 pub fn merge_intervals(
-    forward_starts: &[u32],
-    forward_ends: &[u32],
-    forward_count: usize,
-    reverse_starts: &[u32],
-    reverse_ends: &[u32],
-    reverse_count: usize,
+    forward: &[[u32; 2]],
+    reverse: &[[u32; 2]],
     n: u32,
-    starts: &mut [u32],
-    ends: &mut [u32],
+    list: &mut [[u32; 2]],
 ) -> usize
-    requires { ⌜ Mergeable (now «forward_starts») (now «forward_ends») «forward_count»
-        (now «reverse_starts») (now «reverse_ends») «reverse_count» n ⌝ }
-    requires { ⌜ Room (length (merge (rows «forward_count» (now «forward_starts») (now «forward_ends»))
-        (backwards n (rows «reverse_count» (now «reverse_starts») (now «reverse_ends»))))) (now starts) (now ends) ⌝ }
-    ensures { λ r. ⌜ Rows (merge (rows «forward_count» (now («forward_starts» .entry)) (now («forward_ends» .entry)))
-        (backwards n (rows «reverse_count» (now («reverse_starts» .entry)) (now («reverse_ends» .entry)))))
-        (now (starts .entry)) (now (ends .entry)) (now (starts .exit)) (now (ends .exit)) r ⌝ }
+    requires { ⌜ Inside n (listOf (now reverse)) ⌝ }
+    requires { ⌜ length (merge (listOf (now forward)) (backwards n (listOf (now reverse)))) ≤ length (now list) ⌝ }
+    ensures { λ r. ⌜ Wrote (merge (listOf (now (forward .entry))) (backwards n (listOf (now (reverse .entry)))))
+        (now (list .entry)) (now (list .exit)) r ⌝ }
 {
     let mut i = 0;
-    let mut j = reverse_count;
-    let mut left = forward_count + reverse_count;
+    let mut j = reverse.len();
+    let mut left = forward.len() + reverse.len();
     let mut start = 0;
     let mut end = 0;
     let mut count = 0;
     while 0 < left {
-        let next = pick(
-            forward_starts,
-            forward_ends,
-            forward_count,
-            i,
-            reverse_starts,
-            reverse_ends,
-            j,
-            n,
-        );
+        let next = pick(forward, i, reverse, j, n);
         i = next.forward;
         j = next.reverse;
         left -= 1;
         if next.start <= end {
-            end = larger(end, next.end);
+            end = max_u32(end, next.end);
         } else {
-            count = put_nonempty(starts, ends, count, start, end);
+            count = push_nonempty(list, count, start, end);
             start = next.start;
             end = next.end;
         }
     }
-    put_nonempty(starts, ends, count, start, end)
+    push_nonempty(list, count, start, end)
 }

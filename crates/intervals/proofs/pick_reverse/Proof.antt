@@ -1,36 +1,23 @@
 -- `pick_reverse` meets its contract: the last interval of a list inside n letters has its start and its end there.
+use native.Mathlib.Omega.{arith}
 use borrow.Author.Needs.{needs}
-use Rattle.intervals.proofs.Rows.{inside-last}
+use Prim.Native.Nat.{_-_}
+use Rattle.intervals.proofs.Slice.{list-at, entry-inside}
 use Rattle.intervals.proofs.pick_reverse.Statement.{statement}
 use Rattle.intervals.proofs.pick_reverse.Tie as tie
 
-sub-last : tie.Need-sub-last
-sub-last c = search needs
+sub-t11 : tie.Need-sub-t11
+sub-t11 c = let S = c .before in entry-inside (S .args .n) (S .args .reverse .now) (S .args .j - 1) (S .pre .0) (omega arith) .1
 
-mul-t7 : tie.Need-mul-t7
-mul-t7 c = search needs
-
-shared-slice-read-t9 : tie.Need-shared-slice-read-t9
-shared-slice-read-t9 c = search needs
-
-sub-t10 : tie.Need-sub-t10
-sub-t10 c =
-    let S = c .before in
-    inside-last (S .args .n) (S .args .j) (S .args .reverse-starts .now) (S .args .reverse-ends .now) (S .pre .0 .1) (S .pre .1) .1
-
-mul-t11 : tie.Need-mul-t11
-mul-t11 c = search needs
-
-shared-slice-read-t13 : tie.Need-shared-slice-read-t13
-shared-slice-read-t13 c = search needs
-
-sub-t14 : tie.Need-sub-t14
-sub-t14 c =
-    let S = c .before .before in
-    inside-last (S .args .n) (S .args .j) (S .args .reverse-starts .now) (S .args .reverse-ends .now) (S .pre .0 .1) (S .pre .1) .0
+sub-t17 : tie.Need-sub-t17
+sub-t17 c = let S = c .before .before in entry-inside (S .args .n) (S .args .reverse .now) (S .args .j - 1) (S .pre .0) (omega arith) .0
 
 returns : tie.Need-returns
-returns c = search needs
+returns c = let A = c .before .before .args in rw (list-at (A .reverse .now) (A .j - 1))
 
 pub pick-reverse-spec : {M : Type 1} → statement M
-pick-reverse-spec = tie.close (tie.spec sub-last mul-t7 shared-slice-read-t9 sub-t10 mul-t11 shared-slice-read-t13 sub-t14 returns)
+pick-reverse-spec =
+    tie.close
+    (tie.spec
+    (λ c. search needs) (λ c. search needs) (λ c. search needs) (λ c. search needs) sub-t11
+    (λ c. search needs) (λ c. search needs) (λ c. search needs) sub-t17 returns)

@@ -1,69 +1,60 @@
 -- `save_interval` meets its contract: after the intervals that stay it puts the one that takes [start, end) in.
+use mathlib.Core.Path.{sym}
+use Prim.Native.Nat.{_≤_, _+_}
 use native.Mathlib.Omega.{arith}
 use borrow.Author.Needs.{needs}
-use Rattle.intervals.proofs.Rows.{rows-as}
-use Rattle.intervals.proofs.SaveSteps.{save-absorbs, save-appends, save-length}
+use lib.ListN.{length}
+use lib.Seq.{length-take-le}
+use Rattle.intervals.proofs.SaveSteps.{staying-within, save-absorbs, save-appends, save-length}
 use Rattle.intervals.proofs.save_interval.Statement.{statement}
 use Rattle.intervals.proofs.save_interval.Tie as tie
 
--- The arguments, where the number of intervals that stay is known.
-abbrev start : tie.After-kept-count → tie.Start
-start c = c .before .before .before .before
-
-kept-count-requires : tie.Need-kept-count-requires
-kept-count-requires c κs = search needs
-
-mul-smaller : tie.Need-mul-smaller
-mul-smaller c = search needs
-
-slice-read-smaller : tie.Need-slice-read-smaller
-slice-read-smaller c = search needs
-
-smaller-requires : tie.Need-smaller-requires
-smaller-requires c κs = search needs
-
-mul-larger : tie.Need-mul-larger
-mul-larger c = search needs
-
-slice-read-larger : tie.Need-slice-read-larger
-slice-read-larger c = search needs
-
-larger-requires : tie.Need-larger-requires
-larger-requires c κs = search needs
-
-put-interval-requires : tie.Need-put-interval-requires
-put-interval-requires c κs = search needs
+slice-aggregate-count-staying : tie.Need-slice-aggregate-count-staying
+slice-aggregate-count-staying c = let S = c .before in sym (length-take-le (S .args .count) (S .args .list .now) (S .pre .0))
 
 returns : tie.Need-returns
 returns c =
-    let K = c .before .before .before .before .before .before .before .before .before .before .before .before in
-    let A = start K .args in
-    rows-as
-    (save-absorbs (A .count) (A .starts .now) (A .ends .now) (A .start) (A .end) (K .kept-count .result) (K .kept-count .ensures)
-    (c .before .before .before .before .before .before .before .before .before .before .before .if1 .taken)
-    (c .before .before .before .before .before .before .before .before .before .smaller .ensures)
-    (c .before .before .before .before .before .before .before .larger .ensures))
-    (c .before .before .before .before .put-interval .ensures)
+    let I = c .before .before .before .before in
+    let K = I .before in
+    let S = K .before .before in
+    let A = S .args in
+    save-absorbs (A .list .now) (A .count) (A .start) (A .end) (K .count-staying .result) (S .pre .0) (K .count-staying .ensures)
+    (I .if1 .taken) (c .before .before .min-u32 .ensures) (c .max-u32 .ensures)
 
-put-interval-requires-2 : tie.Need-put-interval-requires-2
-put-interval-requires-2 c κs =
-    let K = c .before .before .before in
-    let A = start K .args in
-    let l = save-length (A .count) (A .starts .now) (A .ends .now) (A .start) (A .end) (K .kept-count .result) (K .kept-count .ensures) in
-    omega arith
+-- Where no interval goes, there is room for one more.
+room : (c : tie.Else1) → c .before .count-staying .result + 1 ≤ length (c .before .before .before .args .list .now)
+room c =
+    let S = c .before .before .before in
+    let A = S .args in
+    omega (
+      arith,
+      S .pre .1,
+      save-length (A .list .now) (A .count) (A .start) (A .end) (c .before .count-staying .result) (S .pre .0) (c .before .count-staying .ensures),
+    )
+
+mul-t22 : tie.Need-mul-t22
+mul-t22 c = omega (arith, room c)
+
+slice-set-from-list-2 : tie.Need-slice-set-from-list-2
+slice-set-from-list-2 c = omega (arith, room c)
+
+add-result-2 : tie.Need-add-result-2
+add-result-2 c = omega (arith, room c)
 
 returns-2 : tie.Need-returns-2
 returns-2 c =
-    let K = c .before .before .before .before .before .before .before .before in
-    let A = start K .args in
-    rows-as
-    (save-appends (A .count) (A .starts .now) (A .ends .now) (A .start) (A .end) (K .kept-count .result) (K .kept-count .ensures)
-    (c .before .before .before .before .before .before .before .if1 .left))
-    (c .before .before .before .before .put-interval2 .ensures)
+    let K = c .before in
+    let S = K .before .before in
+    let A = S .args in
+    save-appends (A .list .now) (A .count) (A .start) (A .end) (K .count-staying .result) (S .pre .0) (K .count-staying .ensures)
+    (omega (arith, room c)) (c .if1 .left)
 
 pub save-interval-spec : {M : Type 1} → statement M
 save-interval-spec =
     tie.close
     (tie.spec
-    kept-count-requires mul-smaller slice-read-smaller smaller-requires mul-larger slice-read-larger larger-requires
-    put-interval-requires (λ c. search needs) (λ c. search needs) returns put-interval-requires-2 (λ c. search needs) (λ c. search needs) returns-2)
+    (λ c. search needs) slice-aggregate-count-staying (λ c κs. search needs)
+    (λ c. search needs) (λ c. search needs) (λ c. search needs) (λ c κs. search needs)
+    (λ c. search needs) (λ c. search needs) (λ c. search needs) (λ c κs. search needs)
+    (λ c. search needs) (λ c. search needs) (λ c. search needs) (λ c. search needs) returns
+    mul-t22 slice-set-from-list-2 add-result-2 (λ c. search needs) returns-2)
