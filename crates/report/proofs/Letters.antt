@@ -11,7 +11,7 @@ use lib.ListN.{length, take, drop, getD, set, length-set, length-append, take-ap
 use lib.Seq.{drop-cons, drop-drop, drop-set-lt, length-take-le, take-nil, take-suc-set}
 use borrow.Author.Tests.{eq-eqb, ne-eqb}
 use Rattle.io.specs.Counts.{Counts}
-use Rattle.report.specs.Letters.{lettersOf, fitting, Holds}
+use Rattle.report.specs.Letters.{lettersOf, fitting, Held}
 use Rattle.report.specs.Written.{Written}
 use Rattle.report.proofs.Writing.{take-written, written-by}
 
@@ -105,13 +105,13 @@ take-both (suc n) (x ∷ xs) ys =
     rw e (ap (λ (l : List ℕ). x ∷ l) (take-both n xs ys))
 
 -- Nothing was read yet.
-pub holds-nothing : (d : List ℕ) → Holds [] d 0
+pub holds-nothing : (d : List ℕ) → Held [] d 0
 unfolding lettersOf
 holds-nothing d = record { letters-are = sym (take-nil (length d)) }
 
 -- A block joins what was read before it.
 pub holds-next : (bs : List ℕ) {d d′ : List ℕ} {count end : ℕ} → count ≤ length d → length d′ ≡ length d → Written (fitting bs d count) d count d′ end
-    → (bytes : List ℕ) → Holds bytes d count → Holds (bytes ++ bs) d′ end
+    → (bytes : List ℕ) → Held bytes d count → Held (bytes ++ bs) d′ end
 unfolding fitting
 holds-next bs {d} {d′} {count} {end} h l w bytes k =
     let n : count ≡ length (take (length d) (lettersOf bytes)) =

@@ -16,5 +16,5 @@ unfoldable pub fitting : List ℕ → List ℕ → ℕ → List ℕ
 fitting bs d from = take (length d - from) (lettersOf bs)
 
 -- The first `count` entries of the buffer d are the letters of the bytes that were read, as many as it has room for.
-pub record Holds (bytes d : List ℕ) (count : ℕ) : Type 0 where
+pub record Held (bytes d : List ℕ) (count : ℕ) : Type 0 where
   pub letters-are : take count d ≡ take (length d) (lettersOf bytes)
