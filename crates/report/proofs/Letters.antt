@@ -105,15 +105,15 @@ take-both (suc n) (x ∷ xs) ys =
     rw e (ap (λ (l : List ℕ). x ∷ l) (take-both n xs ys))
 
 -- Nothing was read yet.
-pub holds-nothing : (d : List ℕ) → Held [] d 0
+pub held-nothing : (d : List ℕ) → Held [] d 0
 unfolding lettersOf
-holds-nothing d = record { letters-are = sym (take-nil (length d)) }
+held-nothing d = record { letters-are = sym (take-nil (length d)) }
 
 -- A block joins what was read before it.
-pub holds-next : (bs : List ℕ) {d d′ : List ℕ} {count end : ℕ} → count ≤ length d → length d′ ≡ length d → Written (fitting bs d count) d count d′ end
+pub held-next : (bs : List ℕ) {d d′ : List ℕ} {count end : ℕ} → count ≤ length d → length d′ ≡ length d → Written (fitting bs d count) d count d′ end
     → (bytes : List ℕ) → Held bytes d count → Held (bytes ++ bs) d′ end
 unfolding fitting
-holds-next bs {d} {d′} {count} {end} h l w bytes k =
+held-next bs {d} {d′} {count} {end} h l w bytes k =
     let n : count ≡ length (take (length d) (lettersOf bytes)) =
     sym (length-take-le count d h) ∙ ap (λ (l : List ℕ). length l) (k .letters-are) in
     record {

@@ -5,7 +5,7 @@ ghost use Prim.Native.Nat.{ℕ, _≤_};
 ghost use mathlib.Core.Path.{_≡_};
 ghost use mathlib.Core.List.{List};
 ghost use lib.ListN.{length};
-ghost use Rattle.report.specs.Letters.{Holds};
+ghost use Rattle.report.specs.Letters.{Held};
 
 // What was read: how many letters are held, and whether a read failed.
 struct Input {
@@ -17,7 +17,7 @@ struct Input {
 // contract can say which bytes a read brings. A loop has to be shown to end: this one would after 2^64 - 1 reads.
 fn read_letters(letters: &mut [u8]) -> Input
     requires { ⌜ length (now letters) ≡ 32769 ⌝ }
-    ensures { λ r. ⌜ ((bytes : List ℕ) × Holds bytes (now (letters .exit)) (r .count)) ⌝ }
+    ensures { λ r. ⌜ ((bytes : List ℕ) × Held bytes (now (letters .exit)) (r .count)) ⌝ }
     ensures { λ r. ⌜ r .count ≤ 32769 ⌝ }
 {
     let mut block = io::large_buffer();
@@ -51,8 +51,8 @@ fn read_letters(letters: &mut [u8]) -> Input
 }
 
 fn main() {
-    let mut letters = [0u8; contig::MOST_HELD];
-    let mut text = [0u8; contig::MOST_TEXT];
+    let mut letters = [0u8; contig::LETTERS_ROOM];
+    let mut text = [0u8; contig::TEXT_ROOM];
     let input = read_letters(&mut letters);
     if input.failed {
         os::fail(b"track: standard input");

@@ -1,13 +1,13 @@
 // What `track` prints for the inputs that the paper names, and at the bounds of what it takes.
 
 fn print_text(bytes: &[u8]) {
-    let mut text = [0u8; contig::MOST_TEXT];
+    let mut text = [0u8; contig::TEXT_ROOM];
     let end = contig::write_text(bytes, &mut text);
     io::write_all(libc::STDOUT_FILENO, &text[..end]);
 }
 
 fn main() {
-    let mut letters = [b'A'; contig::MOST_HELD];
+    let mut letters = [b'A'; contig::LETTERS_ROOM];
     print_text(&letters[..20]);
     print_text(&letters[..9]);
     print_text(&letters[..10]);

@@ -8,10 +8,10 @@ mod Tie
 
 returns : tie.Need-returns
 returns c =
-    let P = c .before .before .before .before .before .before .before .before .before .before .before .before .before .before .before .before in
-    let D = P .before .before .before .before .before .before .before .before .before .before .before .before .before .before .before in
+    let P = c .before .before .before .before .before .before .before .before .before .before .before in
+    let D = P .before .before .before .before .before .before .before .before .before .before .before .before in
     let S = D .before .before .before .before .before in
-    ran _ (S .args .starts .now) (S .args .ends .now) (search needs) (S .pre .0) (S .pre .1) (D .default .ensures) (P .process .ensures)
+    ran _ _ _ (S .args .list .now) (search needs) (search needs) (search needs) (S .pre) (D .default .ensures) (P .process .ensures)
 
 pub mask-letters-spec : {M : Type 1} → statement M
 mask-letters-spec =
@@ -19,8 +19,8 @@ mask-letters-spec =
     (tie.spec
     (λ c κs. search needs)
     (λ c κs. search needs)
-    (λ c. search needs)
-    (λ c. search needs)
+    (λ c κs. search needs)
+    (λ c κs. search needs)
     (λ c. search needs)
     (λ c. search needs)
     (λ c. search needs)
@@ -32,6 +32,5 @@ mask-letters-spec =
     (λ c. search needs)
     (λ c. search needs)
     (λ c κs. search needs)
-    (λ c. search needs)
     (λ c. search needs)
     returns)

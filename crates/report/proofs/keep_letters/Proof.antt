@@ -4,7 +4,7 @@ use native.Mathlib.Omega.{arith}
 use borrow.Author.Needs.{needs}
 use lib.ListN.{length}
 use Rattle.io.proofs.Counting.{counts}
-use Rattle.report.proofs.Letters.{Keeping, start, skip, store, full, ended, holds-next}
+use Rattle.report.proofs.Letters.{Keeping, start, skip, store, full, ended, held-next}
 use Rattle.report.proofs.keep_letters.Statement.{statement}
 use Rattle.report.proofs.keep_letters.Tie as tie
 
@@ -22,7 +22,7 @@ returns c =
     let K = c .before .before .before .before .loop .inv in
     let h = c .before .before .before .before .before .pre in
     let W = full _ _ _ _ _ _ K h (omega arith) in
-    (W, (holds-next _ h (K .long) W, counts _ _ (K .room)))
+    (W, (held-next _ h (K .long) W, counts _ _ (K .room)))
 
 loop-again-2 : tie.Need-loop-again-2 Inv-loop μ-loop
 loop-again-2 c =
@@ -34,7 +34,7 @@ returns-2 c =
     let K = c .before .loop .inv in
     let h = c .before .before .pre in
     let W = ended _ _ _ _ _ _ K h (c .loop-test .left) in
-    (W, (holds-next _ h (K .long) W, counts _ _ (K .room)))
+    (W, (held-next _ h (K .long) W, counts _ _ (K .room)))
 
 pub keep-letters-spec : {M : Type 1} → statement M
 keep-letters-spec =

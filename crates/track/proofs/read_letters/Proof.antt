@@ -1,25 +1,25 @@
--- `read_letters` meets its contract. The invariant: the buffer holds the letters of the blocks read so far.
+-- `read_letters` meets its contract. The invariant: the buffer held the letters of the blocks read so far.
 use Prim.Native.Nat.{ℕ, _≤_}
 use mathlib.Core.Path.{_≡_, _∙_}
 use mathlib.Core.List.{List, []}
 use borrow.Author.Needs.{needs}
 use lib.ListN.{length}
 use native.Mathlib.Omega.{arith}
-use Rattle.report.specs.Letters.{Holds}
-use Rattle.report.proofs.Letters.{holds-nothing}
+use Rattle.report.specs.Letters.{Held}
+use Rattle.report.proofs.Letters.{held-nothing}
 use Rattle.track.proofs.read_letters.Statement.{statement}
 use Rattle.track.proofs.read_letters.Tie as tie
 
 record Reading (letters₀ letters block : List ℕ) (count : ℕ) : Type 0 where
   bytes : List ℕ
-  holds : Holds bytes letters count
+  held : Held bytes letters count
   room : count ≤ 32769
   same : length letters ≡ length letters₀
   long : 65536 ≡ length block
 
 -- What every return says.
-told : {letters₀ letters block : List ℕ} {count : ℕ} → Reading letters₀ letters block count → ((bytes : List ℕ) × Holds bytes letters count) × (count ≤ 32769)
-told R = ((R .bytes, R .holds), R .room)
+told : {letters₀ letters block : List ℕ} {count : ℕ} → Reading letters₀ letters block count → ((bytes : List ℕ) × Held bytes letters count) × (count ≤ 32769)
+told R = ((R .bytes, R .held), R .room)
 
 abbrev Inv-loop : tie.InvT-loop
 Inv-loop letters₀ block₀ count₀ reads₀ letters block count reads = Reading letters₀ letters block count
@@ -27,13 +27,13 @@ Inv-loop letters₀ block₀ count₀ reads₀ letters block count reads = Readi
 abbrev μ-loop : tie.MeasureT-loop
 μ-loop letters₀ block₀ count₀ reads₀ letters block count reads = reads
 
-loop-holds : tie.Need-loop-holds Inv-loop μ-loop
-loop-holds c = record { bytes = []; holds = holds-nothing _; room = omega arith; same = search needs; long = search needs }
+loop-held : tie.Need-loop-held Inv-loop μ-loop
+loop-held c = record { bytes = []; held = held-nothing _; room = omega arith; same = search needs; long = search needs }
 
 loop-again : tie.Need-loop-again Inv-loop μ-loop
 loop-again c =
     let R = c .before .before .before .before .before .before .before .before .loop .inv in
-    record { bytes = R .bytes; holds = R .holds; room = R .room; same = R .same; long = search needs }
+    record { bytes = R .bytes; held = R .held; room = R .room; same = R .same; long = search needs }
 
 loop-again-2 : tie.Need-loop-again-2 Inv-loop μ-loop
 loop-again-2 c =
@@ -41,7 +41,7 @@ loop-again-2 c =
     let R = c .before .before .before .before .before .before .before .before .before .before .before .before .before .before .loop .inv in
     record {
       bytes = _;
-      holds = K .ensures .1 .0 (R .bytes) (R .holds);
+      held = K .ensures .1 .0 (R .bytes) (R .held);
       room = omega (arith, K .ensures .1 .1);
       same = search needs;
       long = search needs;
@@ -54,7 +54,7 @@ read-letters-spec =
     Inv-loop
     μ-loop
     (λ c κs. search needs)
-    loop-holds
+    loop-held
     (λ c. search needs)
     (λ c. search needs)
     (λ c κs. search needs)
