@@ -14,8 +14,11 @@ use scans::ForwardPosition;
 
 // The most letters that are taken, and room for one more, so that too many show; room for their intervals, and for the longest text.
 pub const MOST_LETTERS: usize = 32768;
+
 pub const LETTERS_ROOM: usize = 32769;
+
 pub const LIST_ROOM: usize = 4096;
+
 pub const TEXT_ROOM: usize = 49167;
 
 // What a run answers: the refusal number, 0 for an accepted contig, and the interval count.
