@@ -29,12 +29,10 @@
  *   window_counts, scan_counts        4^k each
  *   candidates                        w
  *   codes, reverse_codes              n each
- *   forward_starts, forward_ends      R each
- *   reverse_starts, reverse_ends      R each
- *   starts, ends                      R each
+ *   forward_list, reverse_list, list  R pairs each
  * The work slices may hold anything before a call and are left with any content.
  *
- * The result is the number of masked intervals, and starts[i] to ends[i] (from 0, the end not
+ * The result is the number of masked intervals, and list[i][0] to list[i][1] (from 0, the end not
  * included) is the i-th of them, in order, apart from each other; entries past the last do not
  * change. *in_range is 1 if score_threshold is at most 16, ln entries 1..w lie in 0..16 and f entries
  * 1..w in 0..1048576, else 0.
@@ -83,12 +81,9 @@ int64_t longdust_process_tables(
     struct longdust_forward_position *candidates, size_t candidates_len,
     uint8_t *codes, size_t codes_len,
     uint8_t *reverse_codes, size_t reverse_codes_len,
-    uint32_t *forward_starts, size_t forward_starts_len,
-    uint32_t *forward_ends, size_t forward_ends_len,
-    uint32_t *reverse_starts, size_t reverse_starts_len,
-    uint32_t *reverse_ends, size_t reverse_ends_len,
-    uint32_t *starts, size_t starts_len,
-    uint32_t *ends, size_t ends_len,
+    uint32_t (*forward_list)[2], size_t forward_list_len,
+    uint32_t (*reverse_list)[2], size_t reverse_list_len,
+    uint32_t (*list)[2], size_t list_len,
     uint32_t *in_range);
 
 /* Fills ln 0..w and f 0..w+1 for the options and the sequence, then masks with them. */
@@ -105,12 +100,9 @@ int64_t longdust_process(
     struct longdust_forward_position *candidates, size_t candidates_len,
     uint8_t *codes, size_t codes_len,
     uint8_t *reverse_codes, size_t reverse_codes_len,
-    uint32_t *forward_starts, size_t forward_starts_len,
-    uint32_t *forward_ends, size_t forward_ends_len,
-    uint32_t *reverse_starts, size_t reverse_starts_len,
-    uint32_t *reverse_ends, size_t reverse_ends_len,
-    uint32_t *starts, size_t starts_len,
-    uint32_t *ends, size_t ends_len,
+    uint32_t (*forward_list)[2], size_t forward_list_len,
+    uint32_t (*reverse_list)[2], size_t reverse_list_len,
+    uint32_t (*list)[2], size_t list_len,
     uint32_t *in_range);
 
 #ifdef __cplusplus

@@ -1,7 +1,7 @@
 -- One step of `insert`, `nonempty` and `join`, an equation for each outcome of its test.
 use Prim.Native.Nat.{ℕ, _≤_, _<_, max}
-use mathlib.Core.Path.{_≡_, sym}
-use mathlib.Core.List.{List, [], _∷_, _++_, append-nil}
+use mathlib.Core.Path.{_≡_}
+use mathlib.Core.List.{List, [], _∷_, _++_}
 use borrow.Author.Tests.{lt-ltb, le-ltb, le-leb, lt-leb}
 use Rattle.intervals.specs.Interval.{Interval, interval}
 use Rattle.intervals.specs.Merge.{insert, nonempty, join}
@@ -32,10 +32,3 @@ module _ (s e : ℕ) where
     pub join-gap : e < i .start → join s e (i ∷ is) ≡ nonempty s e ++ join (i .start) (i .end) is
     unfolding join
     join-gap h = simp (lt-leb _ _ h)
-
--- `nonempty` at the end of a list.
-pub put-some : (is : List Interval) (s e : ℕ) → s < e → is ++ (interval s e ∷ []) ≡ is ++ nonempty s e
-put-some is s e h = rw (nonempty-some s e h)
-
-pub put-none : (is : List Interval) (s e : ℕ) → e ≤ s → is ≡ is ++ nonempty s e
-put-none is s e h = rw (nonempty-none s e h) (sym (append-nil is))

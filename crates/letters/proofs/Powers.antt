@@ -12,6 +12,13 @@ four-pos k = pow-le-pow-right {n = 4} (lit< tt) {i = 0} {j = k} (omega arith)
 pub four-small : (k : ℕ) → k ≤ 12 → 4 ^ k ≤ 16777216
 four-small k h = pow-le-pow-right {n = 4} (lit< tt) {i = k} {j = 12} h
 
+-- The most that 64 bits hold, and more.
+pub four-fits : (k : ℕ) → k ≤ 31 → 4 ^ k ≤ 4611686018427387904
+four-fits k h = pow-le-pow-right {n = 4} (lit< tt) {i = k} {j = 31} h
+
+pub four-large : (k : ℕ) → 31 < k → 18446744073709551616 ≤ 4 ^ k
+four-large k h = pow-le-pow-right {n = 4} (lit< tt) {i = 32} {j = k} h
+
 pub four-two : (k : ℕ) → 4 ^ k ≡ 2 ^ (2 * k)
 four-two zero = refl
 four-two (suc k) = pow-suc 4 k ∙ ap (λ (n : ℕ). n * 4) (four-two k) ∙ sym (pow-add 2 (2 * k) 2) ∙ ap (λ (n : ℕ). 2 ^ n) (omega arith)

@@ -2,6 +2,7 @@
 
 ghost use mathlib.Core.Path.{_≡_};
 ghost use Prim.Native.Nat.{_^_, _≤_, _<_};
+ghost use lib.Dec.{ltb};
 ghost use lib.ListN.{length};
 ghost use Rattle.buffers.specs.Fill.{put};
 ghost use Rattle.letters.specs.Code.{code, codes, complement, reverseComplement};
@@ -55,6 +56,16 @@ pub fn n_kmers(k: usize) -> usize
     ensures { λ r. ⌜ r ≡ 4 ^ k ⌝ }
 {
     1usize << (2 * k)
+}
+
+// Whether a slice of `len` counts is too short for all k-mers, also where there are more of these than a number can say.
+pub fn below_n_kmers(len: usize, k: usize) -> bool
+    ensures { λ r. ⌜ r ≡ ltb len (4 ^ k) ⌝ }
+{
+    if 31 < k {
+        return true;
+    }
+    len < 1usize << (2 * k)
 }
 
 // The last letters of a strand: the k-mer that they pack, and how many of them in a row have codes below 4.

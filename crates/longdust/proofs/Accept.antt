@@ -1,8 +1,8 @@
--- The checks read one by one, and what a request has that no check refuses.
+-- What a request has that no check refuses.
 use mathlib.Core.Path.{_≡_, refl}
 use mathlib.Core.Bool.{Bool, true, false}
 use mathlib.Core.List.{List, [], _∷_}
-use Prim.Native.Nat.{ℕ, _+_, _^_, _/_, _≤_, _<_}
+use Prim.Native.Nat.{ℕ, _+_, _^_, _<_}
 use native.Mathlib.Omega.{arith}
 use lib.Dec.{ltb}
 use lib.ListN.{length, drop}
@@ -10,35 +10,22 @@ use borrow.Author.Tests.{ltb-false}
 use Rattle.scans.proofs.Test.{neither}
 use Rattle.longdust.specs.declared.LongdustOptions.{LongdustOptions}
 use Rattle.longdust.specs.declared.Lent.{Lent}
-use Rattle.longdust.specs.Checks.{Check, check, checks, first, refusal, kmerOutside, anyHigh, thresholdBad, gcBad, xdropBad, tooShort}
-use Rattle.longdust.specs.Inner.{Enough, Admitted}
-
-pub skip : (i : ℕ) (b : Bool) (cs : List Check) → b ≡ false → first (check i b ∷ cs) ≡ first cs
-skip i b cs e = rw e
-
-pub stop : (i : ℕ) (b : Bool) (cs : List Check) → b ≡ true → first (check i b ∷ cs) ≡ i
-stop i b cs e = rw e
+use Rattle.checks.specs.Checks.{Check, check, first}
+use Rattle.checks.specs.Tests.{kmerOutside, anyHigh, tooFewLetters, windowBelow, windowAbove, thresholdBad, minStartBelow, tooManyLetters, mostIntervals}
+use Rattle.longdust.specs.Checks.{checks, refusal, gcBad, xdropBad, tooShort}
+use Rattle.longdust.specs.Terms.Inner.{Enough, Admitted}
 
 passes : (i : ℕ) (b : Bool) (cs : List Check) → 0 < i → first (check i b ∷ cs) ≡ 0 → (b ≡ false) × (first cs ≡ 0)
 passes i true cs h e = absurd (let z : ⊥ = omega arith in z)
 passes i false cs h e = (refl, e)
 
-pub kmer-inside : (k : ℕ) → kmerOutside k ≡ false → (1 ≤ k) × (k ≤ 12)
-unfolding kmerOutside
-kmer-inside k e =
-    let p = neither (ltb k 1) (ltb 12 k) e in
-    (ltb-false k 1 (p .0), ltb-false 12 k (p .1))
-
 enough : (n k w : ℕ) (b : Lent) → tooShort n k w b ≡ false → Enough n k w b
 unfolding tooShort
 enough n k w b e =
-    let R = (n + 1) / (k + 1) in
-    let p14 = neither _ (ltb (b .ends) R) e in
-    let p13 = neither _ (ltb (b .starts) R) (p14 .0) in
-    let p12 = neither _ (ltb (b .«reverse_ends») R) (p13 .0) in
-    let p11 = neither _ (ltb (b .«reverse_starts») R) (p12 .0) in
-    let p10 = neither _ (ltb (b .«forward_ends») R) (p11 .0) in
-    let p9 = neither _ (ltb (b .«forward_starts») R) (p10 .0) in
+    let R = mostIntervals n k in
+    let p11 = neither _ (ltb (b .list) R) e in
+    let p10 = neither _ (ltb (b .«reverse_list») R) (p11 .0) in
+    let p9 = neither _ (ltb (b .«forward_list») R) (p10 .0) in
     let p8 = neither _ (ltb (b .«reverse_codes») n) (p9 .0) in
     let p7 = neither _ (ltb (b .codes) n) (p8 .0) in
     let p6 = neither _ (ltb (b .candidates) w) (p7 .0) in
@@ -55,12 +42,9 @@ enough n k w b e =
       candidates = ltb-false (b .candidates) w (p6 .1);
       codes = ltb-false (b .codes) n (p7 .1);
       reverse-codes = ltb-false (b .«reverse_codes») n (p8 .1);
-      forward-starts = ltb-false (b .«forward_starts») R (p9 .1);
-      forward-ends = ltb-false (b .«forward_ends») R (p10 .1);
-      reverse-starts = ltb-false (b .«reverse_starts») R (p11 .1);
-      reverse-ends = ltb-false (b .«reverse_ends») R (p12 .1);
-      starts = ltb-false (b .starts) R (p13 .1);
-      ends = ltb-false (b .ends) R (p14 .1);
+      forward-list = ltb-false (b .«forward_list») R (p9 .1);
+      reverse-list = ltb-false (b .«reverse_list») R (p10 .1);
+      list = ltb-false (b .list) R (p11 .1);
     }
 
 pub admitted : (o : LongdustOptions) (s : List ℕ) (b : Lent) → refusal o s b ≡ 0 → Admitted o (length s) b
@@ -72,21 +56,21 @@ admitted o s b e =
     let left : ℕ → List Check = λ j. drop j (checks o s b) in
     let p1 = passes 1 (kmerOutside k) (left 1) (omega arith) e in
     let p2 = passes 2 (anyHigh s) (left 2) (omega arith) (p1 .1) in
-    let p3 = passes 3 (ltb n (k + 1)) (left 3) (omega arith) (p2 .1) in
-    let p4 = passes 4 (ltb w (k + 1)) (left 4) (omega arith) (p3 .1) in
-    let p5 = passes 5 (ltb 65535 w) (left 5) (omega arith) (p4 .1) in
+    let p3 = passes 3 (tooFewLetters n k) (left 3) (omega arith) (p2 .1) in
+    let p4 = passes 4 (windowBelow w k) (left 4) (omega arith) (p3 .1) in
+    let p5 = passes 5 (windowAbove w) (left 5) (omega arith) (p4 .1) in
     let p6 = passes 6 (thresholdBad (o .«score_threshold»)) (left 6) (omega arith) (p5 .1) in
     let p7 = passes 7 (gcBad (o .gc)) (left 7) (omega arith) (p6 .1) in
-    let p8 = passes 8 (ltb (o .«min_start_cnt») 2) (left 8) (omega arith) (p7 .1) in
+    let p8 = passes 8 (minStartBelow (o .«min_start_cnt»)) (left 8) (omega arith) (p7 .1) in
     let p9 = passes 9 (xdropBad (o .xdrop)) (left 9) (omega arith) (p8 .1) in
-    let p10 = passes 10 (ltb 2147483647 n) (left 10) (omega arith) (p9 .1) in
+    let p10 = passes 10 (tooManyLetters n) (left 10) (omega arith) (p9 .1) in
     let p11 = passes 11 (tooShort n k w b) [] (omega arith) (p10 .1) in
-    let inside = kmer-inside k (p1 .0) in
+    let inside = neither (ltb k 1) (ltb 12 k) (p1 .0) in
     record {
       bounds =
           record {
-            kmer-low = inside .0;
-            kmer-high = inside .1;
+            kmer-low = ltb-false k 1 (inside .0);
+            kmer-high = ltb-false 12 k (inside .1);
             window-low = ltb-false w (k + 1) (p4 .0);
             window-high = ltb-false 65535 w (p5 .0);
             threshold-good = p6 .0;

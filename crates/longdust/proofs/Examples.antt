@@ -4,12 +4,13 @@ use mathlib.Core.Bool.{false}
 use mathlib.Core.List.{[], _∷_}
 use Prim.Native.Nat.{ℕ}
 use lib.Ieee.{binary64, ofBits, round}
+use Rattle.checks.specs.Tests.{anyHigh}
 use Rattle.scans.specs.declared.Xdrop.the-variants.{Off}
 use Rattle.tables.specs.declared.GcOption.the-variants.{Uniform}
 use Rattle.longdust.specs.declared.LongdustOptions.{LongdustOptions}
 use Rattle.longdust.specs.declared.Lent.{Lent}
 use Rattle.longdust.specs.Options.{threshold06}
-use Rattle.longdust.specs.Checks.{refusal, kmerOutside, anyHigh}
+use Rattle.longdust.specs.Checks.{refusal}
 
 threshold06-is : threshold06 ≡ round binary64 false 6 10
 unfolding ofBits round
@@ -30,10 +31,10 @@ options k w =
 
 -- k = 13 with a byte 200
 kmer-first : (b : Lent) → refusal (options 13 5000) (200 ∷ []) b ≡ 1
-unfolding refusal kmerOutside
+unfolding refusal
 kmer-first b = refl
 
 -- "AC", k = w = 2
 letters-before-window : (b : Lent) → refusal (options 2 2) (65 ∷ 67 ∷ []) b ≡ 3
-unfolding refusal kmerOutside anyHigh
+unfolding refusal anyHigh
 letters-before-window b = refl

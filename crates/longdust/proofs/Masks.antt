@@ -3,13 +3,13 @@ use mathlib.Core.Path.{_≡_, refl, sym, subst}
 use Prim.Native.Nat.{ℕ, _+_, _-_, _/_, _≤_, _<_}
 use native.Mathlib.Omega.{arith}
 use mathlib.Core.Logic.{inl, inr, ⊎-elim}
-use mathlib.Core.Bool.{Bool, true, false, cond}
-use mathlib.Core.List.{List, []}
+use mathlib.Core.Bool.{Bool, true, false}
+use mathlib.Core.List.{List}
 use lib.ListN.{length}
 use lib.Dec.{T}
 use Rattle.letters.specs.Code.{reverseComplement}
 use Rattle.letters.proofs.Codes.{reverseComplement-length}
-use Rattle.intervals.specs.Interval.{Interval, Canonical, Covers}
+use Rattle.intervals.specs.Interval.{Canonical, Covers}
 use Rattle.intervals.specs.Merge.{merge, backwards}
 use Rattle.intervals.proofs.Shape.{covers-below, merge-canonical, canonical-room}
 use Rattle.intervals.proofs.Covered.{merge-covers}
@@ -20,6 +20,7 @@ use Rattle.strand.specs.Step.{intervalsOf}
 use Rattle.strand.specs.Range.{inRange, CheckedSetup}
 use Rattle.strand.proofs.Theorems.{strand-shape, strand-evidence}
 use Rattle.longdust.specs.Mask.{maskOf, Evident}
+use Rattle.longdust.specs.Terms.Inner.{otherIntervals}
 
 pub other-shape : (S : Setup) (s : List ℕ) → Canonical (length s) (S .kmer) (intervalsOf S (reverseComplement s))
 other-shape S s =
@@ -36,10 +37,6 @@ mask-shape S false s k =
 -- R = (n + 1) / (k + 1) entries suffice.
 pub mask-room : (S : Setup) (b : Bool) (s : List ℕ) → 0 < S .kmer → length (maskOf S b s) ≤ (length s + 1) / (S .kmer + 1)
 mask-room S b s k = canonical-room (length s) (S .kmer) (maskOf S b s) (mask-shape S b s k)
-
--- The list of the other strand; in a forward-only run it is not scanned.
-abbrev pub otherIntervals : Setup → Bool → List ℕ → List Interval
-otherIntervals S forward-only s = cond forward-only [] (intervalsOf S (reverseComplement s))
 
 pub others-shape : (S : Setup) (b : Bool) (s : List ℕ) → Canonical (length s) (S .kmer) (otherIntervals S b s)
 others-shape S true s = tt

@@ -18,7 +18,7 @@ use mathlib.Core.List
 use mathlib.Core.Path as Path'
 use mir.Syntax
 
-abbrev pub ps : List.List (Kinds.PK 14)
+abbrev pub ps : List.List (Kinds.PK 11)
 ps = List._∷_ (Value.pVal record {
   ty = Declared.row Params.the-type;
   one = Path'.refl;
@@ -54,18 +54,12 @@ ps = List._∷_ (Value.pVal record {
     (List._∷_
     (MutSlice.pMutS (Referent.rtF (Referent.fInt Syntax.w8)) 7 tt)
     (List._∷_
-    (MutSlice.pMutS (Referent.rtF (Referent.fInt Syntax.w32)) 8 tt)
+    (MutSlice.pMutS (Array.Array (Referent.rtF (Referent.fInt Syntax.w32)) 2) 8 tt)
     (List._∷_
-    (MutSlice.pMutS (Referent.rtF (Referent.fInt Syntax.w32)) 9 tt)
+    (MutSlice.pMutS (Array.Array (Referent.rtF (Referent.fInt Syntax.w32)) 2) 9 tt)
     (List._∷_
-    (MutSlice.pMutS (Referent.rtF (Referent.fInt Syntax.w32)) 10 tt)
-    (List._∷_
-    (MutSlice.pMutS (Referent.rtF (Referent.fInt Syntax.w32)) 11 tt)
-    (List._∷_
-    (MutSlice.pMutS (Referent.rtF (Referent.fInt Syntax.w32)) 12 tt)
-    (List._∷_
-    (MutSlice.pMutS (Referent.rtF (Referent.fInt Syntax.w32)) 13 tt)
-    List.[])))))))))))))))
+    (MutSlice.pMutS (Array.Array (Referent.rtF (Referent.fInt Syntax.w32)) 2) 10 tt)
+    List.[]))))))))))))
 
-abbrev pub r : Kinds.RK 14
+abbrev pub r : Kinds.RK 11
 r = Kinds.rNum Syntax.w64

@@ -20,26 +20,25 @@ use mathlib.Core.List
 use mathlib.Core.Path as Path'
 use mir.Syntax
 
-abbrev pub ps : List.List (Kinds.PK 14)
-ps =
-    List._∷_
+abbrev pub ps : List.List (Kinds.PK 11)
+ps = List._∷_ (Value.pVal record {
+  ty = Declared.row LongdustOptions.the-type;
+  one = Path'.refl;
+  val = Laws''.val LongdustOptions.the-type Laws'.the-laws;
+  tells = Laws''.tells LongdustOptions.the-type Laws'.the-laws;
+  still = Laws''.still LongdustOptions.the-type Laws'.the-copy Exit.yes;
+  row = Rows.whole (Declared.row LongdustOptions.the-type);
+  rd = λ x. x;
+  mk = λ x. x;
+} λ M 𝓤 H A W. record {
+  copies = Laws''.copy LongdustOptions.the-type Laws'.the-copy 𝓤 H A W;
+  lawful = Laws''.lawful LongdustOptions.the-type Laws'.the-laws 𝓤 H A W;
+  makes = Laws''.makes LongdustOptions.the-type Laws'.the-plain 𝓤 H A;
+  in-mem = Local.mem-whole 𝓤 H A W (Declared.row LongdustOptions.the-type);
+  of-mem = Local.whole-mem 𝓤 H A W (Declared.row LongdustOptions.the-type);
+})
+    (List._∷_
     (ShrSlice.pShrS (Referent.rtF (Referent.fInt Syntax.w8)) 0 tt)
-    (List._∷_ (Value.pVal record {
-      ty = Declared.row LongdustOptions.the-type;
-      one = Path'.refl;
-      val = Laws''.val LongdustOptions.the-type Laws'.the-laws;
-      tells = Laws''.tells LongdustOptions.the-type Laws'.the-laws;
-      still = Laws''.still LongdustOptions.the-type Laws'.the-copy Exit.yes;
-      row = Rows.whole (Declared.row LongdustOptions.the-type);
-      rd = λ x. x;
-      mk = λ x. x;
-    } λ M 𝓤 H A W. record {
-      copies = Laws''.copy LongdustOptions.the-type Laws'.the-copy 𝓤 H A W;
-      lawful = Laws''.lawful LongdustOptions.the-type Laws'.the-laws 𝓤 H A W;
-      makes = Laws''.makes LongdustOptions.the-type Laws'.the-plain 𝓤 H A;
-      in-mem = Local.mem-whole 𝓤 H A W (Declared.row LongdustOptions.the-type);
-      of-mem = Local.whole-mem 𝓤 H A W (Declared.row LongdustOptions.the-type);
-    })
     (List._∷_
     (ShrSlice.pShrS (Referent.rtF (Referent.fFloat Ieee.binary64)) 1 tt)
     (List._∷_
@@ -55,20 +54,14 @@ ps =
     (List._∷_
     (MutSlice.pMutS (Referent.rtF (Referent.fInt Syntax.w8)) 7 tt)
     (List._∷_
-    (MutSlice.pMutS (Referent.rtF (Referent.fInt Syntax.w32)) 8 tt)
+    (MutSlice.pMutS (Array.Array (Referent.rtF (Referent.fInt Syntax.w32)) 2) 8 tt)
     (List._∷_
-    (MutSlice.pMutS (Referent.rtF (Referent.fInt Syntax.w32)) 9 tt)
+    (MutSlice.pMutS (Array.Array (Referent.rtF (Referent.fInt Syntax.w32)) 2) 9 tt)
     (List._∷_
-    (MutSlice.pMutS (Referent.rtF (Referent.fInt Syntax.w32)) 10 tt)
-    (List._∷_
-    (MutSlice.pMutS (Referent.rtF (Referent.fInt Syntax.w32)) 11 tt)
-    (List._∷_
-    (MutSlice.pMutS (Referent.rtF (Referent.fInt Syntax.w32)) 12 tt)
-    (List._∷_
-    (MutSlice.pMutS (Referent.rtF (Referent.fInt Syntax.w32)) 13 tt)
-    List.[]))))))))))))))
+    (MutSlice.pMutS (Array.Array (Referent.rtF (Referent.fInt Syntax.w32)) 2) 10 tt)
+    List.[])))))))))))
 
-abbrev pub r : Kinds.RK 14
+abbrev pub r : Kinds.RK 11
 r = Value.rVal record {
   ty = Declared.row Answer.the-type;
   one = Path'.refl;

@@ -9,13 +9,13 @@ use lib.ListN.{getD}
 use lib.Dec.{T}
 use lib.Ieee.{Float, nan, inf, binary64, fits, lt}
 use Rattle.floats.specs.Binary64.{zero64}
+use Rattle.checks.specs.Tests.{thresholdBad}
 use Rattle.scans.specs.declared.Params.{Params}
 use Rattle.scans.specs.Setup.{Setup, setupOf, dropLimit, maxTest}
 use Rattle.strand.specs.Range.{CheckedSetup}
 use Rattle.longdust.specs.declared.LongdustOptions.{LongdustOptions}
-use Rattle.longdust.specs.Checks.{thresholdBad}
 use Rattle.longdust.specs.Mask.{setup}
-use Rattle.longdust.specs.Inner.{Bounds, Prepared}
+use Rattle.longdust.specs.Terms.Inner.{Bounds, Prepared}
 
 pub prepared : (o : LongdustOptions) (ln f : List Float) (limit : Float) (test test′ : ℤ) → test′ ≡ test
     → limit ≡ dropLimit (o .xdrop) (o .«window_size») (o .«score_threshold»)

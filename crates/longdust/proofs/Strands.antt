@@ -1,71 +1,66 @@
--- Both strands' lists in their slices, merged: what the merge asks, and that it leaves the mask.
-use mathlib.Core.Path.{_≡_, sym, ap, _∙_}
+-- Both strands' lists in the fronts of their slices, merged: what the merge asks, and that it leaves the mask.
+use mathlib.Core.Path.{_≡_, sym, ap₂, subst, _∙_}
 use mathlib.Core.Bool.{Bool, true, false}
 use mathlib.Core.List.{List}
 use Prim.Native.Nat.{ℕ, _+_, _/_, _≤_, _<_}
 use native.Mathlib.Omega.{arith}
-use lib.ListN.{length}
+use lib.ListN.{length, take}
 use Rattle.buffers.specs.Fill.{put}
 use Rattle.buffers.proofs.Filling.{put-all}
 use Rattle.letters.specs.Code.{reverseComplement}
 use Rattle.letters.proofs.Codes.{reverseComplement-length}
-use Rattle.intervals.specs.Interval.{Interval}
+use Rattle.intervals.specs.Interval.{Interval, Inside, listOf, Wrote}
 use Rattle.intervals.specs.Merge.{merge, backwards}
-use Rattle.intervals.specs.Rows.{rows, Room, Rows}
-use Rattle.intervals.specs.Pick.{Mergeable}
-use Rattle.intervals.proofs.Shape.{ascending-inside, canonical-room}
-use Rattle.intervals.proofs.Rows.{length-rows, rows-as}
+use Rattle.intervals.proofs.Shape.{ascending-inside}
 use Rattle.scans.specs.declared.Params.{Params}
 use Rattle.scans.specs.Setup.{Setup}
 use Rattle.strand.specs.Step.{intervalsOf}
-use Rattle.strand.specs.Held.{StrandLent}
+use Rattle.strand.specs.Terms.Running.{StrandLent, StrandList}
 use Rattle.strand.proofs.Theorems.{strand-room}
 use Rattle.longdust.specs.Mask.{maskOf}
-use Rattle.longdust.proofs.Masks.{mask-room, mask-merged, otherIntervals, others-shape}
+use Rattle.longdust.specs.Terms.Inner.{otherIntervals, Scanned, ReverseLent, Mergeable}
+use Rattle.longdust.proofs.Masks.{mask-room, mask-merged, others-shape}
 
-pub lent-as : {p : Params} {n ln f q w s c st en n′ q′ w′ s′ c′ : ℕ} → StrandLent p n ln f q w s c st en
-    → n′ ≡ n → q′ ≡ q → w′ ≡ w → s′ ≡ s → c′ ≡ c → StrandLent p n′ ln f q′ w′ s′ c′ st en
+pub lent-as : {p : Params} {n ln f q w s c l n′ q′ w′ s′ c′ : ℕ} → StrandLent p n ln f q w s c l
+    → n′ ≡ n → q′ ≡ q → w′ ≡ w → s′ ≡ s → c′ ≡ c → StrandLent p n′ ln f q′ w′ s′ c′ l
 lent-as k en eq ew es ec = rw (en, eq, ew, es, ec) k
+
+pub reverse-as : {p : Params} {n ln f q w s c k l q′ w′ s′ c′ : ℕ} → ReverseLent p n ln f q w s c k l
+    → q′ ≡ q → w′ ≡ w → s′ ≡ s → c′ ≡ c → ReverseLent p n ln f q′ w′ s′ c′ k l
+reverse-as r eq ew es ec = rw (eq, ew, es, ec) r
 
 -- The reverse complement over a whole buffer.
 pub reversed-whole : (s d d′ : List ℕ) → d′ ≡ put (reverseComplement s) d → length d ≡ length s → d′ ≡ reverseComplement s
 reversed-whole s d d′ e l = e ∙ put-all (reverseComplement s) d (l ∙ sym (reverseComplement-length s))
 
+-- A strand's list as its run leaves it.
+pub scanned : (S : Setup) (codes : List ℕ) (list list′ : List (List ℕ)) (count : ℕ) → (length codes + 1) / (S .kmer + 1) ≤ length list
+    → length list′ ≡ length list → StrandList S codes list′ count → Scanned (intervalsOf S codes) list′ count
+scanned S codes list list′ count h l r = record { list-is = r .list-is; within = omega (arith, r .count-is, strand-room S codes) }
+
 -- The other strand's list: none, or that of the reverse complement.
-pub other-none : (S : Setup) (b : Bool) (s : List ℕ) (rs re : List ℕ) → b ≡ true → rows 0 rs re ≡ otherIntervals S b s
-unfolding rows
-other-none S b s rs re e = rw e
+pub other-none : (S : Setup) (b : Bool) (s : List ℕ) (xs : List (List ℕ)) → b ≡ true → Scanned (otherIntervals S b s) xs 0
+other-none S b s xs e = record { list-is = rw e; within = omega arith }
 
-pub other-some : (S : Setup) (b : Bool) (s t : List ℕ) (is : List Interval) → b ≡ false → t ≡ reverseComplement s → is ≡ intervalsOf S t
-    → is ≡ otherIntervals S b s
-other-some S b s t is e r q = q ∙ rw (r, e)
+pub other-some : (S : Setup) (b : Bool) (s t : List ℕ) (xs : List (List ℕ)) (count : ℕ) → b ≡ false → t ≡ reverseComplement s
+    → Scanned (intervalsOf S t) xs count → Scanned (otherIntervals S b s) xs count
+other-some S b s t xs count e r q = record { list-is = q .list-is ∙ rw (r, e); within = q .within }
 
--- The first i entries of fs and fe hold the forward list, the first j of rs and re the other one.
-pub record BothHeld (S : Setup) (b : Bool) (s fs fe rs re : List ℕ) (i j : ℕ) : Type 0 where
-  pub some : 0 < S .kmer
-  pub forward : rows i fs fe ≡ intervalsOf S s
-  pub reverse : rows j rs re ≡ otherIntervals S b s
+module _ (S : Setup) (b : Bool) (s : List ℕ) {fs rs : List (List ℕ)} {i j : ℕ} (some : 0 < S .kmer)
+    (f : Scanned (intervalsOf S s) fs i) (r : Scanned (otherIntervals S b s) rs j) where
+  merged : merge (listOf (take i fs)) (backwards (length s) (listOf (take j rs))) ≡ maskOf S b s
+  merged =
+      ap₂ (λ (is js : List Interval). merge is (backwards (length s) js)) (f .list-is) (r .list-is) ∙ mask-merged S b s some
 
-module _ {S : Setup} {b : Bool} {s fs fe rs re : List ℕ} {i j : ℕ} (p : BothHeld S b s fs fe rs re i j) where
-  merged : merge (rows i fs fe) (backwards (length s) (rows j rs re)) ≡ maskOf S b s
-  merged = rw (p .forward, p .reverse) (mask-merged S b s (p .some))
-
-  pub mergeable : (R : ℕ) → R ≡ (length s + 1) / (S .kmer + 1) → R ≤ length fs → R ≤ length fe → R ≤ length rs → R ≤ length re
-      → Mergeable fs fe i rs re j (length s)
-  mergeable R r a b′ c d =
-      let f : i ≤ R = omega (arith, length-rows fs fe i, ap (λ (l : List Interval). length l) (p .forward), strand-room S s) in
-      let o = others-shape S b s in
-      let g : j ≤ R = omega (arith, length-rows rs re j, ap (λ (l : List Interval). length l) (p .reverse), canonical-room (length s) (S .kmer) (otherIntervals S b s) o) in
+  pub mergeable : (list : List (List ℕ)) → (length s + 1) / (S .kmer + 1) ≤ length list → Mergeable fs i rs j (length s) list
+  mergeable list h =
       record {
-        forward-held = (omega arith, omega arith);
-        reverse-held = (omega arith, omega arith);
-        reverse-inside = rw (p .reverse) (ascending-inside (length s) (S .kmer) 0 (otherIntervals S b s) o);
+        forward-within = f .within;
+        reverse-within = r .within;
+        inside = rw (r .list-is) (ascending-inside (length s) (S .kmer) 0 (otherIntervals S b s) (others-shape S b s));
+        room = rw merged (let m = mask-room S b s some in omega arith);
       }
 
-  pub merged-room : (R : ℕ) → R ≡ (length s + 1) / (S .kmer + 1) → (ss es : List ℕ) → R ≤ length ss → R ≤ length es
-      → Room (length (merge (rows i fs fe) (backwards (length s) (rows j rs re)))) ss es
-  merged-room R r ss es a c = rw merged (let m = mask-room S b s (p .some) in (omega arith, omega arith))
-
-  pub merged-rows : {ss es ss′ es′ : List ℕ} {count : ℕ} → Rows (merge (rows i fs fe) (backwards (length s) (rows j rs re))) ss es ss′ es′ count
-      → Rows (maskOf S b s) ss es ss′ es′ count
-  merged-rows r = rows-as merged r
+  pub merged-wrote : {xs xs′ : List (List ℕ)} {count : ℕ}
+      → Wrote (merge (listOf (take i fs)) (backwards (length s) (listOf (take j rs)))) xs xs′ count → Wrote (maskOf S b s) xs xs′ count
+  merged-wrote {xs} {xs′} {count} w = subst (λ (is : List Interval). Wrote is xs xs′ count) merged w

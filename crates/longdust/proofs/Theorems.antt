@@ -1,20 +1,23 @@
--- Demand 3, mirror: the mask of the reverse complement is the mask read backwards, over the definition and for two requests of each call.
+-- The filling call against the other one. Demand 3, mirror: the mask of the reverse complement is the mask read backwards, over the definition and for two requests of each call.
 -- Shape and evidence are fields of `Accepted`, in the contract of both calls.
-use mathlib.Core.Path.{_≡_, sym, ap, ap₂, _∙_}
-use Prim.Native.Nat.{ℕ, _+_, _<_}
+use mathlib.Core.Path.{_≡_, refl, sym, ap, ap₂, _∙_}
+use Prim.Native.Nat.{ℕ, zero, suc, _+_, _<_}
+use native.Mathlib.Omega.{arith}
 use mathlib.Core.Bool.{Bool, false}
 use mathlib.Core.List.{List}
 use lib.ListN.{length, take, drop}
 use lib.Seq.{take-at}
 use lib.Ieee.{Float}
+use Rattle.buffers.specs.Fill.{put}
 use Rattle.letters.specs.Code.{codes, reverseComplement}
 use Rattle.letters.proofs.Codes.{codes-length, reverseComplement-twice, reverseComplement-length}
-use Rattle.intervals.specs.Interval.{Interval}
+use Rattle.intervals.specs.Interval.{Interval, entries}
 use Rattle.intervals.specs.Merge.{merge, backwards}
-use Rattle.intervals.specs.Rows.{rows}
+use Rattle.intervals.proofs.Slice.{wrote-list}
 use Rattle.intervals.proofs.Theorems.{merge-mirror}
 use Rattle.scans.specs.Setup.{Setup}
 use Rattle.strand.specs.Step.{intervalsOf}
+use Rattle.strand.specs.Range.{inRange}
 use Rattle.strand.proofs.Theorems.{strand-shape}
 use Rattle.tables.specs.declared.Density.{Density}
 use Rattle.tables.specs.Density.{density}
@@ -22,8 +25,11 @@ use Rattle.tables.specs.Tables.{lnTable, fTable}
 use Rattle.tables.proofs.Tables.{ln-held, fTable-length, density-reverseComplement}
 use Rattle.longdust.specs.declared.LongdustOptions.{LongdustOptions}
 use Rattle.longdust.specs.declared.Answer.{Answer}
+use Rattle.longdust.specs.declared.Lent.{Lent}
+use Rattle.longdust.specs.Checks.{refusal}
 use Rattle.longdust.specs.Mask.{setup, maskOf, mask}
-use Rattle.longdust.specs.Call.{Buffers, lnRead, fRead, Answered, Kept, Filled}
+use Rattle.longdust.specs.Buffers.{Buffers, lengths}
+use Rattle.longdust.specs.Call.{lnRead, fRead, listed, Answered, Kept, Filled}
 use Rattle.longdust.proofs.Accept.{admitted}
 use Rattle.longdust.proofs.Masks.{other-shape}
 
@@ -49,18 +55,54 @@ filled-f {o} {s} {b} {b′} t =
     ap (λ (z : List Float). take (w + 2) z) (t .f)
     ∙ take-at table (drop (length table) (b .f)) (w + 2) (fTable-length (o .kmer) w (density (o .kmer) (o .gc) (codes s)))
 
+-- The filling call answers what the other call answers on tables that hold the formulas: the same refusal, count and flag, and the same list.
+module _ (o : LongdustOptions) (s : List ℕ) {b b′ c c′ : Buffers} {r q : Answer} (A : Answered Filled o s b b′ r) (B : Answered Kept o s c c′ q)
+    (sizes : lengths c ≡ lengths b) (ln : lnRead o c ≡ lnTable (o .«window_size»))
+    (f : fRead o c ≡ fTable (o .kmer) (o .«window_size») (density (o .kmer) (o .gc) (codes s))) (list : c .list ≡ b .list) where
+  same-number : q .refusal ≡ r .refusal
+  same-number = B .number ∙ ap (λ (z : Lent). refusal o s z) sizes ∙ sym (A .number)
+
+  pub process-as-process-tables : (q ≡ r) × (c′ .list ≡ b′ .list)
+  process-as-process-tables = go (r .refusal) refl
+    where
+      go : (n : ℕ) → r .refusal ≡ n → (q ≡ r) × (c′ .list ≡ b′ .list)
+      go zero e =
+          let x = A .accepted e in
+          let y = B .accepted (same-number ∙ e) in
+          let u = A .tables e in
+          let v = B .tables (same-number ∙ e) in
+          let w = o .«window_size» in
+          let ln-is : lnRead o c′ ≡ lnRead o b′ = ap (λ (z : List Float). take (w + 1) z) (v .ln) ∙ ln ∙ sym (filled-ln u) in
+          let f-is : fRead o c′ ≡ fRead o b′ = ap (λ (z : List Float). take (w + 2) z) (v .f) ∙ f ∙ sym (filled-f u) in
+          let mask-is : mask o s (lnRead o c′) (fRead o c′) ≡ mask o s (lnRead o b′) (fRead o b′) =
+          ap₂ (λ (m n : List Float). mask o s m n) ln-is f-is in
+          let count-is : q .count ≡ r .count =
+          y .buffers .list .count-is ∙ ap (λ (is : List Interval). length is) mask-is ∙ sym (x .buffers .list .count-is) in
+          let flag-is : q .«in_range» ≡ r .«in_range» =
+          y .flag ∙ ap₂ (λ (m n : List Float). inRange (setup o m n)) ln-is f-is ∙ sym (x .flag) in (
+            rw (same-number, count-is, flag-is),
+            y .buffers .list .list-is ∙ ap₂ (λ (is : List Interval) (d : List (List ℕ)). put (entries is) d) mask-is list
+                ∙ sym (x .buffers .list .list-is),
+          )
+      go (suc n) e =
+          let x = A .refused (omega arith) in
+          let y = B .refused (omega (arith, same-number)) in (
+            rw (same-number, x .count, y .count, x .flag, y .flag),
+            ap (λ (z : Buffers). z .list) (y .same) ∙ list ∙ sym (ap (λ (z : Buffers). z .list) (x .same)),
+          )
+
 -- Two accepted two-strand requests with the same options, where the codes of one are the reverse complement of the other's.
 module _ (o : LongdustOptions) (s t : List ℕ) (both : o .«forward_only» ≡ false) (other : codes t ≡ reverseComplement (codes s)) where
   mirror : {Tables : LongdustOptions → List ℕ → Buffers → Buffers → Type 0} {b b′ c c′ : Buffers} {r q : Answer}
       → Answered Tables o s b b′ r → Answered Tables o t c c′ q → r .refusal ≡ 0 → q .refusal ≡ 0
       → lnRead o c′ ≡ lnRead o b′ → fRead o c′ ≡ fRead o b′
-      → rows (q .count) (c′ .starts) (c′ .ends) ≡ backwards (length s) (rows (r .count) (b′ .starts) (b′ .ends))
+      → listed q c′ ≡ backwards (length s) (listed r b′)
   unfolding mask setup
   mirror {Tables} {b} {b′} {c} {c′} {r} {q} A B ra rb ln f =
       let S = setup o (lnRead o b′) (fRead o b′) in
       let some = admitted o s _ (sym (A .number) ∙ ra) .bounds .kmer-low in
-      let one = A .accepted ra .buffers .list .list-is ∙ ap (λ (k : Bool). maskOf S k (codes s)) both in
-      B .accepted rb .buffers .list .list-is
+      let one = wrote-list (A .accepted ra .buffers .list) ∙ ap (λ (k : Bool). maskOf S k (codes s)) both in
+      wrote-list (B .accepted rb .buffers .list)
       ∙ ap₂ (λ (x : List Float) (y : List Float). maskOf (setup o x y) (o .«forward_only») (codes t)) ln f
       ∙ ap₂ (λ (k : Bool) (z : List ℕ). maskOf S k z) both other
       ∙ mask-mirror S (codes s) some
@@ -69,7 +111,7 @@ module _ (o : LongdustOptions) (s t : List ℕ) (both : o .«forward_only» ≡ 
   -- On the same tables.
   pub process-tables-mirror : {b b′ c c′ : Buffers} {r q : Answer} → Answered Kept o s b b′ r → Answered Kept o t c c′ q
       → r .refusal ≡ 0 → q .refusal ≡ 0 → lnRead o c ≡ lnRead o b → fRead o c ≡ fRead o b
-      → rows (q .count) (c′ .starts) (c′ .ends) ≡ backwards (length s) (rows (r .count) (b′ .starts) (b′ .ends))
+      → listed q c′ ≡ backwards (length s) (listed r b′)
   process-tables-mirror A B ra rb ln f =
       let w = o .«window_size» in
       let a = A .tables ra in
@@ -81,7 +123,7 @@ module _ (o : LongdustOptions) (s t : List ℕ) (both : o .«forward_only» ≡ 
   -- On the tables that the call fills: the GC is the same, and so are the tables.
   pub process-mirror : {b b′ c c′ : Buffers} {r q : Answer} → Answered Filled o s b b′ r → Answered Filled o t c c′ q
       → r .refusal ≡ 0 → q .refusal ≡ 0
-      → rows (q .count) (c′ .starts) (c′ .ends) ≡ backwards (length s) (rows (r .count) (b′ .starts) (b′ .ends))
+      → listed q c′ ≡ backwards (length s) (listed r b′)
   process-mirror A B ra rb =
       let w = o .«window_size» in
       let same : density (o .kmer) (o .gc) (codes t) ≡ density (o .kmer) (o .gc) (codes s) =

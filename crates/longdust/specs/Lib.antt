@@ -1,5 +1,6 @@
 pub mod Options
 pub mod Checks
 pub mod Mask
+pub mod Buffers
 pub mod Call
-pub mod Inner
+pub mod Terms

@@ -1,12 +1,11 @@
 // The two public calls, on filled tables and with tables to fill: checks, flag, both strands, mask.
 
-mod checks;
-mod filled_tables;
-mod lent_tables;
+mod calls;
+mod refusals;
 mod run;
 
-pub use filled_tables::process;
-pub use lent_tables::process_tables;
+pub use calls::process::process;
+pub use calls::process_tables::process_tables;
 use scans::Xdrop;
 use tables::GcOption;
 ghost use mathlib.Core.Path.{_≡_};
@@ -25,6 +24,7 @@ pub struct LongdustOptions {
 }
 
 impl LongdustOptions {
+    // The Rust's own defaults.
     pub fn default() -> Self
         ensures { λ r. ⌜ r ≡ defaults ⌝ }
     {
@@ -58,10 +58,7 @@ pub struct Lent {
     pub candidates: usize,
     pub codes: usize,
     pub reverse_codes: usize,
-    pub forward_starts: usize,
-    pub forward_ends: usize,
-    pub reverse_starts: usize,
-    pub reverse_ends: usize,
-    pub starts: usize,
-    pub ends: usize,
+    pub forward_list: usize,
+    pub reverse_list: usize,
+    pub list: usize,
 }

@@ -2,16 +2,23 @@
 
 ghost use mathlib.Core.Path.{_≡_};
 ghost use Prim.Native.Nat.{_<_};
-ghost use lib.ListN.{length};
-ghost use Rattle.intervals.specs.Rows.{Rows};
+ghost use lib.ListN.{length, take};
+ghost use Rattle.intervals.specs.Interval.{listOf, Wrote};
+ghost use Rattle.intervals.specs.Merge.{merge, backwards};
 ghost use Rattle.scans.specs.Setup.{setupOf};
 ghost use Rattle.strand.specs.Range.{tableInRange, inRange};
+ghost use Rattle.longdust.specs.Buffers.{buffers, lengths};
 ghost use Rattle.longdust.specs.Mask.{maskOf};
-ghost use Rattle.longdust.specs.Call.{buffers, lengths};
-ghost use Rattle.longdust.specs.Inner.{Bounds, Admitted, Prepared, Exact, Ran};
+ghost use Rattle.longdust.specs.Terms.Inner.{Bounds, Admitted, Prepared, ReverseLent, Exact, otherIntervals, Scanned};
+ghost use Rattle.longdust.specs.Terms.Inner.{Mergeable, accepted, Ran};
 use crate::Answer;
 use crate::LongdustOptions;
 use scans::Params;
+
+// The ends of demand 3's ranges: of the threshold and the ln entries, and of the f entries.
+const LN_END: f64 = 16.0;
+
+const F_END: f64 = 1048576.0;
 
 // The numbers that a run goes by.
 fn prepare(options: LongdustOptions, ln: &[f64], f: &[f64]) -> Params
@@ -53,16 +60,16 @@ fn in_range(p: Params, ln: &[f64], f: &[f64]) -> bool
     requires { ⌜ (p .«window_size» < length (now ln)) × (p .«window_size» < length (now f)) ⌝ }
     ensures { λ r. ⌜ r ≡ inRange (setupOf p (now (ln .entry)) (now (f .entry))) ⌝ }
 {
-    let ln_ok = table_in_range(ln, p.window_size, 16.0);
-    let f_ok = table_in_range(f, p.window_size, 1048576.0);
-    (p.score_threshold <= 16.0) & (ln_ok & f_ok)
+    let ln_ok = table_in_range(ln, p.window_size, LN_END);
+    let f_ok = table_in_range(f, p.window_size, F_END);
+    (p.score_threshold <= LN_END) & (ln_ok & f_ok)
 }
 
-// Both strands on buffers of exactly the listed sizes; answers how many intervals the mask has.
-pub fn both_strands(
+// The list of the reverse complement, in the front of `reverse_list`; answers how many intervals it has. A forward-only run has none.
+pub fn reverse_strand(
     p: Params,
     forward_only: bool,
-    encoded: &[u8],
+    codes: &[u8],
     ln: &[f64],
     f: &[f64],
     queue: &mut [u32],
@@ -70,49 +77,19 @@ pub fn both_strands(
     scan_counts: &mut [u16],
     candidates: &mut [scans::ForwardPosition],
     reverse_codes: &mut [u8],
-    forward_starts: &mut [u32],
-    forward_ends: &mut [u32],
-    reverse_starts: &mut [u32],
-    reverse_ends: &mut [u32],
-    starts: &mut [u32],
-    ends: &mut [u32],
+    reverse_list: &mut [[u32; 2]],
 ) -> usize
-    requires { ⌜ Exact p (length (now encoded)) (lengths
-        (buffers (now ln) (now f) (now queue) (now «window_counts») (now «scan_counts»)
-        (now candidates) (now encoded) (now «reverse_codes»)
-        (now «forward_starts») (now «forward_ends») (now «reverse_starts») (now «reverse_ends»)
-        (now starts) (now ends))) ⌝ }
-    ensures { λ r. ⌜ Rows (maskOf (setupOf p (now (ln .entry)) (now (f .entry))) «forward_only» (now (encoded .entry)))
-        (now (starts .entry)) (now (ends .entry)) (now (starts .exit)) (now (ends .exit)) r ⌝ }
+    requires { ⌜ ReverseLent p (length (now codes)) (length (now ln)) (length (now f)) (length (now queue))
+        (length (now «window_counts»)) (length (now «scan_counts»)) (length (now candidates)) (length (now «reverse_codes»))
+        (length (now «reverse_list»)) ⌝ }
+    ensures { λ r. ⌜ Scanned (otherIntervals (setupOf p (now (ln .entry)) (now (f .entry))) «forward_only» (now (codes .entry)))
+        (now («reverse_list» .exit)) r ⌝ }
 {
-    let n = encoded.len() as u32;
-    let forward_count = strand::inner_process(
-        p,
-        encoded,
-        ln,
-        f,
-        queue,
-        window_counts,
-        scan_counts,
-        candidates,
-        forward_starts,
-        forward_ends,
-    );
     if forward_only {
-        return intervals::merge_intervals(
-            forward_starts,
-            forward_ends,
-            forward_count,
-            reverse_starts,
-            reverse_ends,
-            0,
-            n,
-            starts,
-            ends,
-        );
+        return 0;
     }
-    letters::reverse_complement_encoded_sequence(encoded, reverse_codes);
-    let reverse_count = strand::inner_process(
+    letters::reverse_complement_encoded_sequence(codes, reverse_codes);
+    strand::inner_process(
         p,
         reverse_codes,
         ln,
@@ -121,26 +98,34 @@ pub fn both_strands(
         window_counts,
         scan_counts,
         candidates,
-        reverse_starts,
-        reverse_ends,
-    );
-    intervals::merge_intervals(
-        forward_starts,
-        forward_ends,
-        forward_count,
-        reverse_starts,
-        reverse_ends,
-        reverse_count,
-        n,
-        starts,
-        ends,
+        reverse_list,
     )
 }
 
-// The run of an accepted request on its codes, by filled tables: the flag, and the mask. Both strands get the front of each buffer.
-pub fn mask_encoded(
-    encoded: &[u8],
-    options: LongdustOptions,
+// Joins both strands' lists, each in the front of its slice; answers how many intervals there are then.
+fn merge_strands(
+    forward_list: &[[u32; 2]],
+    forward_count: usize,
+    reverse_list: &[[u32; 2]],
+    reverse_count: usize,
+    n: u32,
+    list: &mut [[u32; 2]],
+) -> usize
+    requires { ⌜ Mergeable (now «forward_list») «forward_count» (now «reverse_list») «reverse_count» n (now list) ⌝ }
+    ensures { λ r. ⌜ Wrote (merge (listOf (take «forward_count» (now («forward_list» .entry))))
+        (backwards n (listOf (take «reverse_count» (now («reverse_list» .entry))))))
+        (now (list .entry)) (now (list .exit)) r ⌝ }
+{
+    let forward = &forward_list[..forward_count];
+    let reverse = &reverse_list[..reverse_count];
+    intervals::merge_intervals(forward, reverse, n, list)
+}
+
+// Both strands on buffers of exactly the listed sizes; answers how many intervals the mask has.
+pub fn both_strands(
+    p: Params,
+    forward_only: bool,
+    codes: &[u8],
     ln: &[f64],
     f: &[f64],
     queue: &mut [u32],
@@ -148,29 +133,91 @@ pub fn mask_encoded(
     scan_counts: &mut [u16],
     candidates: &mut [scans::ForwardPosition],
     reverse_codes: &mut [u8],
-    forward_starts: &mut [u32],
-    forward_ends: &mut [u32],
-    reverse_starts: &mut [u32],
-    reverse_ends: &mut [u32],
-    starts: &mut [u32],
-    ends: &mut [u32],
-) -> Answer
-    requires { ⌜ Admitted options (length (now encoded)) (lengths
+    forward_list: &mut [[u32; 2]],
+    reverse_list: &mut [[u32; 2]],
+    list: &mut [[u32; 2]],
+) -> usize
+    requires { ⌜ Exact p (length (now codes)) (lengths
         (buffers (now ln) (now f) (now queue) (now «window_counts») (now «scan_counts»)
-        (now candidates) (now encoded) (now «reverse_codes»)
-        (now «forward_starts») (now «forward_ends») (now «reverse_starts») (now «reverse_ends»)
-        (now starts) (now ends))) ⌝ }
-    ensures { λ r. ⌜ Ran options (now (encoded .entry))
-        (buffers (now (ln .entry)) (now (f .entry)) (now (queue .entry)) (now («window_counts» .entry)) (now («scan_counts» .entry))
-        (now (candidates .entry)) (now (encoded .entry)) (now («reverse_codes» .entry))
-        (now («forward_starts» .entry)) (now («forward_ends» .entry)) (now («reverse_starts» .entry)) (now («reverse_ends» .entry))
-        (now (starts .entry)) (now (ends .entry)))
-        (buffers (now (ln .exit)) (now (f .exit)) (now (queue .exit)) (now («window_counts» .exit)) (now («scan_counts» .exit))
-        (now (candidates .exit)) (now (encoded .exit)) (now («reverse_codes» .exit))
-        (now («forward_starts» .exit)) (now («forward_ends» .exit)) (now («reverse_starts» .exit)) (now («reverse_ends» .exit))
-        (now (starts .exit)) (now (ends .exit))) r ⌝ }
+        (now candidates) (now codes) (now «reverse_codes»)
+        (now «forward_list») (now «reverse_list») (now list))) ⌝ }
+    ensures { λ r. ⌜ Wrote (maskOf (setupOf p (now (ln .entry)) (now (f .entry))) «forward_only» (now (codes .entry)))
+        (now (list .entry)) (now (list .exit)) r ⌝ }
 {
-    let n = encoded.len();
+    let n = codes.len() as u32;
+    let forward_count = strand::inner_process(
+        p,
+        codes,
+        ln,
+        f,
+        queue,
+        window_counts,
+        scan_counts,
+        candidates,
+        forward_list,
+    );
+    let reverse_count = reverse_strand(
+        p,
+        forward_only,
+        codes,
+        ln,
+        f,
+        queue,
+        window_counts,
+        scan_counts,
+        candidates,
+        reverse_codes,
+        reverse_list,
+    );
+    merge_strands(
+        forward_list,
+        forward_count,
+        reverse_list,
+        reverse_count,
+        n,
+        list,
+    )
+}
+
+// The answer to an accepted request: how many intervals its mask has, and its flag.
+fn accepted(count: usize, in_range: bool) -> Answer
+    ensures { λ r. ⌜ r ≡ accepted count «in_range» ⌝ }
+{
+    Answer {
+        refusal: 0,
+        count,
+        in_range,
+    }
+}
+
+// The run of an accepted request on its codes, by filled tables: the flag, and the mask. Both strands get the front of each buffer.
+pub fn mask_encoded(
+    options: LongdustOptions,
+    codes: &[u8],
+    ln: &[f64],
+    f: &[f64],
+    queue: &mut [u32],
+    window_counts: &mut [u16],
+    scan_counts: &mut [u16],
+    candidates: &mut [scans::ForwardPosition],
+    reverse_codes: &mut [u8],
+    forward_list: &mut [[u32; 2]],
+    reverse_list: &mut [[u32; 2]],
+    list: &mut [[u32; 2]],
+) -> Answer
+    requires { ⌜ Admitted options (length (now codes)) (lengths
+        (buffers (now ln) (now f) (now queue) (now «window_counts») (now «scan_counts»)
+        (now candidates) (now codes) (now «reverse_codes»)
+        (now «forward_list») (now «reverse_list») (now list))) ⌝ }
+    ensures { λ r. ⌜ Ran options (now (codes .entry))
+        (buffers (now (ln .entry)) (now (f .entry)) (now (queue .entry)) (now («window_counts» .entry)) (now («scan_counts» .entry))
+        (now (candidates .entry)) (now (codes .entry)) (now («reverse_codes» .entry))
+        (now («forward_list» .entry)) (now («reverse_list» .entry)) (now (list .entry)))
+        (buffers (now (ln .exit)) (now (f .exit)) (now (queue .exit)) (now («window_counts» .exit)) (now («scan_counts» .exit))
+        (now (candidates .exit)) (now (codes .exit)) (now («reverse_codes» .exit))
+        (now («forward_list» .exit)) (now («reverse_list» .exit)) (now (list .exit))) r ⌝ }
+{
+    let n = codes.len();
     let k = options.kmer;
     let w = options.window_size;
     let kmers = letters::n_kmers(k);
@@ -182,7 +229,7 @@ pub fn mask_encoded(
     let count = both_strands(
         p,
         options.forward_only,
-        encoded,
+        codes,
         ln,
         f,
         &mut queue[..w],
@@ -190,16 +237,9 @@ pub fn mask_encoded(
         &mut scan_counts[..kmers],
         &mut candidates[..w],
         &mut reverse_codes[..n],
-        &mut forward_starts[..rows],
-        &mut forward_ends[..rows],
-        &mut reverse_starts[..rows],
-        &mut reverse_ends[..rows],
-        &mut starts[..rows],
-        &mut ends[..rows],
+        &mut forward_list[..rows],
+        &mut reverse_list[..rows],
+        &mut list[..rows],
     );
-    Answer {
-        refusal: 0,
-        count,
-        in_range: flag,
-    }
+    accepted(count, flag)
 }

@@ -1,6 +1,6 @@
 -- An answer of either call: its count is small, and it is what the exported call answers.
-use Prim.Native.Nat.{ℕ, zero, suc, _+_, _/_, _≤_, _<_}
-use mathlib.Core.Path.{_≡_, refl, sym, subst, _∙_}
+use Prim.Native.Nat.{ℕ, zero, suc, _+_, _≤_, _<_}
+use mathlib.Core.Path.{_≡_, refl, sym, ap, subst, _∙_}
 use mathlib.Core.List.{List}
 use native.Mathlib.Nat.{div-le-self}
 use native.Mathlib.Omega.{arith}
@@ -9,12 +9,14 @@ use lib.ListN.{length}
 use mir.Syntax.{w64}
 use mir.Val.{SFits, toZ, ofZ}
 use mir.ValLaws.{toZ-ofZ}
-use Rattle.intervals.specs.Rows.{rows}
-use Rattle.intervals.proofs.Rows.{length-rows}
+use Rattle.checks.specs.Tests.{mostIntervals}
+use Rattle.intervals.specs.Interval.{Interval}
+use Rattle.intervals.proofs.Slice.{wrote-list}
 use Rattle.intervals.proofs.Shape.{canonical-room}
 use Rattle.longdust.specs.declared.LongdustOptions.{LongdustOptions}
 use Rattle.longdust.specs.declared.Answer.{Answer}
-use Rattle.longdust.specs.Call.{Buffers, lengths, Answered}
+use Rattle.longdust.specs.Buffers.{Buffers, lengths}
+use Rattle.longdust.specs.Call.{listed, Answered}
 use Rattle.longdust.proofs.Accept.{admitted}
 use Rattle.longdust_c.specs.Exported.{countOr, flag, Exported}
 
@@ -25,9 +27,10 @@ module _ {Tables : LongdustOptions → List ℕ → Buffers → Buffers → Type
       go : (n : ℕ) → a .refusal ≡ n → a .count < 9223372036854775808
       go zero e =
           let letters : length s ≤ 2147483647 = admitted o s (lengths b) (sym (r .number) ∙ e) .letters-high in
-          let room : length (rows (a .count) (b′ .starts) (b′ .ends)) ≤ (length s + 1) / (o .kmer + 1) =
-          canonical-room (length s) (o .kmer) (rows (a .count) (b′ .starts) (b′ .ends)) (r .accepted e .shape) in
-          omega (arith, length-rows (b′ .starts) (b′ .ends) (a .count), div-le-self (length s + 1) (o .kmer + 1))
+          let list = r .accepted e .buffers .list in
+          let same : length (listed a b′) ≡ a .count = ap (λ (is : List Interval). length is) (wrote-list list) ∙ sym (list .count-is) in
+          let room : length (listed a b′) ≤ mostIntervals (length s) (o .kmer) = canonical-room (length s) (o .kmer) (listed a b′) (r .accepted e .shape) in
+          omega (arith, div-le-self (length s + 1) (o .kmer + 1))
       go (suc n) e = omega (arith, r .refused (omega arith) .count)
 
   -- The number comes back through the machine's bits.

@@ -12,18 +12,20 @@ use Rattle.tables.specs.declared.GcOption.{GcOption}
 use Rattle.tables.specs.declared.GcOption.the-variants.{Uniform, Fixed, Auto}
 use Rattle.longdust.specs.declared.LongdustOptions.{LongdustOptions}
 use Rattle.longdust.specs.declared.Answer.{Answer}
-use Rattle.longdust.specs.Call.{Buffers, Answered}
+use Rattle.longdust.specs.Buffers.{Buffers}
+use Rattle.longdust.specs.Call.{Answered}
 
 -- A yes or no is a number, 0 for no.
 abbrev pub yes : ℕ → Bool
 yes n = not (eqb n 0)
 
 -- 0 uniform, 1 fixed, 2 auto; any other kind stands for a fixed GC that is not a number, which is refused.
-abbrev pub gcOf : ℕ → Float → GcOption
-gcOf kind value = cond (eqb kind 0) Uniform (cond (eqb kind 1) (Fixed value) (cond (eqb kind 2) Auto (Fixed nan)))
+abbrev pub gcChoice : ℕ → Float → GcOption
+gcChoice gc-kind gc-value = cond (eqb gc-kind 0) Uniform (cond (eqb gc-kind 1) (Fixed gc-value) (cond (eqb gc-kind 2) Auto (Fixed nan)))
 
-abbrev pub xdropOf : ℕ → ℕ → Xdrop
-xdropOf set length = cond (eqb set 0) Off (Length length)
+-- 0 stands for none.
+abbrev pub xdropChoice : ℕ → ℕ → Xdrop
+xdropChoice xdrop-set xdrop-length = cond (eqb xdrop-set 0) Off (Length xdrop-length)
 
 abbrev pub optionsOf : ℕ → ℕ → Float → ℕ → Float → ℕ → ℕ → ℕ → ℕ → ℕ → LongdustOptions
 optionsOf kmer window-size threshold gc-kind gc-value xdrop-set xdrop-length min-start-cnt approx forward-only =
@@ -31,8 +33,8 @@ optionsOf kmer window-size threshold gc-kind gc-value xdrop-set xdrop-length min
       «window_size» = window-size;
       «score_threshold» = threshold;
       kmer = kmer;
-      gc = gcOf gc-kind gc-value;
-      xdrop = xdropOf xdrop-set xdrop-length;
+      gc = gcChoice gc-kind gc-value;
+      xdrop = xdropChoice xdrop-set xdrop-length;
       «min_start_cnt» = min-start-cnt;
       approx = yes approx;
       «forward_only» = yes forward-only;
@@ -47,7 +49,8 @@ abbrev pub flag : Bool → ℕ
 flag b = cond b 1 0
 
 -- The number that a call returns and its flag are those of its answer, and the answer is that of the call of crate longdust.
-pub record Exported (Tables : LongdustOptions → List ℕ → Buffers → Buffers → Type 0) (o : LongdustOptions) (s : List ℕ) (b b′ : Buffers) (result : ℤ) (in-range : ℕ) : Type 0 where
+pub record Exported (Tables : LongdustOptions → List ℕ → Buffers → Buffers → Type 0) (o : LongdustOptions) (s : List ℕ) (b b′ : Buffers)
+    (result : ℤ) (in-range : ℕ) : Type 0 where
   pub answer : Answer
   pub answered : Answered Tables o s b b′ answer
   pub result-is : result ≡ countOr (answer .refusal) (answer .count)

@@ -2,36 +2,40 @@
 
 ghost use mathlib.Core.Path.{_≡_};
 ghost use Prim.Native.Nat.{_<_};
-ghost use Rattle.longdust.specs.Call.{buffers, Kept, Filled};
-ghost use Rattle.longdust_c.specs.Exported.{gcOf, xdropOf, optionsOf, countOr, flag, Exported};
+ghost use Rattle.longdust.specs.Buffers.{buffers};
+ghost use Rattle.longdust.specs.Call.{Kept, Filled};
+ghost use Rattle.longdust_c.specs.Exported.{gcChoice, xdropChoice, optionsOf, countOr, flag, Exported};
 use longdust::LongdustOptions;
 use scans::Xdrop;
 use tables::GcOption;
 
-fn gc_of(kind: u32, value: f64) -> GcOption
-    ensures { λ r. ⌜ r ≡ gcOf kind value ⌝ }
+// The GC choice that two numbers stand for.
+fn gc_choice(gc_kind: u32, gc_value: f64) -> GcOption
+    ensures { λ r. ⌜ r ≡ gcChoice «gc_kind» «gc_value» ⌝ }
 {
-    if kind == 0 {
+    if gc_kind == 0 {
         return GcOption::Uniform;
     }
-    if kind == 1 {
-        return GcOption::Fixed(value);
+    if gc_kind == 1 {
+        return GcOption::Fixed(gc_value);
     }
-    if kind == 2 {
+    if gc_kind == 2 {
         return GcOption::Auto;
     }
     GcOption::Fixed(0.0 / 0.0)
 }
 
-fn xdrop_of(set: u32, length: u32) -> Xdrop
-    ensures { λ r. ⌜ r ≡ xdropOf set length ⌝ }
+// The xdrop that two numbers stand for.
+fn xdrop_choice(xdrop_set: u32, xdrop_length: u32) -> Xdrop
+    ensures { λ r. ⌜ r ≡ xdropChoice «xdrop_set» «xdrop_length» ⌝ }
 {
-    if set == 0 {
+    if xdrop_set == 0 {
         return Xdrop::Off;
     }
-    Xdrop::Length(length)
+    Xdrop::Length(xdrop_length)
 }
 
+// The options that the numbers of a call stand for.
 fn options_of(
     kmer: usize,
     window_size: usize,
@@ -44,10 +48,11 @@ fn options_of(
     approx: u32,
     forward_only: u32,
 ) -> LongdustOptions
-    ensures { λ r. ⌜ r ≡ optionsOf kmer «window_size» «score_threshold» «gc_kind» «gc_value» «xdrop_set» «xdrop_length» «min_start_cnt» approx «forward_only» ⌝ }
+    ensures { λ r. ⌜ r ≡ optionsOf kmer «window_size» «score_threshold» «gc_kind» «gc_value» «xdrop_set» «xdrop_length»
+        «min_start_cnt» approx «forward_only» ⌝ }
 {
-    let gc = gc_of(gc_kind, gc_value);
-    let xdrop = xdrop_of(xdrop_set, xdrop_length);
+    let gc = gc_choice(gc_kind, gc_value);
+    let xdrop = xdrop_choice(xdrop_set, xdrop_length);
     LongdustOptions {
         window_size,
         score_threshold,
@@ -71,13 +76,14 @@ fn count_or_refusal(refusal: u32, count: usize) -> i64
     -(refusal as i64)
 }
 
+// The flag as a number.
 fn flag_of(in_range: bool) -> u32
     ensures { λ r. ⌜ r ≡ flag «in_range» ⌝ }
 {
     if in_range { 1 } else { 0 }
 }
 
-// The mask by the tables that are lent.
+// `longdust::process_tables` on numbers and slices: answers the interval count or minus the refusal number, and sets the flag.
 #[no_mangle]
 pub extern "C" fn longdust_process_tables(
     sequence: &[u8],
@@ -99,17 +105,20 @@ pub extern "C" fn longdust_process_tables(
     candidates: &mut [scans::ForwardPosition],
     codes: &mut [u8],
     reverse_codes: &mut [u8],
-    forward_starts: &mut [u32],
-    forward_ends: &mut [u32],
-    reverse_starts: &mut [u32],
-    reverse_ends: &mut [u32],
-    starts: &mut [u32],
-    ends: &mut [u32],
+    forward_list: &mut [[u32; 2]],
+    reverse_list: &mut [[u32; 2]],
+    list: &mut [[u32; 2]],
     in_range: &mut u32,
 ) -> i64
-    ensures { λ r. ⌜ Exported Kept (optionsOf kmer «window_size» «score_threshold» «gc_kind» «gc_value» «xdrop_set» «xdrop_length» «min_start_cnt» approx «forward_only») (now (sequence .entry))
-        (buffers (now (ln .entry)) (now (f .entry)) (now (queue .entry)) (now («window_counts» .entry)) (now («scan_counts» .entry)) (now (candidates .entry)) (now (codes .entry)) (now («reverse_codes» .entry)) (now («forward_starts» .entry)) (now («forward_ends» .entry)) (now («reverse_starts» .entry)) (now («reverse_ends» .entry)) (now (starts .entry)) (now (ends .entry)))
-        (buffers (now (ln .exit)) (now (f .exit)) (now (queue .exit)) (now («window_counts» .exit)) (now («scan_counts» .exit)) (now (candidates .exit)) (now (codes .exit)) (now («reverse_codes» .exit)) (now («forward_starts» .exit)) (now («forward_ends» .exit)) (now («reverse_starts» .exit)) (now («reverse_ends» .exit)) (now (starts .exit)) (now (ends .exit)))
+    ensures { λ r. ⌜ Exported Kept
+        (optionsOf kmer «window_size» «score_threshold» «gc_kind» «gc_value» «xdrop_set» «xdrop_length» «min_start_cnt» approx «forward_only»)
+        (now (sequence .entry))
+        (buffers (now (ln .entry)) (now (f .entry)) (now (queue .entry)) (now («window_counts» .entry)) (now («scan_counts» .entry))
+        (now (candidates .entry)) (now (codes .entry)) (now («reverse_codes» .entry))
+        (now («forward_list» .entry)) (now («reverse_list» .entry)) (now (list .entry)))
+        (buffers (now (ln .exit)) (now (f .exit)) (now (queue .exit)) (now («window_counts» .exit)) (now («scan_counts» .exit))
+        (now (candidates .exit)) (now (codes .exit)) (now («reverse_codes» .exit))
+        (now («forward_list» .exit)) (now («reverse_list» .exit)) (now (list .exit)))
         r (now («in_range» .exit)) ⌝ }
 {
     let options = options_of(
@@ -135,18 +144,15 @@ pub extern "C" fn longdust_process_tables(
         candidates,
         codes,
         reverse_codes,
-        forward_starts,
-        forward_ends,
-        reverse_starts,
-        reverse_ends,
-        starts,
-        ends,
+        forward_list,
+        reverse_list,
+        list,
     );
     *in_range = flag_of(answer.in_range);
     count_or_refusal(answer.refusal, answer.count)
 }
 
-// The mask by the paper's own tables, which the call fills first.
+// `longdust::process` in the same way: it fills the tables first.
 #[no_mangle]
 pub extern "C" fn longdust_process(
     sequence: &[u8],
@@ -168,17 +174,20 @@ pub extern "C" fn longdust_process(
     candidates: &mut [scans::ForwardPosition],
     codes: &mut [u8],
     reverse_codes: &mut [u8],
-    forward_starts: &mut [u32],
-    forward_ends: &mut [u32],
-    reverse_starts: &mut [u32],
-    reverse_ends: &mut [u32],
-    starts: &mut [u32],
-    ends: &mut [u32],
+    forward_list: &mut [[u32; 2]],
+    reverse_list: &mut [[u32; 2]],
+    list: &mut [[u32; 2]],
     in_range: &mut u32,
 ) -> i64
-    ensures { λ r. ⌜ Exported Filled (optionsOf kmer «window_size» «score_threshold» «gc_kind» «gc_value» «xdrop_set» «xdrop_length» «min_start_cnt» approx «forward_only») (now (sequence .entry))
-        (buffers (now (ln .entry)) (now (f .entry)) (now (queue .entry)) (now («window_counts» .entry)) (now («scan_counts» .entry)) (now (candidates .entry)) (now (codes .entry)) (now («reverse_codes» .entry)) (now («forward_starts» .entry)) (now («forward_ends» .entry)) (now («reverse_starts» .entry)) (now («reverse_ends» .entry)) (now (starts .entry)) (now (ends .entry)))
-        (buffers (now (ln .exit)) (now (f .exit)) (now (queue .exit)) (now («window_counts» .exit)) (now («scan_counts» .exit)) (now (candidates .exit)) (now (codes .exit)) (now («reverse_codes» .exit)) (now («forward_starts» .exit)) (now («forward_ends» .exit)) (now («reverse_starts» .exit)) (now («reverse_ends» .exit)) (now (starts .exit)) (now (ends .exit)))
+    ensures { λ r. ⌜ Exported Filled
+        (optionsOf kmer «window_size» «score_threshold» «gc_kind» «gc_value» «xdrop_set» «xdrop_length» «min_start_cnt» approx «forward_only»)
+        (now (sequence .entry))
+        (buffers (now (ln .entry)) (now (f .entry)) (now (queue .entry)) (now («window_counts» .entry)) (now («scan_counts» .entry))
+        (now (candidates .entry)) (now (codes .entry)) (now («reverse_codes» .entry))
+        (now («forward_list» .entry)) (now («reverse_list» .entry)) (now (list .entry)))
+        (buffers (now (ln .exit)) (now (f .exit)) (now (queue .exit)) (now («window_counts» .exit)) (now («scan_counts» .exit))
+        (now (candidates .exit)) (now (codes .exit)) (now («reverse_codes» .exit))
+        (now («forward_list» .exit)) (now («reverse_list» .exit)) (now (list .exit)))
         r (now («in_range» .exit)) ⌝ }
 {
     let options = options_of(
@@ -204,12 +213,9 @@ pub extern "C" fn longdust_process(
         candidates,
         codes,
         reverse_codes,
-        forward_starts,
-        forward_ends,
-        reverse_starts,
-        reverse_ends,
-        starts,
-        ends,
+        forward_list,
+        reverse_list,
+        list,
     );
     *in_range = flag_of(answer.in_range);
     count_or_refusal(answer.refusal, answer.count)

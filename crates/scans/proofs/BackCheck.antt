@@ -17,7 +17,7 @@ use Rattle.letters.specs.Entry.{decode}
 use Rattle.scans.specs.declared.Params.{Params}
 use Rattle.scans.specs.Setup.{setupOf}
 use Rattle.scans.specs.Scans.{windowValue, ifBackwardFrom, ifBackward, maxSteps}
-use Rattle.scans.specs.Window.{At, window, ringIndex, countedValue, Windowed}
+use Rattle.scans.specs.Terms.Window.{At, window, ringIndex, countedValue, Windowed}
 use Rattle.scans.proofs.Ring.{ring-index-at}
 use Rattle.scans.proofs.Values.{window-value}
 use Rattle.scans.proofs.Windows.{long, entry-place}

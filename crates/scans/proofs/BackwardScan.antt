@@ -1,27 +1,34 @@
--- The backward scan, a turn at a time, over a straight part of the ring.
+-- The backward scan, a turn at a time: over a straight part of the ring (`Scanning`), from one rest to the next over the window (`goes-on`), and the definition's scan from one rest to the next (`backward-rest`).
 use mathlib.Core.Path.{_≡_, refl, sym, ap, ap₂, _∙_, subst}
 use mathlib.Core.Bool.{Bool, true, false, cond, not, _&&_, _||_, true≢false}
 use mathlib.Core.List.{List, [], _∷_, _++_}
-use Prim.Native.Nat.{ℕ, suc, _+_, _-_, _<_, _≤_}
+use mathlib.Core.Logic.{_⊎_}
+use Prim.Native.Nat.{ℕ, zero, suc, _+_, _-_, _/_, _%_, _^_, _<_, _≤_}
 use native.Mathlib.Omega.{arith}
-use lib.ListN.{length, getD, drop, replicate}
-use lib.Seq.{drop-length}
+use lib.ListN.{length, getD, take, drop, replicate}
+use lib.Seq.{drop-cons, drop-length}
 use lib.Dec.{T, eqb, ltb}
-use lib.Ieee.{Float, neg, lt, le, eq, ofBits, ofFields}
-use Rattle.floats.specs.Arithmetic.{_⊕_, _⊖_}
-use Rattle.floats.specs.Binary64.{zero64}
-use Rattle.letters.specs.Place.{Place, ambiguous}
-use Rattle.scans.specs.declared.BackwardState.{BackwardState}
-use Rattle.scans.specs.Setup.{Setup, fAt, kmers}
-use Rattle.scans.specs.Counts.{raise, Counted}
-use Rattle.scans.specs.Scans.{value, secondValue, Candidate, candidate, BackwardSums, backwardStart, isNoted, noted, isDropped, backwardJudged, Backward, backwardFrom}
-use Rattle.scans.specs.Parts.{Seam, Straight, backwardOf, withBestAt, withLast, pausedAt, Fresh, Ended, Backs, BackwardPart}
-use Rattle.scans.proofs.Test.{neither}
-use Rattle.scans.proofs.Counting.{cleared-counted}
-use Rattle.floats.proofs.Order.{lt-self, le-lt-trans}
-use Rattle.scans.proofs.Reading.{Read, Entered}
-use Rattle.scans.proofs.ForwardScan.{before-seam, past-seam}
 use borrow.Author.Tests.{ltb-true, ltb-false}
+use lib.Ieee.{Float, nan, neg, lt, le, eq, ofBits, ofFields}
+use Rattle.floats.specs.Arithmetic.{_⊕_, _⊖_}
+use Rattle.floats.specs.Binary64.{zero64, nearZero}
+use Rattle.floats.proofs.Order.{lt-self, le-lt-trans}
+use Rattle.letters.specs.Place.{Place, ambiguous, plain, BelowAt, Below}
+use Rattle.letters.specs.Entry.{decode, decoded}
+use Rattle.letters.proofs.Entries.{decode-plain, decoded-length, decoded-at}
+use Rattle.scans.specs.declared.Params.{Params}
+use Rattle.scans.specs.declared.backward.BackwardState.{BackwardState}
+use Rattle.scans.specs.Setup.{Setup, fAt, kmers, setupOf}
+use Rattle.scans.specs.Counts.{hit, count, raise, cleared, Counted}
+use Rattle.scans.specs.Scans.{value, secondValue, Candidate, candidate, BackwardSums, backwardStart, isNoted, noted, isDropped, backwardJudged, Backward, backwardFrom}
+use Rattle.scans.specs.Terms.Window.{window, countedValue, Windowed}
+use Rattle.scans.specs.Terms.Parts.{backwardOf, leftValue, AddsEntry, withBestAt, withPrevious, restsAt, Fresh, pauses, tooLow, Rest, restOf, sumsWith, raisedAt, fallenTo, restOver, restFrom, restAfter, Coded, Room, Backs, GoesOn, goesOn, ScansQuick}
+use Rattle.scans.proofs.Test.{neither}
+use Rattle.scans.proofs.Counting.{hit-self, count-snoc, count-append, count-le, raise-counted, raise-hit, raise-length, cleared-counted}
+use Rattle.scans.proofs.Values.{raised-value, decode-below}
+use Rattle.scans.proofs.Parts.{Stands, stands-at, part-length, part-stands, part-coded}
+use Rattle.scans.proofs.Windows.{long}
+use Rattle.scans.proofs.Walk.{windowed-queued, queued-below}
 
 -- ---- The tests in the code's order.
 pub and-nothing : (b c : Bool) → b && (c && false) ≡ false
@@ -29,12 +36,12 @@ and-nothing true true = refl
 and-nothing true false = refl
 and-nothing false c = refl
 
--- A score not below the best is not below the last, which is not above the best.
-no-fall : (best sl last : Float) → lt best last ≡ false → le best sl ≡ true → lt sl last ≡ false
-no-fall best sl last p h = go (lt sl last) refl
+-- A score not below the best is not below the score before, which is not above the best.
+no-fall : (best sl previous : Float) → lt best previous ≡ false → le best sl ≡ true → lt sl previous ≡ false
+no-fall best sl previous p h = go (lt sl previous) refl
   where
-    go : (b : Bool) → lt sl last ≡ b → b ≡ false
-    go true e = absurd (subst T p (le-lt-trans best sl last (subst T (sym h) tt) (subst T (sym e) tt)))
+    go : (b : Bool) → lt sl previous ≡ b → b ≡ false
+    go true e = absurd (subst T p (le-lt-trans best sl previous (subst T (sym h) tt) (subst T (sym e) tt)))
     go false e = refl
 
 pub first-true : (b c : Bool) → b && c ≡ true → b ≡ true
@@ -54,263 +61,527 @@ not-above best sl h = go (lt best sl) (eq best sl) h
     go true c e = e
     go false c e = refl
 
--- ---- The definition, one entry on: i entries are left, e is the next, v and vw are its values.
-module _ (S : Setup) (q : List Place) (i l : ℕ) (a : BackwardSums) (counts : List ℕ) (cs : List Candidate) (e : Place) (v vw : Float)
-    (some : 0 < i) (pe : getD q (i - 1) ambiguous ≡ e) (pv : v ≡ value S counts e) (pw : vw ≡ secondValue S q (raise counts e) e) where
-  abbrev s : Float
-  s = a .s ⊕ (v ⊖ S .score-threshold)
-
-  abbrev sw : Float
-  sw = a .sw ⊕ (vw ⊖ S .score-threshold)
-
+-- ---- A scan, one entry on: b are the sums with the entry at index i - 1 + at, fl its f entry.
+module _ (S : Setup) (window-counts : List ℕ) (quick : Bool) (len : ℕ) (es : List Place) (at i : ℕ) (a : BackwardSums) (counts : List ℕ) (some : 0 < i) (e : Place) (pe : getD es (i - 1) ambiguous ≡ e)
+    (b : BackwardSums) (raised : List ℕ) (fl : Float) (rs : raised ≡ raise counts e) (bs : b ≡ sumsWith S window-counts raised e a) (fs : fl ≡ fAt S (len - (i - 1 + at))) where
   abbrev sl : Float
-  sl = s ⊖ fAt S l
+  sl = b .s ⊖ fl
 
-  abbrev answer : BackwardSums → List Candidate → Backward
-  answer b cs′ = record { best = b .best; found = b .found; counts = raise counts e; candidates = cs′ }
+  abbrev j : ℕ
+  j = i - 1 + at
 
-  turn : backwardFrom S q i l a counts cs
-      ≡ cond (lt (sw ⊖ fAt S l) zero64) (answer a cs)
-      (cond (isDropped S a sl) (answer (backwardJudged a s sw sl (i - 1)) (noted a sl (i - 1) cs))
-      (backwardFrom S q (i - 1) (l + 1) (backwardJudged a s sw sl (i - 1)) (raise counts e) (noted a sl (i - 1) cs)))
-  unfolding backwardFrom
+  abbrev scan : ℕ → BackwardSums → List ℕ → Rest
+  scan = restOver S window-counts quick len es at
+
+  pub turn : scan i a counts
+      ≡ cond (lt (b .sw ⊖ fl) zero64) (record { sums = b; low = j; paused = false; done = true; counts = raised })
+      (cond (le (b .best) sl) (scan (i - 1) (raisedAt b sl j) raised)
+      (cond (pauses quick b sl || tooLow (S .drop-limit) b sl)
+      (record { sums = fallenTo b sl; low = j; paused = pauses quick b sl; done = tooLow (S .drop-limit) b sl; counts = raised }) (scan (i - 1) (fallenTo b sl) raised)))
+  unfolding restOver
   turn =
       let m : i ≡ suc (i - 1) = omega arith in
-      ap (λ (x : ℕ). backwardFrom S q x l a counts cs) m ∙ rw (pw, pv, pe)
+      ap (λ (x : ℕ). scan x a counts) m ∙ rw (fs, bs, rs, pe)
 
-  pub turn-ended : lt (sw ⊖ fAt S l) zero64 ≡ true → backwardFrom S q i l a counts cs ≡ answer a cs
-  turn-ended t = turn ∙ rw t
+-- ---- The code's loop over the entries of a part, the last first: what is left of the scan is the whole scan.
+count-take : (x i : ℕ) (es : List Place) → i < length es → count x (take (suc i) es) ≡ hit x (getD es i ambiguous) + count x (take i es)
+count-take x i [] h = absurd (let b : ⊥ = omega arith in b)
+count-take x zero (e ∷ es) h = refl
+count-take x (suc i) (e ∷ es) h = omega (arith, count-take x i es (omega arith))
 
-  module _ (on : lt (sw ⊖ fAt S l) zero64 ≡ false) where
-    -- A new best: it falls from no peak, since the last score is not above the best before.
-    pub turn-raised : lt (a .best) (a .last) ≡ false → le (a .best) sl ≡ true
-        → backwardFrom S q i l a counts cs ≡ backwardFrom S q (i - 1) (l + 1) (record { s = s; sw = sw; last = sl; best = sl; found = i - 1 + 1 }) (raise counts e) cs
-    turn-raised peak h =
-        let z : lt sl (a .last) ≡ false = no-fall (a .best) sl (a .last) peak h in
-        turn ∙ rw (on, h, z)
+take-all : (es : List Place) → take (length es) es ≡ es
+take-all [] = refl
+take-all (e ∷ es) = ap (λ (z : List Place). e ∷ z) (take-all es)
 
-    module _ (h : le (a .best) sl ≡ false) where
-      pub turn-below : backwardFrom S q i l a counts cs
-          ≡ cond (not (eqb (a .found) 0) && lt (S .drop-limit) (a .best ⊖ sl)) (answer a (noted a sl (i - 1) cs))
-          (backwardFrom S q (i - 1) (l + 1) (record { s = s; sw = sw; last = sl; best = a .best; found = a .found }) (raise counts e) (noted a sl (i - 1) cs))
-      turn-below = turn ∙ rw (on, h)
+pub record Scanning (S : Setup) (window-counts : List ℕ) (quick : Bool) (len : ℕ) (part : List ℕ) (at : ℕ) (a : BackwardState) (counts₀ : List ℕ) (i : ℕ) (b : BackwardState) (counts : List ℕ) : Type 0 where
+  pub inside : i ≤ length part
+  pub same : length counts ≡ length counts₀
+  pub room : (x : ℕ) → getD counts x 0 + count x (take i (decoded part)) ≤ getD window-counts x 0
+  pub rest : restOver S window-counts quick len (decoded part) at (length part) (backwardOf a) counts₀ ≡ restOver S window-counts quick len (decoded part) at i (backwardOf b) counts
 
--- ---- The code's loop down to entry `from`: what is left of the scan is the whole scan, whatever is noted.
-pub record Backing (S : Setup) (q : List Place) (from : ℕ) (a : BackwardState) (counts₀ : List ℕ) (i : ℕ) (b : BackwardState) (counts : List ℕ) : Type 0 where
-  pub from-in : from ≤ i
-  pub to-in : i ≤ a .low
-  pub same-counts : length counts ≡ length counts₀
-  pub counted : Counted (kmers S) counts (drop i q)
-  pub found-in : b .found ≤ length q
-  pub found-kept : b .found ≡ 0 → a .found ≡ 0
-  pub level : lt (b .best) (b .last) ≡ false
-  pub from-zero : b .found ≡ 0 → b .best ≡ zero64
-  pub rest : (cs : List Candidate) → backwardFrom S q (a .low) (length q + 1 - a .low) (backwardOf a) counts₀ cs ≡ backwardFrom S q i (length q + 1 - i) (backwardOf b) counts cs
+module _ (S : Setup) (window-counts : List ℕ) (quick : Bool) (len : ℕ) (part : List ℕ) (at : ℕ) (a : BackwardState) (counts₀ : List ℕ) where
+  pub scanning-start : Room len window-counts counts₀ (decoded part) → Scanning S window-counts quick len part at a counts₀ (length part) a counts₀
+  scanning-start r =
+      let n : length (decoded part) ≡ length part = decoded-length part in
+      let t : take (length part) (decoded part) ≡ decoded part = ap (λ (z : ℕ). take z (decoded part)) (sym n) ∙ take-all (decoded part) in
+      record { inside = omega arith; same = refl; room = λ x. omega (arith, r .left x, ap (λ (z : List Place). count x z) t); rest = refl }
 
-module _ (S : Setup) (q : List Place) (from : ℕ) (a : BackwardState) (counts₀ : List ℕ) (some : from < a .low) (in-window : a .low ≤ length q) where
-  pub backing-start : Backs (kmers S) q a counts₀ → Backing S q from a counts₀ (a .low) a counts₀
-  backing-start h =
+  module _ (i : ℕ) (b : BackwardState) (counts : List ℕ) (c : Scanning S window-counts quick len part at a counts₀ i b counts) where
+    pub scanning-end : i ≤ 0 → (b′ : BackwardState) → b′ ≡ restsAt b at false false → restOf b′ counts ≡ restOver S window-counts quick len (decoded part) at (length part) (backwardOf a) counts₀
+    unfolding restOver
+    scanning-end h b′ z =
+        let n : i ≡ 0 = omega arith in
+        sym (c .rest ∙ ap (λ (x : ℕ). restOver S window-counts quick len (decoded part) at x (backwardOf b) counts) n ∙ sym (ap (λ (x : BackwardState). restOf x counts) z))
+
+    module _ (r : Coded part (length counts₀)) (more : 0 < i) where
+      abbrev entry : ℕ
+      entry = getD part (i - 1) 0
+
+      abbrev e : Place
+      e = decode entry
+
+      entry-in : i - 1 < length part
+      entry-in = omega (arith, c .inside)
+
+      place : getD (decoded part) (i - 1) ambiguous ≡ e
+      place = decoded-at part (i - 1) entry-in
+
+      below : entry / 2 < length counts
+      below = omega (arith, r .below (i - 1) entry-in, c .same)
+
+      left : (x : ℕ) → getD counts x 0 + (hit x e + count x (take (i - 1) (decoded part))) ≤ getD window-counts x 0
+      left x =
+          let m : suc (i - 1) ≡ i = omega arith in
+          let k : count x (take i (decoded part)) ≡ hit x e + count x (take (i - 1) (decoded part)) =
+          ap (λ (z : ℕ). count x (take z (decoded part))) (sym m) ∙ count-take x (i - 1) (decoded part) (omega (arith, entry-in, decoded-length part))
+          ∙ ap (λ (y : Place). hit x y + count x (take (i - 1) (decoded part))) place in
+          omega (arith, c .room x)
+
+      uncounted : entry % 2 ≡ 0 → getD counts (entry / 2) 0 < getD window-counts (entry / 2) 0
+      uncounted h = omega (arith, left (entry / 2), ap (λ (y : Place). hit (entry / 2) y) (decode-plain entry h), hit-self (entry / 2))
+
+      pub add-ready : (n : ℕ) → len ≤ 65535 → len < n → length window-counts ≡ length counts₀ → ((x : ℕ) → getD window-counts x 0 ≤ len)
+          → ((entry / 2 < length window-counts) × (entry / 2 < length counts) × (getD window-counts (entry / 2) 0 ≤ 65535) × (getD window-counts (entry / 2) 0 < n))
+          × (entry % 2 ≡ 0 → getD counts (entry / 2) 0 < getD window-counts (entry / 2) 0)
+      add-ready n small long same most = ((omega (arith, below, c .same), below, omega (arith, most (entry / 2)), omega (arith, most (entry / 2))), uncounted)
+
+      -- The entry is added: b₁ with counts′.
+      module _ (b₁ : BackwardState) (counts′ : List ℕ) (k : AddsEntry (S .score-threshold) window-counts (S .ln) e b b₁ counts counts′) where
+        abbrev fl : Float
+        fl = fAt S (len - (i - 1 + at))
+
+        abbrev score : Float
+        score = b₁ .s ⊖ fl
+
+        turned : restOver S window-counts quick len (decoded part) at (length part) (backwardOf a) counts₀
+            ≡ cond (lt (b₁ .sw ⊖ fl) zero64) (record { sums = backwardOf b₁; low = i - 1 + at; paused = false; done = true; counts = counts′ })
+            (cond (le (b₁ .best) score) (restOver S window-counts quick len (decoded part) at (i - 1) (raisedAt (backwardOf b₁) score (i - 1 + at)) counts′)
+            (cond (pauses quick (backwardOf b₁) score || tooLow (S .drop-limit) (backwardOf b₁) score)
+            (record { sums = fallenTo (backwardOf b₁) score; low = i - 1 + at; paused = pauses quick (backwardOf b₁) score; done = tooLow (S .drop-limit) (backwardOf b₁) score; counts = counts′ })
+            (restOver S window-counts quick len (decoded part) at (i - 1) (fallenTo (backwardOf b₁) score) counts′)))
+        turned =
+            c .rest ∙ turn S window-counts quick len (decoded part) at i (backwardOf b) counts more e place (backwardOf b₁) counts′ fl (k .counts-are) (ap backwardOf (k .sums-are)) refl
+
+        room-on : (x : ℕ) → getD counts′ x 0 + count x (take (i - 1) (decoded part)) ≤ getD window-counts x 0
+        room-on x = omega (arith, left x, ap (λ (g : List ℕ). getD g x 0) (k .counts-are) ∙ raise-hit counts e x (decode-below (length counts) entry below))
+
+        same-on : length counts′ ≡ length counts₀
+        same-on = ap length (k .counts-are) ∙ raise-length counts e ∙ c .same
+
+        pub scanning-ended : (b′ : BackwardState) → b′ ≡ restsAt b₁ (i - 1 + at) false true → lt (b₁ .sw ⊖ fl) zero64 ≡ true
+            → restOf b′ counts′ ≡ restOver S window-counts quick len (decoded part) at (length part) (backwardOf a) counts₀
+        scanning-ended b′ z h = sym (turned ∙ rw (h, z))
+
+        module _ (on : lt (b₁ .sw ⊖ fl) zero64 ≡ false) where
+          pub scanning-raised : le (b₁ .best) score ≡ true → (b₂ : BackwardState) → b₂ ≡ withBestAt b₁ score (i - 1 + at) → Scanning S window-counts quick len part at a counts₀ (i - 1) b₂ counts′
+          scanning-raised h b₂ z = record { inside = omega (arith, entry-in); same = same-on; room = room-on; rest = turned ∙ rw (on, h, z) }
+
+          module _ (h : le (b₁ .best) score ≡ false) (pause low : Bool) (p : pause ≡ pauses quick (backwardOf b₁) score) (d : low ≡ tooLow (S .drop-limit) (backwardOf b₁) score) (b₂ : BackwardState)
+              (z : b₂ ≡ withPrevious b₁ score) where
+            pub scanning-paused : pause || low ≡ true → (b′ : BackwardState) → b′ ≡ restsAt b₂ (i - 1 + at) pause low
+                → restOf b′ counts′ ≡ restOver S window-counts quick len (decoded part) at (length part) (backwardOf a) counts₀
+            scanning-paused t b′ y =
+                let u : pauses quick (backwardOf b₁) score || tooLow (S .drop-limit) (backwardOf b₁) score ≡ true = ap₂ (λ (s₁ s₂ : Bool). s₁ || s₂) (sym p) (sym d) ∙ t in
+                sym (turned ∙ rw (on, h, u, y, z, p, d))
+
+            pub scanning-fallen : pause || low ≡ false → Scanning S window-counts quick len part at a counts₀ (i - 1) b₂ counts′
+            scanning-fallen t =
+                let u : pauses quick (backwardOf b₁) score || tooLow (S .drop-limit) (backwardOf b₁) score ≡ false = ap₂ (λ (s₁ s₂ : Bool). s₁ || s₂) (sym p) (sym d) ∙ t in
+                record { inside = omega (arith, entry-in); same = same-on; room = room-on; rest = turned ∙ rw (on, h, u, z) }
+
+at-same : (q es : List Place) (at : ℕ) → Stands q es at → (m : ℕ) → m < length es → getD q (m + at) ambiguous ≡ getD es m ambiguous
+at-same q es at stands m l = let n : m + at ≡ at + m = omega arith in ap (λ (x : ℕ). getD q x ambiguous) n ∙ stands-at q es at stands m l
+
+-- ---- The scan of a part leads to where the scan of the window does.
+module _ (S : Setup) (window-counts : List ℕ) (quick : Bool) (q : List Place) where
+  abbrev after : Rest → Rest
+  after r = restAfter S window-counts quick q r
+
+  both : (t₁ t₂ pause low : Bool) (a b : BackwardSums) (j : ℕ) (counts : List ℕ) (higher later higher′ later′ : Rest) → higher ≡ after higher′ → later ≡ after later′
+      → cond t₁ (record { sums = a; low = j; paused = false; done = true; counts = counts }) (cond t₂ higher (cond (pause || low) (record { sums = b; low = j; paused = pause; done = low; counts = counts }) later))
+      ≡ after (cond t₁ (record { sums = a; low = j; paused = false; done = true; counts = counts }) (cond t₂ higher′ (cond (pause || low) (record { sums = b; low = j; paused = pause; done = low; counts = counts }) later′)))
+  both true t₂ pause low a b j counts higher later higher′ later′ h l = refl
+  both false true pause low a b j counts higher later higher′ later′ h l = h
+  both false false true low a b j counts higher later higher′ later′ h l = refl
+  both false false false true a b j counts higher later higher′ later′ h l = refl
+  both false false false false a b j counts higher later higher′ later′ h l = l
+
+  module _ (es : List Place) (at : ℕ) (stands : Stands q es at) where
+    abbrev over : ℕ → BackwardSums → List ℕ → Rest
+    over m a counts = restOver S window-counts quick (length q) es at m a counts
+
+    part-of : (m : ℕ) → m ≤ length es → (a : BackwardSums) (counts : List ℕ) → restFrom S window-counts quick q (m + at) a counts ≡ after (over m a counts)
+    unfolding restOver
+    part-of zero l a counts = let n : 0 + at ≡ at = omega arith in ap (λ (x : ℕ). restFrom S window-counts quick q x a counts) n
+    part-of (suc m) l a counts =
+        let e : Place = getD es m ambiguous in
+        let raised : List ℕ = raise counts e in
+        let b : BackwardSums = sumsWith S window-counts raised e a in
+        let fl : Float = fAt S (length q - (m + at)) in
+        let sl : Float = b .s ⊖ fl in
+        let k : suc m + at ≡ suc (m + at) = omega arith in
+        let z : m + at + 0 ≡ m + at = omega arith in
+        ap (λ (x : ℕ). restFrom S window-counts quick q x a counts) k
+        ∙ rw (z, at-same q es at stands m (omega arith))
+        (both (lt (b .sw ⊖ fl) zero64) (le (b .best) sl) (pauses quick b sl) (tooLow (S .drop-limit) b sl) b (fallenTo b sl) (m + at) raised _ _ (over m (raisedAt b sl (m + at)) raised) (over m (fallenTo b sl) raised)
+        (part-of m (omega arith) (raisedAt b sl (m + at)) raised) (part-of m (omega arith) (fallenTo b sl) raised))
+
+-- ---- What holds where a scan rests.
+below-at : (m : ℕ) (q : List Place) (j : ℕ) → Below m q → j < length q → BelowAt m (getD q j ambiguous)
+below-at m [] j h l = absurd (let b : ⊥ = omega arith in b)
+below-at m (e ∷ q) zero h l = h .0
+below-at m (e ∷ q) (suc j) h l = below-at m q j (h .1) (omega arith)
+
+pub read-counted : (m : ℕ) (q : List Place) (j : ℕ) (counts : List ℕ) → Below m q → j < length q → Counted m counts (drop (suc j) q) → Counted m (raise counts (getD q j ambiguous)) (drop j q)
+read-counted m q j counts below l c =
+    let e : Place = getD q j ambiguous in
+    let d = raise-counted m counts (drop (suc j) q) e (below-at m q j below l) c in
+    record { long = d .long; counted = λ x. d .counted x ∙ count-snoc x (drop (suc j) q) e ∙ ap (λ (g : List Place). count x g) (sym (drop-cons q j ambiguous l)) }
+
+abbrev pub restAt : BackwardSums → ℕ → List ℕ → Rest
+restAt a low counts = record { sums = a; low = low; paused = false; done = false; counts = counts }
+
+record Backed (S : Setup) (quick : Bool) (q : List Place) (low : ℕ) (a : BackwardSums) (r : Rest) : Type 0 where
+  here : Backs (kmers S) q r
+  down : r .low ≤ low
+  kept : r .sums .found ≡ 0 → a .found ≡ 0
+  peaked : quick ≡ false → r .paused ≡ true → r .sums .found ≡ 0 → ⊥
+
+-- A peak above 0 has a best place.
+some-found : (a : BackwardSums) (sl : Float) → lt (a .best) (a .previous) ≡ false → (a .found ≡ 0 → a .best ≡ zero64) → isNoted a sl ≡ true → a .found ≡ 0 → ⊥
+some-found a sl level zero′ t e =
+    let above : lt zero64 (a .previous) ≡ true = first-true (lt zero64 (a .previous)) _ (last-true (lt sl (a .previous)) _ t) in
+    true≢false (sym above ∙ ap (λ (x : Float). lt x (a .previous)) (sym (zero′ e)) ∙ level)
+
+-- One entry on, at index j: b are the sums with it.
+module _ (S : Setup) (quick : Bool) (q : List Place) (j : ℕ) (l : j < length q) (a b : BackwardSums) (counts raised : List ℕ) (h : Backs (kmers S) q (restAt a (suc j) counts)) (c : Counted (kmers S) raised (drop j q))
+    (best-is : b .best ≡ a .best) (found-is : b .found ≡ a .found) (previous-is : b .previous ≡ a .previous) (sl : Float) (higher later : Rest) where
+  level : lt (b .best) (b .previous) ≡ false
+  level = rw (best-is, previous-is) (h .level)
+
+  from-zero : b .found ≡ 0 → b .best ≡ zero64
+  from-zero e = best-is ∙ h .from-zero (sym found-is ∙ e)
+
+  resting : (x : BackwardSums) (pause done : Bool) → x .found ≡ b .found → x .best ≡ b .best → lt (x .best) (x .previous) ≡ false → Backs (kmers S) q (record { sums = x; low = j; paused = pause; done = done; counts = raised })
+  resting x pause done f g v =
       record {
-        from-in = omega arith;
-        to-in = omega arith;
-        same-counts = refl;
-        counted = h .ended .counted;
-        found-in = h .found-in;
-        found-kept = λ e. e;
-        level = h .level;
-        from-zero = h .from-zero;
-        rest = λ cs. refl;
+        low-in = omega arith;
+        counted = c;
+        found-in = omega (arith, h .found-in);
+        best-read = λ s. let k = h .best-read (omega arith) in omega arith;
+        level = v;
+        from-zero = λ e. g ∙ from-zero (sym f ∙ e);
       }
 
-  module _ (i : ℕ) (b : BackwardState) (counts : List ℕ) (c : Backing S q from a counts₀ i b counts) where
-    pub backing-end : i ≤ from → (b′ : BackwardState) → b′ ≡ pausedAt b from false false → BackwardPart S q a b′ counts₀ counts
-    backing-end h b′ z =
-        let e : i ≡ from = omega (arith, c .from-in) in
-        rw z
-        (record {
-          scanned = λ cs. c .rest cs ∙ ap (λ (j : ℕ). backwardFrom S q j (length q + 1 - j) (backwardOf b) counts cs) e;
-          less = some;
-          here = record {
-            ended = record { low-in = omega arith; counted = subst (λ (j : ℕ). Counted (kmers S) counts (drop j q)) e (c .counted) };
-            found-in = c .found-in;
-            level = c .level;
-            from-zero = c .from-zero;
-          };
-          kept = c .found-kept;
-          peaked = λ t _. absurd (true≢false (sym t));
-        })
+  fallen : le (b .best) sl ≡ false → (pause done : Bool) → Backs (kmers S) q (record { sums = fallenTo b sl; low = j; paused = pause; done = done; counts = raised })
+  fallen n pause done = resting (fallenTo b sl) pause done refl refl (not-above (b .best) sl n)
 
-    pub backing-read : Read q from (a .low) (kmers S) i counts
-    backing-read = record { from-in = c .from-in; to-in = c .to-in; counted = c .counted }
+  raised-backs : Backs (kmers S) q (restAt (raisedAt b sl j) j raised)
+  raised-backs =
+      record {
+        low-in = omega arith;
+        counted = c;
+        found-in = omega arith;
+        best-read = λ s. omega arith;
+        level = lt-self sl;
+        from-zero = λ e. absurd (let n : ⊥ = omega arith in n);
+      }
 
-    module _ (b₁ : BackwardState) (fl : Float) (counts′ : List ℕ) (r : Entered S q from (a .low) i b b₁ fl counts counts′) where
-      abbrev score′ : Float
-      score′ = b .s ⊕ (r .v ⊖ S .score-threshold) ⊖ fAt S (length q + 1 - i)
+  backed-turn : (Backs (kmers S) q (restAt (raisedAt b sl j) j raised) → Backed S quick q j (raisedAt b sl j) higher) → (Backs (kmers S) q (restAt (fallenTo b sl) j raised) → Backed S quick q j (fallenTo b sl) later) → (t₁ : Bool)
+      → Backed S quick q j a
+      (cond t₁ (record { sums = b; low = j; paused = false; done = true; counts = raised })
+      (cond (le (b .best) sl) higher
+      (cond (pauses quick b sl || tooLow (S .drop-limit) b sl) (record { sums = fallenTo b sl; low = j; paused = pauses quick b sl; done = tooLow (S .drop-limit) b sl; counts = raised }) later)))
+  backed-turn up down true = record { here = resting b false true refl refl level; down = omega arith; kept = λ e. sym found-is ∙ e; peaked = λ _ t _. absurd (true≢false (sym t)) }
+  backed-turn up down false = go (le (b .best) sl) refl (pauses quick b sl) refl (tooLow (S .drop-limit) b sl)
+    where
+      noted-some : (p : Bool) → pauses quick b sl ≡ p → quick ≡ false → p ≡ true → b .found ≡ 0 → ⊥
+      noted-some p e k t = some-found b sl level from-zero (ap (λ (z : Bool). pauses z b sl) (sym k) ∙ e ∙ t)
 
-      abbrev score : Float
-      score = b₁ .s ⊖ fl
+      go : (t₂ : Bool) → le (b .best) sl ≡ t₂ → (p : Bool) → pauses quick b sl ≡ p → (d : Bool)
+          → Backed S quick q j a (cond t₂ higher (cond (p || d) (record { sums = fallenTo b sl; low = j; paused = p; done = d; counts = raised }) later))
+      go true n p e d =
+          let k = up raised-backs in
+          record { here = k .here; down = k .down; kept = λ f. absurd (let z : ⊥ = omega (arith, k .kept f) in z); peaked = k .peaked }
+      go false n true e d = record { here = fallen n true d; down = omega arith; kept = λ f. sym found-is ∙ f; peaked = λ k t f. noted-some true e k t f }
+      go false n false e true = record { here = fallen n false true; down = omega arith; kept = λ f. sym found-is ∙ f; peaked = λ _ t _. absurd (true≢false (sym t)) }
+      go false n false e false =
+          let k = down (fallen n false false) in
+          record { here = k .here; down = k .down; kept = λ f. sym found-is ∙ k .kept f; peaked = k .peaked }
 
-      counts-long : length counts′ ≡ length counts₀
-      counts-long = r .read .counted .long ∙ sym (c .counted .long) ∙ c .same-counts
+module _ (S : Setup) (window-counts : List ℕ) (quick : Bool) (q : List Place) (below : Below (kmers S) q) (es : List Place) (at : ℕ) (stands : Stands q es at) where
+  backs-as : (a : BackwardSums) (m n : ℕ) (counts : List ℕ) → m ≡ n → Backs (kmers S) q (restAt a m counts) → Backs (kmers S) q (restAt a n counts)
+  backs-as a m n counts e h = subst (λ (z : ℕ). Backs (kmers S) q (restAt a z counts)) e h
 
-      one-on : i - 1 < a .low
-      one-on = omega (arith, c .to-in, r .more)
+  backed-as : (m n : ℕ) (a : BackwardSums) (r : Rest) → m ≤ n → Backed S quick q m a r → Backed S quick q n a r
+  backed-as m n a r l k = record { here = k .here; down = omega (arith, k .down); kept = k .kept; peaked = k .peaked }
 
-      resting : (b₂ b′ : BackwardState) (peak done : Bool) → b′ ≡ pausedAt b₂ (i - 1) peak done → b₂ .found ≡ b .found → b₂ .best ≡ b .best → lt (b₂ .best) (b₂ .last) ≡ false → Backs (kmers S) q b′ counts′
-      resting b₂ b′ peak done z f g l =
-          rw z
-          (record {
-            ended = record { low-in = omega (arith, r .inside); counted = r .read .counted };
-            found-in = omega (arith, c .found-in);
-            level = l;
-            from-zero = λ e. g ∙ c .from-zero (sym f ∙ e);
-          })
+  backs-over : (m : ℕ) → m ≤ length es → (a : BackwardSums) (counts : List ℕ) → Backs (kmers S) q (restAt a (m + at) counts)
+      → Backed S quick q (m - 1 + at) a (restOver S window-counts quick (length q) es at m a counts)
+  unfolding restOver
+  backs-over zero l a counts h =
+      record { here = backs-as a (0 + at) at counts (omega arith) h; down = omega arith; kept = λ e. e; peaked = λ _ t _. absurd (true≢false (sym t)) }
+  backs-over (suc m) l a counts h =
+      let e : Place = getD es m ambiguous in
+      let raised : List ℕ = raise counts e in
+      let b : BackwardSums = sumsWith S window-counts raised e a in
+      let fl : Float = fAt S (length q - (m + at)) in
+      let sl : Float = b .s ⊖ fl in
+      let k : suc m + at ≡ suc (m + at) = omega arith in
+      let n : m + at < length q = omega (arith, stands .inside) in
+      let h′ = backs-as a (suc m + at) (suc (m + at)) counts k h in
+      let c : Counted (kmers S) raised (drop (m + at) q) =
+      subst (λ (z : Place). Counted (kmers S) (raise counts z) (drop (m + at) q)) (at-same q es at stands m (omega arith)) (read-counted (kmers S) q (m + at) counts below n (h′ .counted)) in
+      backed-as (m + at) (suc m - 1 + at) a _ (omega arith)
+      (backed-turn S quick q (m + at) n a b counts raised h′ c refl refl refl sl _ _
+      (λ g. backed-as (m - 1 + at) (m + at) _ _ (omega arith) (backs-over m (omega arith) (raisedAt b sl (m + at)) raised g))
+      (λ g. backed-as (m - 1 + at) (m + at) _ _ (omega arith) (backs-over m (omega arith) (fallenTo b sl) raised g)) (lt (b .sw ⊖ fl) zero64))
 
-      found-is : b₁ .found ≡ b .found
-      found-is = ap (λ (y : BackwardState). y .found) (r .sums-are)
+  -- A scan that rests at a goes on over the part before, to b.
+  pub goes-on : (a b : Rest) → a .low ≡ length es + at → 0 < length es → Backs (kmers S) q a → b ≡ restOver S window-counts quick (length q) es at (length es) (a .sums) (a .counts) → GoesOn S window-counts quick q a b
+  goes-on a b e some h is =
+      let k = backs-over (length es) (omega arith) (a .sums) (a .counts) (record {
+        low-in = omega (arith, h .low-in);
+        counted = subst (λ (z : ℕ). Counted (kmers S) (a .counts) (drop z q)) e (h .counted);
+        found-in = h .found-in;
+        best-read = λ s. omega (arith, h .best-read s);
+        level = h .level;
+        from-zero = h .from-zero;
+      }) in
+      rw is
+      (record {
+        scanned = ap (λ (z : ℕ). restFrom S window-counts quick q z (a .sums) (a .counts)) e ∙ part-of S window-counts quick q es at stands (length es) (omega arith) (a .sums) (a .counts);
+        less = omega (arith, k .down);
+        here = k .here;
+        kept = k .kept;
+        peaked = k .peaked;
+      })
 
-      pub backing-ended : (b′ : BackwardState) → b′ ≡ pausedAt b₁ (i - 1) false true → lt (b₁ .sw ⊖ fl) zero64 ≡ true → BackwardPart S q a b′ counts₀ counts′
-      backing-ended b′ z h =
-          record {
-            scanned = λ cs. c .rest cs
-                ∙ turn-ended S q i (length q + 1 - i) (backwardOf b) counts cs (r .e) (r .v) (r .vw) (omega (arith, r .more)) (r .place-is) (r .value-is) (r .second-is) (rw (r .second-score-is) at h)
-                ∙ rw (z, r .sums-are, r .counts-are);
-            less = rw z one-on;
-            here = resting b₁ b′ false true z (rw (r .sums-are)) (rw (r .sums-are)) (rw (r .sums-are) (c .level));
-            kept = λ e. c .found-kept (sym found-is ∙ ap (λ (y : BackwardState). y .found) (sym z) ∙ e);
-            peaked = λ t _. absurd (true≢false (sym t ∙ ap (λ (y : BackwardState). y .peak) z));
-          }
+-- ---- The definition's scan, from one rest to the next.
+-- The candidates with the place of a peak that the scan left.
+abbrev pub withPeak : Rest → List Candidate → List Candidate
+withPeak r cs = cond (r .paused) (cs ++ candidate (r .low + 1) (r .sums .best) ∷ []) cs
 
-      module _ (on : lt (b₁ .sw ⊖ fl) zero64 ≡ false) where
-        on′ : lt (b .sw ⊕ (r .vw ⊖ S .score-threshold) ⊖ fAt S (length q + 1 - i)) zero64 ≡ false
-        on′ = rw (r .second-score-is) at on
+-- What a scan that rests at r answers in the end.
+abbrev pub answerAfter : Setup → List Place → Rest → List Candidate → Backward
+answerAfter S q r cs =
+    cond (r .done) (record { best = r .sums .best; found = r .sums .found; counts = r .counts; candidates = withPeak r cs })
+    (backwardFrom S q (r .low) (length q + 1 - r .low) (r .sums) (r .counts) (withPeak r cs))
 
-        compared : (t : Bool) → le (b₁ .best) score ≡ t → le (b .best) score′ ≡ t
-        compared t h = ap₂ (λ (z : BackwardState) (x : Float). le (z .best) x) (sym (r .sums-are)) (sym (r .score-is)) ∙ h
+left-second : (S : Setup) (q : List Place) (window-counts raised : List ℕ) (e : Place) → ((x : ℕ) → getD window-counts x 0 ≡ count x q) → leftValue (S .ln) window-counts raised e ≡ secondValue S q raised e
+left-second S q window-counts raised ambiguous h = refl
+left-second S q window-counts raised (plain x) h = ap (λ (c : ℕ). getD (S .ln) (c - getD raised x 0 + 1) nan) (h x)
 
-        -- One entry on, with the same sums and candidates.
-        on-with : (x y : BackwardSums) (cs₁ cs₂ : List Candidate) → x ≡ y → cs₁ ≡ cs₂
-            → backwardFrom S q (i - 1) (length q + 1 - i + 1) x (raise counts (r .e)) cs₁ ≡ backwardFrom S q (i - 1) (length q + 1 - (i - 1)) y counts′ cs₂
-        on-with x y cs₁ cs₂ ex ec =
-            let l : length q + 1 - i + 1 ≡ length q + 1 - (i - 1) = omega (arith, r .inside, r .more) in
-            rw (l, ex, ec, r .counts-are)
+module _ (S : Setup) (window-counts : List ℕ) (q : List Place) (window-counted : Counted (kmers S) window-counts q) (below : Below (kmers S) q) where
+  -- One entry on, at index m.
+  module _ (m : ℕ) (l : m < length q) (a : BackwardSums) (counts : List ℕ) (c : Counted (kmers S) counts (drop (suc m) q)) where
+    abbrev e′ : Place
+    e′ = getD q m ambiguous
 
-        pub backing-raised : le (b₁ .best) score ≡ true → (b₂ : BackwardState) → b₂ ≡ withBestAt b₁ score (i - 1) → Backing S q from a counts₀ (i - 1) b₂ counts′
-        backing-raised h b₂ z =
-            let f : b₂ .found ≡ i - 1 + 1 = ap (λ (y : BackwardState). y .found) z in
-            record {
-              from-in = r .read .from-in;
-              to-in = r .read .to-in;
-              same-counts = counts-long;
-              counted = r .read .counted;
-              found-in = omega (arith, r .inside, r .more);
-              found-kept = λ e. absurd (let n : ⊥ = omega arith in n);
-              level = rw z (lt-self score);
-              from-zero = λ e. absurd (let n : ⊥ = omega arith in n);
-              rest = λ cs. c .rest cs
-                  ∙ turn-raised S q i (length q + 1 - i) (backwardOf b) counts cs (r .e) (r .v) (r .vw) (omega (arith, r .more)) (r .place-is) (r .value-is) (r .second-is) on′ (c .level) (compared true h)
-                  ∙ on-with _ (backwardOf b₂) cs cs (rw (z, r .score-is, r .sums-are)) refl;
-            }
+    abbrev raised′ : List ℕ
+    raised′ = raise counts e′
 
-        module _ (h : le (b₁ .best) score ≡ false) (peak low : Bool) (p : peak ≡ isNoted (backwardOf b₁) score) (d : low ≡ (not (eqb (b₁ .found) 0) && lt (S .drop-limit) (b₁ .best ⊖ score)))
-            (b₂ : BackwardState) (z : b₂ ≡ withLast b₁ score) where
-          is-noted : isNoted (backwardOf b) score′ ≡ peak
-          is-noted = sym (p ∙ rw (r .score-is, r .sums-are))
+    abbrev b′ : BackwardSums
+    b′ = sumsWith S window-counts raised′ e′ a
 
-          limited : not (eqb (b .found) 0) && lt (S .drop-limit) (b .best ⊖ score′) ≡ low
-          limited = sym (d ∙ rw (r .score-is, r .sums-are))
+    abbrev fl′ : Float
+    fl′ = fAt S (length q - m)
 
-          below : (cs : List Candidate) → backwardFrom S q i (length q + 1 - i) (backwardOf b) counts cs
-              ≡ cond low (record { best = b .best; found = b .found; counts = counts′; candidates = cond peak (cs ++ candidate (i - 1 + 1) (b .best) ∷ []) cs })
-              (backwardFrom S q (i - 1) (length q + 1 - (i - 1)) (backwardOf b₂) counts′ (cond peak (cs ++ candidate (i - 1 + 1) (b .best) ∷ []) cs))
-          below cs =
-              let l : length q + 1 - i + 1 ≡ length q + 1 - (i - 1) = omega (arith, r .inside, r .more) in
-              let sums : backwardOf b₂ ≡ record { s = b .s ⊕ (r .v ⊖ S .score-threshold); sw = b .sw ⊕ (r .vw ⊖ S .score-threshold); last = score′; best = b .best; found = b .found } = rw (z, r .score-is, r .sums-are) in
-              turn-below S q i (length q + 1 - i) (backwardOf b) counts cs (r .e) (r .v) (r .vw) (omega (arith, r .more)) (r .place-is) (r .value-is) (r .second-is) on′ (compared false h)
-              ∙ rw (limited, is-noted, l, sums, r .counts-are)
+    abbrev sl′ : Float
+    sl′ = b′ .s ⊖ fl′
 
-          found-same : b₂ .found ≡ b .found
-          found-same = rw (z, r .sums-are)
+    pub definition-turn : (cs : List Candidate) → backwardFrom S q (suc m) (length q + 1 - suc m) a counts cs
+        ≡ cond (lt (b′ .sw ⊖ fl′) zero64) (record { best = a .best; found = a .found; counts = raised′; candidates = cs })
+        (cond (isDropped S b′ sl′)
+        (record { best = backwardJudged b′ (b′ .s) (b′ .sw) sl′ m .best; found = backwardJudged b′ (b′ .s) (b′ .sw) sl′ m .found; counts = raised′; candidates = noted b′ sl′ m cs })
+        (backwardFrom S q m (length q + 1 - m) (backwardJudged b′ (b′ .s) (b′ .sw) sl′ m) raised′ (noted b′ sl′ m cs)))
+    unfolding backwardFrom
+    definition-turn cs =
+        let v : value S counts e′ ≡ countedValue (S .ln) raised′ e′ = sym (raised-value S counts e′ (subst (λ (n : ℕ). BelowAt n e′) (sym (c .long)) (below-at (kmers S) q m below l))) in
+        let w : secondValue S q raised′ e′ ≡ leftValue (S .ln) window-counts raised′ e′ = sym (left-second S q window-counts raised′ e′ (window-counted .counted)) in
+        let n : length q + 1 - suc m ≡ length q - m = omega arith in
+        let o : length q - m + 1 ≡ length q + 1 - m = omega arith in
+        rw (n, o, v, w)
 
-          best-same : b₂ .best ≡ b .best
-          best-same = rw (z, r .sums-are)
+  module _ (m : ℕ) (l : m < length q) (a : BackwardSums) (counts : List ℕ) (c : Counted (kmers S) counts (drop (suc m) q)) (cs : List Candidate) (higher later : Rest) where
+    abbrev b : BackwardSums
+    b = b′ m l a counts c
 
-          level-on : lt (b₂ .best) (b₂ .last) ≡ false
-          level-on = rw z (not-above (b₁ .best) score h)
+    abbrev raised : List ℕ
+    raised = raised′ m l a counts c
 
-          -- A peak above 0 has a best place.
-          some-found : peak ≡ true → b .found ≡ 0 → ⊥
-          some-found t e =
-              let above : lt zero64 (b .last) ≡ true = first-true (lt zero64 (b .last)) _ (last-true (lt score′ (b .last)) _ (is-noted ∙ t)) in
-              true≢false (sym above ∙ ap (λ (x : Float). lt x (b .last)) (sym (c .from-zero e)) ∙ c .level)
+    abbrev x : Float
+    x = sl′ m l a counts c
 
-          pub backing-paused : (b′ : BackwardState) → b′ ≡ pausedAt b₂ (i - 1) peak low → BackwardPart S q a b′ counts₀ counts′
-          backing-paused b′ y =
-              rw y
-              (record {
-                scanned = λ cs. c .rest cs ∙ below cs ∙ rw (found-same, best-same);
-                less = one-on;
-                here = resting b₂ (pausedAt b₂ (i - 1) peak low) peak low refl found-same best-same level-on;
-                kept = λ e. c .found-kept (sym found-same ∙ e);
-                peaked = λ t e. some-found t (sym found-same ∙ e);
-              })
+    abbrev scanFrom : BackwardSums → List Candidate → Backward
+    scanFrom y cs′ = backwardFrom S q m (length q + 1 - m) y raised cs′
 
-          pub backing-fallen : peak || low ≡ false → Backing S q from a counts₀ (i - 1) b₂ counts′
-          backing-fallen t =
-              let np : peak ≡ false = neither peak low t .0 in
-              let nl : low ≡ false = neither peak low t .1 in
-              record {
-                from-in = r .read .from-in;
-                to-in = r .read .to-in;
-                same-counts = counts-long;
-                counted = r .read .counted;
-                found-in = omega (arith, c .found-in, found-same);
-                found-kept = λ e. c .found-kept (sym found-same ∙ e);
-                level = level-on;
-                from-zero = λ e. best-same ∙ c .from-zero (sym found-same ∙ e);
-                rest = λ cs. c .rest cs ∙ below cs ∙ rw (nl, np);
-              }
+    cases : (t₁ t₂ p d : Bool) → (t₂ ≡ true → p ≡ false) → (t₂ ≡ true → scanFrom (raisedAt b x m) cs ≡ answerAfter S q higher cs) → (t₂ ≡ false → scanFrom (fallenTo b x) cs ≡ answerAfter S q later cs)
+        → cond t₁ (record { best = a .best; found = a .found; counts = raised; candidates = cs })
+        (cond (not t₂ && d)
+        (record { best = cond t₂ (raisedAt b x m) (fallenTo b x) .best; found = cond t₂ (raisedAt b x m) (fallenTo b x) .found; counts = raised; candidates = cond p (cs ++ candidate (m + 1) (b .best) ∷ []) cs })
+        (scanFrom (cond t₂ (raisedAt b x m) (fallenTo b x)) (cond p (cs ++ candidate (m + 1) (b .best) ∷ []) cs)))
+        ≡ answerAfter S q
+        (cond t₁ (record { sums = b; low = m; paused = false; done = true; counts = raised })
+        (cond t₂ higher (cond (p || d) (record { sums = fallenTo b x; low = m; paused = p; done = d; counts = raised }) later))) cs
+    cases true t₂ p d n up down = refl
+    cases false true true d n up down = absurd (true≢false (n refl))
+    cases false true false d n up down = up refl
+    cases false false true true n up down = refl
+    cases false false true false n up down = refl
+    cases false false false true n up down = refl
+    cases false false false false n up down = down refl
 
--- ---- The whole scan.
-start-level : lt (backwardStart .best) (backwardStart .last) ≡ false
+  pub backward-rest : (i : ℕ) → i ≤ length q → (a : BackwardSums) (counts : List ℕ) → Counted (kmers S) counts (drop i q) → lt (a .best) (a .previous) ≡ false → (cs : List Candidate)
+      → backwardFrom S q i (length q + 1 - i) a counts cs ≡ answerAfter S q (restFrom S window-counts false q i a counts) cs
+  unfolding restOver
+  backward-rest zero l a counts c level cs = refl
+  backward-rest (suc m) l a counts c level cs =
+      let n : m < length q = omega arith in
+      let x : BackwardSums = b′ m n a counts c in
+      let sl : Float = sl′ m n a counts c in
+      let raised : List ℕ = raised′ m n a counts c in
+      let c′ : Counted (kmers S) raised (drop m q) = read-counted (kmers S) q m counts below n c in
+      let z : m + 0 ≡ m = omega arith in
+      definition-turn m n a counts c cs
+      ∙ rw z
+      (cases m n a counts c cs (restFrom S window-counts false q m (raisedAt x sl m) raised) (restFrom S window-counts false q m (fallenTo x sl) raised)
+      (lt (x .sw ⊖ fl′ m n a counts c) zero64) (le (a .best) sl) (isNoted x sl) (tooLow (S .drop-limit) x sl)
+      (λ h. ap (λ (z : Bool). z && (lt zero64 (a .previous) && nearZero (a .previous ⊖ a .best))) (no-fall (a .best) sl (a .previous) level h))
+      (λ _. backward-rest m (omega arith) (raisedAt x sl m) raised c′ (lt-self sl) cs) (λ h. backward-rest m (omega arith) (fallenTo x sl) raised c′ (not-above (a .best) sl h) cs))
+
+  -- The same where the scan goes on from a to b.
+  pub backward-goes : (a b : Rest) → GoesOn S window-counts false q a b → Backs (kmers S) q a → (cs : List Candidate) → backwardFrom S q (a .low) (length q + 1 - a .low) (a .sums) (a .counts) cs ≡ answerAfter S q b cs
+  backward-goes a b g h cs =
+      backward-rest (a .low) (h .low-in) (a .sums) (a .counts) (h .counted) (h .level) cs ∙ ap (λ (r : Rest). answerAfter S q r cs) (g .scanned) ∙ go (b .paused) refl (b .done) refl
+    where
+      go : (p : Bool) → b .paused ≡ p → (d : Bool) → b .done ≡ d → answerAfter S q (restAfter S window-counts false q b) cs ≡ answerAfter S q b cs
+      go true p d e = rw p
+      go false p true e = rw (p, e)
+      go false p false e = rw (p, e) (sym (backward-rest (b .low) (g .here .low-in) (b .sums) (b .counts) (g .here .counted) (g .here .level) cs))
+
+-- ---- A scan begins.
+start-level : lt (backwardStart .best) (backwardStart .previous) ≡ false
 unfolding lt neg ofBits ofFields
 start-level = refl
 
 pub none-counted : (m : ℕ) (q : List Place) (counts : List ℕ) → counts ≡ replicate m 0 → Counted m counts (drop (length q) q)
 none-counted m q counts clear = rw (clear, drop-length q) (cleared-counted m)
 
-pub backs-start : (q : List Place) (len m : ℕ) (a : BackwardState) (counts : List ℕ) → length q ≡ len → Fresh len a → counts ≡ replicate m 0 → Backs m q a counts
+pub backs-start : (q : List Place) (len m : ℕ) (a : BackwardState) (counts : List ℕ) → length q ≡ len → Fresh len a → counts ≡ replicate m 0 → Backs m q (restOf a counts)
 backs-start q len m a counts l fresh clear =
     let low : length q ≡ a .low = l ∙ sym (fresh .low-is) in
     let f : a .found ≡ 0 = ap (λ (z : BackwardSums). z .found) (fresh .sums-are) in
     record {
-      ended = record { low-in = omega arith; counted = subst (λ (n : ℕ). Counted m counts (drop n q)) low (none-counted m q counts clear) };
+      low-in = omega arith;
+      counted = subst (λ (n : ℕ). Counted m counts (drop n q)) low (none-counted m q counts clear);
       found-in = omega arith;
-      level = ap (λ (z : BackwardSums). lt (z .best) (z .last)) (fresh .sums-are) ∙ start-level;
+      best-read = λ s. absurd (let b : ⊥ = omega arith in b);
+      level = ap (λ (z : BackwardSums). lt (z .best) (z .previous)) (fresh .sums-are) ∙ start-level;
       from-zero = λ _. ap (λ (z : BackwardSums). z .best) (fresh .sums-are);
     }
 
--- Read to the oldest entry.
-pub ended-all : (m : ℕ) (q : List Place) (a : BackwardState) (counts : List ℕ) → a .low ≡ 0 → Counted m counts (drop 0 q) → Ended m q a counts
-ended-all m q a counts z c = record { low-in = omega arith; counted = subst (λ (n : ℕ). Counted m counts (drop n q)) (sym z) c }
+-- ---- The entries before `low` in a straight part of the ring, n numbers from index k on.
+count-drop : (x j : ℕ) (q : List Place) → count x (drop j q) ≤ count x q
+count-drop x zero q = omega arith
+count-drop x (suc j) [] = omega arith
+count-drop x (suc j) (e ∷ q) = omega (arith, count-drop x j q)
 
--- ---- What is left of the ring's newer part, or else of its older part.
-module _ (w head len mid low : ℕ) (s : Seam w head len 0 mid) (h : head < w) (l : len ≤ w) (in-len : low ≤ len) where
-  straight-part : (b : Bool) → ltb mid low ≡ b → Straight w head (cond b mid 0) low (cond b w 0)
-  straight-part true e =
-      let g = past-seam w head len 0 mid s h l in
-      record { turned = λ i x y. g .turned i x (omega arith); at = λ i x y. g .at i x (omega arith) }
-  straight-part false e =
-      let n : low ≤ mid = ltb-false mid low e in
-      let g = before-seam w head len 0 mid s h in
-      record { turned = λ i x y. g .turned i x (omega arith); at = λ i x y. g .at i x (omega arith) }
+pub window-counts-are : {p : Params} {ring : List ℕ} {head len n : ℕ} {window-counts : List ℕ} → Windowed p ring head len window-counts n → Counted (4 ^ p .kmer) window-counts (window ring head len)
+window-counts-are w = record { long = w .counts-long; counted = w .counted }
 
-  pub straight-left : Straight w head (cond (ltb mid low) mid 0) low (cond (ltb mid low) w 0)
-  straight-left = straight-part (ltb mid low) refl
+pub window-below : {p : Params} {ring : List ℕ} {head len n : ℕ} {window-counts : List ℕ} → Windowed p ring head len window-counts n → Below (4 ^ p .kmer) (window ring head len)
+window-below w = queued-below (windowed-queued w refl)
 
-  pub left-below : 0 < low → cond (ltb mid low) mid 0 < low
-  left-below some = go (ltb mid low) refl
-    where
-      go : (b : Bool) → ltb mid low ≡ b → cond b mid 0 < low
-      go true e = ltb-true mid low e
-      go false e = some
+module _ {p : Params} {ring : List ℕ} {head len : ℕ} {window-counts : List ℕ} (ln f : List Float) (w : Windowed p ring head len window-counts (length ln)) (f-long : p .«window_size» < length f)
+    (a : BackwardState) (counts : List ℕ) (h : Backs (4 ^ p .kmer) (window ring head len) (restOf a counts)) (k n : ℕ) (some : 0 < n) (in-ring : k + n ≤ length ring) (in-low : n ≤ a .low)
+    (here : (k ≡ head + (a .low - n)) ⊎ (k + length ring ≡ head + (a .low - n))) where
+  abbrev part : List ℕ
+  part = take n (drop k ring)
+
+  abbrev q : List Place
+  q = window ring head len
+
+  h-in : head < length ring
+  h-in = omega (arith, w .ring-is, w .head-in)
+
+  l-in : len ≤ length ring
+  l-in = omega (arith, w .ring-is, w .len-in)
+
+  low-in : a .low ≤ len
+  low-in = omega (arith, h .low-in, long w)
+
+  part-long : length part ≡ n
+  part-long = part-length ring head len k n (a .low - n) h-in l-in in-ring (omega (arith, low-in)) (λ _. here)
+
+  stands : Stands q (decoded part) (a .low - n)
+  stands = part-stands ring head len k n (a .low - n) h-in l-in in-ring (omega (arith, low-in)) (λ _. here)
+
+  places-long : length (decoded part) ≡ n
+  places-long = decoded-length part ∙ part-long
+
+  to-low : a .low - n + length (decoded part) ≡ a .low
+  to-low = omega (arith, places-long)
+
+  room : Room len window-counts counts (decoded part)
+  room = record {
+    at-most = λ x. omega (arith, w .counted x, count-le x q, long w);
+    left = λ x.
+        let d : count x (drop (a .low - n) q) ≡ count x (decoded part) + count x (drop (a .low) q) =
+        ap (λ (z : List Place). count x z) (stands .is ∙ ap (λ (z : ℕ). decoded part ++ drop z q) to-low) ∙ count-append x (decoded part) (drop (a .low) q) in
+        omega (arith, h .counted .counted x, count-drop x (a .low - n) q, w .counted x);
+  }
+
+  pub part-ready : ((length part ≤ a .low) × (a .low ≤ len) × (len ≤ 65535) × (len < length ln) × (len < length f))
+      × ((Coded part (length counts) × (length window-counts ≡ length counts)) × Room len window-counts counts (decoded part))
+  part-ready = (
+    (omega (arith, part-long), low-in, omega (arith, w .len-in, w .small), omega (arith, w .len-in, w .ln-long), omega (arith, w .len-in)),
+    ((part-coded ring head len k n (a .low - n) h-in l-in in-ring (omega (arith, low-in)) (λ _. here) (windowed-queued w (h .counted .long)), omega (arith, w .counts-long, h .counted .long)), room),
+  )
+
+  pub part-goes-on : (quick : Bool) (b : BackwardState) (counts′ : List ℕ)
+      → restOf b counts′ ≡ restOver (setupOf p ln f) window-counts quick len (decoded part) (a .low - length part) (length part) (backwardOf a) counts
+      → GoesOn (setupOf p ln f) window-counts quick q (restOf a counts) (restOf b counts′)
+  part-goes-on quick b counts′ is =
+      let same : length part ≡ length (decoded part) = sym (decoded-length part) in
+      goes-on (setupOf p ln f) window-counts quick q (window-below w) (decoded part) (a .low - n) stands (restOf a counts) (restOf b counts′) (omega (arith, to-low)) (omega (arith, places-long)) h
+      (is ∙ ap₂ (λ (x y : ℕ). restOver (setupOf p ln f) window-counts quick x (decoded part) (a .low - y) (length part) (backwardOf a) counts) (sym (long w)) part-long
+      ∙ ap (λ (x : ℕ). restOver (setupOf p ln f) window-counts quick (length q) (decoded part) (a .low - n) x (backwardOf a) counts) same)
+
+-- ---- The whole quick scan, from one rest to the next.
+pub record Going (S : Setup) (window-counts : List ℕ) (q : List Place) (counts₀ : List ℕ) (a : BackwardState) (counts : List ℕ) : Type 0 where
+  pub same : length counts ≡ length counts₀
+  pub here : Backs (kmers S) q (restOf a counts)
+  pub rest : restFrom S window-counts true q (length q) backwardStart (cleared S) ≡ restAfter S window-counts true q (restOf a counts)
+
+module _ (S : Setup) (window-counts : List ℕ) (q : List Place) (counts₀ : List ℕ) where
+  pub going-start : (len : ℕ) (a : BackwardState) → length q ≡ len → Fresh len a → counts₀ ≡ cleared S → Going S window-counts q counts₀ a counts₀
+  going-start len a l fresh clear =
+      let low : a .low ≡ length q = fresh .low-is ∙ sym l in
+      record { same = refl; here = backs-start q len (kmers S) a counts₀ l fresh clear; rest = rw (fresh .going .0, fresh .going .1, low, fresh .sums-are, clear) }
+
+  module _ (a : BackwardState) (counts : List ℕ) (c : Going S window-counts q counts₀ a counts) where
+    on : goesOn a ≡ true → (a .paused ≡ false) × (a .done ≡ false) × (0 < a .low)
+    on t = go (a .paused) refl (a .done) refl t
+      where
+        go : (p : Bool) → a .paused ≡ p → (d : Bool) → a .done ≡ d → not p && (not d && ltb 0 (a .low)) ≡ true → (a .paused ≡ false) × (a .done ≡ false) × (0 < a .low)
+        go true p d e u = absurd (true≢false (sym u))
+        go false p true e u = absurd (true≢false (sym u))
+        go false p false e u = (p, e, ltb-true 0 (a .low) u)
+
+    pub going-some : goesOn a ≡ true → 0 < a .low
+    going-some t = on t .2
+
+    pub going-turn : goesOn a ≡ true → (b : BackwardState) (counts′ : List ℕ) → length counts′ ≡ length counts → GoesOn S window-counts true q (restOf a counts) (restOf b counts′) → Going S window-counts q counts₀ b counts′
+    going-turn t b counts′ e g = record { same = e ∙ c .same; here = g .here; rest = c .rest ∙ rw (on t .0, on t .1) (g .scanned) }
+
+    pub going-end : goesOn a ≡ false → Counted (kmers S) window-counts q → ScansQuick S q (restOf a counts)
+    unfolding restOver
+    going-end t counted = record { window-counts = window-counts; window-counted = counted; scanned = sym (c .rest ∙ go (a .paused) refl (a .done) refl t); here = c .here }
+      where
+        go : (p : Bool) → a .paused ≡ p → (d : Bool) → a .done ≡ d → not p && (not d && ltb 0 (a .low)) ≡ false → restAfter S window-counts true q (restOf a counts) ≡ restOf a counts
+        go true p d e u = rw p
+        go false p true e u = rw (p, e)
+        go false p false e u =
+            let z : a .low ≡ 0 = let n : a .low ≤ 0 = ltb-false 0 (a .low) u in omega arith in
+            rw (p, e, z)

@@ -14,16 +14,15 @@ use Rattle.floats.specs.Binary64.{slack}
 use Rattle.letters.specs.Place.{Place, Below}
 use Rattle.letters.specs.Entry.{decode}
 use Rattle.scans.specs.declared.Params.{Params}
-use Rattle.scans.specs.declared.BackwardState.{BackwardState}
+use Rattle.scans.specs.declared.backward.BackwardState.{BackwardState}
 use Rattle.scans.specs.declared.Carry.{Carry}
 use Rattle.scans.specs.declared.Scanned.{Scanned}
 use Rattle.scans.specs.Setup.{Setup, fAt, kmers, setupOf}
 use Rattle.scans.specs.Counts.{cleared, Counted}
 use Rattle.scans.specs.Scans.{at, Forward, dustForward, dustBackward}
-use Rattle.scans.specs.Window.{ringIndex, At, queue, window, countedValue}
-use Rattle.scans.specs.Parts.{Ringed}
-use Rattle.scans.specs.Quick.{quickOf, ScansQuick}
-use Rattle.scans.specs.Carry.{noCarry, Carried, Touched, Answers, Walked, carriedAhead, CarriesAhead, FindsQuickly}
+use Rattle.scans.specs.Terms.Window.{ringIndex, At, queue, window, countedValue}
+use Rattle.scans.specs.Terms.Parts.{Ringed, restOf, ScansQuick}
+use Rattle.scans.specs.Terms.Carry.{noCarry, Carried, Touched, Answers, carriedAhead, CarriesAhead, FindsQuickly}
 use Rattle.scans.proofs.Counting.{count-le}
 use Rattle.scans.proofs.Ring.{ring-index-at, queue-at, window-length, window-newest}
 use Rattle.scans.proofs.Touched.{counted-touched, touched-part}
@@ -32,13 +31,13 @@ use Rattle.scans.proofs.CarriedScan.{carried-forward, found-carried}
 use Rattle.scans.proofs.QuickFind.{quick-inside, quick-find}
 
 -- Nothing is told.
-pub carries-off : (S : Setup) (q : List Place) (b : BackwardState) (counts : List ℕ) (r : Carry) → ScansQuick S q b counts → r ≡ noCarry → CarriesAhead S q b r counts
+pub carries-off : (S : Setup) (q : List Place) (b : BackwardState) (counts : List ℕ) (r : Carry) → ScansQuick S q (restOf b counts) → r ≡ noCarry → CarriesAhead S q b r counts
 carries-off S q b counts r k off =
-    record { tells = λ on. absurd (true≢false (sym on ∙ ap (λ (z : Carry). z .on) off)); touched = λ _. counted-touched (kmers S) counts (drop (b .low) q) (k .over .ended .counted) }
+    record { tells = λ on. absurd (true≢false (sym on ∙ ap (λ (z : Carry). z .on) off)); touched = λ _. counted-touched (kmers S) counts (drop (b .low) q) (k .here .counted) }
 
 -- The quick scan b met no near tie, and its best place is at index j, where the carried scan c began.
 -- `counts` are those of the places from j on, the newest of which is e.
-module _ (S : Setup) (q₀ : List Place) (e : Place) (below : Below (kmers S) (q₀ ++ e ∷ [])) (b : BackwardState) (counts₀ : List ℕ) (k : ScansQuick S (q₀ ++ e ∷ []) b counts₀) (clear : b .tied ≡ false)
+module _ (S : Setup) (q₀ : List Place) (e : Place) (below : Below (kmers S) (q₀ ++ e ∷ [])) (b : BackwardState) (counts₀ : List ℕ) (k : ScansQuick S (q₀ ++ e ∷ []) (restOf b counts₀)) (clear : b .paused ≡ false)
     (j : ℕ) (found : b .found ≡ suc j) (inside : j ≤ length q₀) (from : b .low ≤ j) (c : Carry) (on : c .on ≡ true) (carried : Carried S (drop j q₀) c) (low : lt (b .best ⊕ slack) (c .best) ≡ false)
     (counts : List ℕ) (n : Counted (kmers S) counts (drop j (q₀ ++ e ∷ []))) (l : ℕ) (nth : l ≡ length (q₀ ++ e ∷ []) - j) where
   abbrev q : List Place
@@ -58,7 +57,7 @@ module _ (S : Setup) (q₀ : List Place) (e : Place) (below : Below (kmers S) (q
       let forward : dustForward S q j (b .best) ≡ o =
       carried-forward S q₀ e j inside c on carried (b .best) (subst (λ (t : Bool). T (not t)) (sym low) tt) counts below n s sl refl (ap (λ (z : ℕ). s ⊖ fAt S z) nth) (subst T (sym high) tt) in
       let some : 0 < length q = omega (arith, length-append q₀ (e ∷ [])) in
-      let same : dustBackward S q ≡ record { find = at j; counts = counts } = quick-find S q (quickOf b) (k .scanned) clear j o found forward refl in
+      let same : dustBackward S q ≡ record { find = at j; counts = counts } = quick-find S q below (restOf b counts₀) k clear j o found forward refl in
       let begun : Carried S (drop j q) (carriedAhead S l counts e c) =
       found-carried S q j (b .best) some (ap (λ (z : Forward). z .sums .found) forward) (carriedAhead S l counts e c) (ap (λ (z : Forward). z .sums .s) (sym forward)) (ap (λ (z : Forward). z .sums .best) (sym forward)) in
       rw same
@@ -80,21 +79,24 @@ module _ (S : Setup) (q₀ : List Place) (e : Place) (below : Below (kmers S) (q
 
 -- The same of a window in a ring.
 module _ (p : Params) (ring : List ℕ) (head len : ℕ) (ln f : List Float) (counts₀ : List ℕ) (r : Ringed ring head len (length ln) (length f) (length counts₀)) (some : 0 < len) (long : length counts₀ ≡ 4 ^ p .kmer)
-    (b : BackwardState) (k : ScansQuick (setupOf p ln f) (window ring head len) b counts₀) (clear : b .tied ≡ false) (is-found : b .found ≡ 0 → ⊥) (last : ℕ) (at-last : b .found - 1 ≡ last) where
+    (b : BackwardState) (k : ScansQuick (setupOf p ln f) (window ring head len) (restOf b counts₀)) (clear : b .paused ≡ false) (is-found : b .found ≡ 0 → ⊥) (start : ℕ) (at-start : b .found - 1 ≡ start) where
   abbrev S : Setup
   S = setupOf p ln f
 
   size : length (window ring head len) ≡ len
   size = window-length ring head len (r .queued .head-in) (r .queued .len-in)
 
-  found-last : b .found ≡ suc last
-  found-last = let d : b .found ≢ 0 = is-found in omega arith
+  below-window : Below (4 ^ p .kmer) (window ring head len)
+  below-window = subst (λ (m : ℕ). Below m (window ring head len)) long (queued-below (r .queued))
 
-  pub last-in : last < len
-  last-in = omega (arith, found-last, size, quick-inside S (window ring head len) (quickOf b) (k .scanned) clear (omega (arith, size)))
+  found-start : b .found ≡ suc start
+  found-start = let d : b .found ≢ 0 = is-found in omega arith
 
-  pub low-in : b .low ≤ last
-  low-in = omega (arith, found-last, k .over .best-read (omega (arith, found-last)))
+  pub start-in : start < len
+  start-in = omega (arith, found-start, size, quick-inside S (window ring head len) below-window (restOf b counts₀) k clear (omega (arith, size)))
+
+  pub low-in : b .low ≤ start
+  low-in = omega (arith, found-start, k .here .best-read (omega (arith, found-start)))
 
   -- The newest entry stands at index i.
   module _ (i : ℕ) (is : i ≡ ringIndex (length ring) head (len - 1)) where
@@ -112,28 +114,27 @@ module _ (p : Params) (ring : List ℕ) (head len : ℕ) (ln f : List Float) (co
     joins : window ring head len ≡ window ring head (len - 1) ++ decode newest ∷ []
     joins = window-newest ring head len (r .queued .head-in) some (r .queued .len-in) ∙ ap (λ (z : ℕ). window ring head (len - 1) ++ decode (getD ring z 0) ∷ []) (sym is)
 
-    -- Entries before `last` were taken out of the counts.
-    module _ (counts : List ℕ) (w : Walked (Counted (length counts₀)) ring head (b .low) last counts₀ counts) where
-      last-counted : Counted (4 ^ p .kmer) counts (drop last (window ring head len))
-      last-counted =
-          subst (λ (m : ℕ). Counted m counts (drop last (window ring head len))) long
-          (w .left len (omega (arith, last-in)) (r .queued .len-in) (subst (λ (m : ℕ). Counted m counts₀ (drop (b .low) (window ring head len))) (sym long) (k .over .ended .counted)))
+    -- Entries before `start` were taken out of the counts.
+    module _ (counts : List ℕ) (w : Counted (length counts₀) counts (drop start (window ring head len))) where
+      start-counted : Counted (4 ^ p .kmer) counts (drop start (window ring head len))
+      start-counted =
+          subst (λ (m : ℕ). Counted m counts (drop start (window ring head len))) long
+          w
 
       pub count-in : (x : ℕ) → getD counts x 0 < length ln
       count-in x =
-          omega (arith, last-counted .counted x, count-le x (drop last (window ring head len)), length-drop last (window ring head len), size, r .queued .len-in, r .ln-long)
+          omega (arith, start-counted .counted x, count-le x (drop start (window ring head len)), length-drop start (window ring head len), size, r .queued .len-in, r .ln-long)
 
-      pub carries-ahead : (c c′ : Carry) → c .on ≡ true → Carried S (drop last (window ring head (len - 1))) c → lt (b .best ⊕ slack) (c .best) ≡ false
-          → c′ ≡ carriedAhead S (len - last) counts (decode newest) c → CarriesAhead S (window ring head len) b c′ counts
+      pub carries-ahead : (c c′ : Carry) → c .on ≡ true → Carried S (drop start (window ring head (len - 1))) c → lt (b .best ⊕ slack) (c .best) ≡ false
+          → c′ ≡ carriedAhead S (len - start) counts (decode newest) c → CarriesAhead S (window ring head len) b c′ counts
       carries-ahead c c′ on carried low told =
           let q₀ : List Place = window ring head (len - 1) in
           let e : Place = decode newest in
           let l₀ : length q₀ ≡ len - 1 = window-length ring head (len - 1) (r .queued .head-in) (omega (arith, r .queued .len-in)) in
-          let below : Below (4 ^ p .kmer) (window ring head len) = subst (λ (m : ℕ). Below m (window ring head len)) long (queued-below (r .queued)) in
           subst (λ (z : List Place). CarriesAhead S z b c′ counts) (sym joins)
           (subst (λ (z : Carry). CarriesAhead S (q₀ ++ e ∷ []) b z counts) (sym told)
-          (ahead-told S q₀ e (subst (λ (z : List Place). Below (4 ^ p .kmer) z) joins below) b counts₀ (subst (λ (z : List Place). ScansQuick S z b counts₀) joins k) clear last found-last
-          (omega (arith, last-in)) low-in c on carried low counts (subst (λ (z : List Place). Counted (4 ^ p .kmer) counts (drop last z)) joins last-counted) (len - last) (omega (arith, ap length joins, size))))
+          (ahead-told S q₀ e (subst (λ (z : List Place). Below (4 ^ p .kmer) z) joins below-window) b counts₀ (subst (λ (z : List Place). ScansQuick S z (restOf b counts₀)) joins k) clear start found-start
+          (omega (arith, start-in)) low-in c on carried low counts (subst (λ (z : List Place). Counted (4 ^ p .kmer) counts (drop start z)) joins start-counted) (len - start) (omega (arith, ap length joins, size))))
 
 -- ---- The find, or cleared counts.
 pub quickly-found : (S : Setup) (q : List Place) (b : BackwardState) (r : Carry) (counts : List ℕ) → CarriesAhead S q b r counts → r .on ≡ true → FindsQuickly S q (record { found = b .found; carry = r }) counts

@@ -17,8 +17,8 @@ use Rattle.scans.specs.declared.Carry.{Carry}
 use Rattle.scans.specs.Setup.{Setup, lnAt, fAt, kmers}
 use Rattle.scans.specs.Counts.{raise, cleared}
 use Rattle.scans.specs.Scans.{value, ForwardSums, forwardStart, forwardJudged, Forward, forwardFrom, dustForward}
-use Rattle.scans.specs.Window.{countedValue, CountsEntry}
-use Rattle.scans.specs.Carry.{wholeForward, Carried, carriedOn, CarriesOn}
+use Rattle.scans.specs.Terms.Window.{countedValue, CountsEntry}
+use Rattle.scans.specs.Terms.Carry.{wholeForward, Carried, carriedOn, CarriesOn}
 use Rattle.scans.proofs.Test.{by-test}
 use Rattle.scans.proofs.Values.{raised-value}
 use Rattle.scans.proofs.Counting.{hit-self, count-snoc, below-left, below-right, below-drop, Counted, raise-counted, cleared-counted}

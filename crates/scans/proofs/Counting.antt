@@ -81,6 +81,14 @@ module _ (counts : List ℕ) (x y : ℕ) (l : x < length counts) where
       (getD-set-same counts x (getD counts x 0 - 1) 0 l ∙ ap (λ (z : ℕ). getD counts x 0 - z) (sym (hit-self x)))
   lower-at false e = getD-set-other counts x y (getD counts x 0 - 1) 0 (eqb-false y x e) ∙ omega (arith, hit-other y x (eqb-false y x e))
 
+pub raise-length : (counts : List ℕ) (e : Place) → length (raise counts e) ≡ length counts
+raise-length counts ambiguous = refl
+raise-length counts (plain x) = length-set counts x (getD counts x 0 + 1)
+
+pub raise-hit : (counts : List ℕ) (e : Place) (y : ℕ) → BelowAt (length counts) e → getD (raise counts e) y 0 ≡ hit y e + getD counts y 0
+raise-hit counts ambiguous y l = omega arith
+raise-hit counts (plain x) y l = raise-at counts x y l (eqb y x) refl
+
 module _ (m : ℕ) (counts : List ℕ) where
   -- The newest place joins.
   pub raise-counted : (q : List Place) (e : Place) → BelowAt m e → Counted m counts q → Counted m (raise counts e) (q ++ e ∷ [])

@@ -87,7 +87,7 @@ module _ (S : Setup) (q : List Place) where
 
   -- A state without its sums.
   abbrev bare : BackwardSums → BackwardSums
-  bare a = record { s = zero64; sw = zero64; last = a .last; best = a .best; found = a .found }
+  bare a = record { s = zero64; sw = zero64; previous = a .previous; best = a .best; found = a .found }
 
   next-first : (i : ℕ) → i < length q → reverse (take (suc i) q) ≡ getD q i ambiguous ∷ reverse (take i q)
   next-first i h = ap reverse (take-suc q i ambiguous h) ∙ reverse-append (take i q) (getD q i ambiguous ∷ [])
@@ -104,8 +104,8 @@ module _ (S : Setup) (q : List Place) where
       let sl : Float = s ⊖ fAt S l in
       let low : Float = sw ⊖ fAt S l in
       let counts′ : List ℕ = raise counts e in
-      let best : BackwardSums = record { s = s; sw = sw; last = sl; best = sl; found = i + 1 } in
-      let worse : BackwardSums = record { s = s; sw = sw; last = sl; best = a .best; found = a .found } in
+      let best : BackwardSums = record { s = s; sw = sw; previous = sl; best = sl; found = i + 1 } in
+      let worse : BackwardSums = record { s = s; sw = sw; previous = sl; best = a .best; found = a .found } in
       let a′ : BackwardSums = backwardJudged a s sw sl i in
       let cs′ : List Candidate = noted a sl i cs in
       let later : Backward = backwardFrom S q i (l + 1) a′ counts′ cs′ in

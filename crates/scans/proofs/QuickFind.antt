@@ -5,24 +5,24 @@ use native.Mathlib.Omega.{arith}
 use mathlib.Core.Bool.{false}
 use mathlib.Core.List.{List, []}
 use lib.ListN.{length}
-use Rattle.letters.specs.Place.{Place}
-use Rattle.scans.specs.Setup.{Setup}
+use Rattle.letters.specs.Place.{Place, Below}
+use Rattle.scans.specs.Setup.{Setup, kmers}
 use Rattle.scans.specs.Counts.{cleared}
 use Rattle.scans.specs.Scans.{backwardStart, Backward, backwardFrom, at, Forward, dustForward, dustBackward}
-use Rattle.scans.specs.Quick.{Quick, quickFrom}
-use Rattle.scans.proofs.Candidates.{backward-scanned}
+use Rattle.scans.specs.Terms.Parts.{Rest, ScansQuick}
+use Rattle.scans.proofs.Noting.{backward-scanned}
 use Rattle.scans.proofs.QuickScan.{Agrees, quick-backward, best-tried}
 
-module _ (S : Setup) (q : List Place) (r : Quick) (is : r ≡ quickFrom S q (length q) 1 backwardStart (cleared S)) (clear : r .tied ≡ false) where
+module _ (S : Setup) (q : List Place) (below : Below (kmers S) q) (r : Rest) (k : ScansQuick S q r) (clear : r .paused ≡ false) where
   abbrev b : Backward
   b = backwardFrom S q (length q) 1 backwardStart (cleared S) []
 
   agrees : Agrees r b
-  agrees = subst (λ (z : Quick). Agrees z b) (sym is) (quick-backward S q (ap (λ (z : Quick). z .tied) (sym is) ∙ clear))
+  agrees = subst (λ (z : Rest). Agrees z b) (sym (k .scanned)) (quick-backward S (k .window-counts) q (k .window-counted) below (ap (λ (z : Rest). z .paused) (sym (k .scanned)) ∙ clear))
 
-  pub quick-inside : 0 < length q → r .found ≤ length q
+  pub quick-inside : 0 < length q → r .sums .found ≤ length q
   quick-inside some = omega (arith, agrees .found-same, backward-scanned S q some .found-in)
 
-  pub quick-find : (j : ℕ) (o : Forward) → r .found ≡ suc j → dustForward S q j (r .best) ≡ o → o .sums .found ≡ length q → dustBackward S q ≡ record { find = at j; counts = o .counts }
+  pub quick-find : (j : ℕ) (o : Forward) → r .sums .found ≡ suc j → dustForward S q j (r .sums .best) ≡ o → o .sums .found ≡ length q → dustBackward S q ≡ record { find = at j; counts = o .counts }
   unfolding dustBackward
   quick-find j o e p f = best-tried S q r b agrees j e (ap (λ (z : Forward). z .sums .found) p ∙ f) ∙ ap (λ (z : Forward). record { find = at j; counts = z .counts }) p

@@ -5,7 +5,7 @@ use native.Mathlib.Omega.{arith}
 use mathlib.Core.Bool.{Bool, true, false, cond, not, _&&_, _||_, true≢false}
 use mathlib.Core.List.{List, [], _∷_, _++_}
 use mathlib.Core.Logic.{_⊎_, inl, inr}
-use lib.ListN.{length, getD, length-append}
+use lib.ListN.{length, getD, drop, length-append}
 use lib.Seq.{getD-append-seam}
 use lib.Dec.{T, T-not, not-T, eqb, ltb, nltb→le}
 use borrow.Author.Tests.{le-ltb, eq-eqb, ne-eqb}
@@ -14,13 +14,14 @@ use lib.Ieee.Fits.{and-i, and-l, and-r}
 use Rattle.floats.specs.Arithmetic.{_⊕_, _⊖_}
 use Rattle.floats.specs.Binary64.{zero64, tiny, nearZero}
 use Rattle.floats.proofs.Order.{lt-nle, sub-turned}
-use Rattle.letters.specs.Place.{Place, ambiguous}
-use Rattle.scans.specs.Setup.{Setup, fAt}
-use Rattle.scans.specs.Counts.{raise, cleared}
+use Rattle.letters.specs.Place.{Place, ambiguous, Below}
+use Rattle.scans.specs.Setup.{Setup, fAt, kmers}
+use Rattle.scans.specs.Counts.{raise, cleared, Counted}
 use Rattle.scans.specs.Scans.{value, Candidate, candidate, noCandidate, secondValue, BackwardSums, backwardStart, isNoted, noted, isDropped, backwardJudged, Backward, backwardFrom, withBest, none, at, dustForward, tryFrom, tried}
-use Rattle.scans.specs.Quick.{Quick, isTied, quickFrom}
+use Rattle.scans.specs.Terms.Parts.{tooLow, Rest, sumsWith, raisedAt, fallenTo, restOver, restFrom}
 use Rattle.scans.proofs.Test.{by-test, by-test-both}
-use Rattle.scans.proofs.Candidates.{first-not-noted}
+use Rattle.scans.proofs.Noting.{first-not-noted}
+use Rattle.scans.proofs.BackwardScan.{restAt, read-counted, definition-turn, none-counted}
 
 -- The last candidate of a list.
 abbrev last : List Candidate → Candidate
@@ -32,7 +33,7 @@ Top found best cs = (length cs ≡ 0) ⊎ ((found ≤ last cs .place) ⊎ (last 
 
 -- With i entries left to read: the last score is the best's, which was read last, or no fall from it is noted. The last candidate is newer than what is left.
 record Bare (i : ℕ) (a : BackwardSums) (cs : List Candidate) : Type 0 where
-  level : ((a .last ≡ a .best) × (a .found ≡ i + 1)) ⊎ ((sl : Float) → T (not (isNoted a sl)))
+  level : ((a .previous ≡ a .best) × (a .found ≡ i + 1)) ⊎ ((sl : Float) → T (not (isNoted a sl)))
   passed : (length cs ≡ 0) ⊎ (i < last cs .place)
   top : Top (a .found) (a .best) cs
 
@@ -42,15 +43,15 @@ last-snoc cs c =
     ap (λ (k : ℕ). getD (cs ++ c ∷ []) k noCandidate) n ∙ getD-append-seam cs c [] noCandidate
 
 -- A score that is no near tie is not noted as a peak later.
-apart-unnoted : (a : BackwardSums) (s sw sl : Float) → T (not (lt (a .best ⊖ sl) tiny)) → (x : Float) → T (not (isNoted (record { s = s; sw = sw; last = sl; best = a .best; found = a .found }) x))
+apart-unnoted : (a : BackwardSums) (s sw sl : Float) → T (not (lt (a .best ⊖ sl) tiny)) → (x : Float) → T (not (isNoted (record { s = s; sw = sw; previous = sl; best = a .best; found = a .found }) x))
 apart-unnoted a s sw sl h x =
     let d : Float = sl ⊖ a .best in
     not-T (lt x sl && (lt zero64 sl && nearZero d))
     (λ t. T-not (lt (a .best ⊖ sl) tiny) h
     (sub-turned binary64 sl (a .best) tiny (and-r (lt d tiny) (lt (neg tiny) d) (and-r (lt zero64 sl) (nearZero d) (and-r (lt x sl) (lt zero64 sl && nearZero d) t)))))
 
-unnoted : (a : BackwardSums) (i : ℕ) (sl : Float) → T (le (a .best) sl) → ((a .last ≡ a .best) × (a .found ≡ i + 1)) ⊎ ((x : Float) → T (not (isNoted a x))) → T (isNoted a sl) → ⊥
-unnoted a i sl h (inl p) t = lt-nle sl (a .best) (subst (λ (z : Float). T (lt sl z)) (p .0) (and-l (lt sl (a .last)) (lt zero64 (a .last) && nearZero (a .last ⊖ a .best)) t)) h
+unnoted : (a : BackwardSums) (i : ℕ) (sl : Float) → T (le (a .best) sl) → ((a .previous ≡ a .best) × (a .found ≡ i + 1)) ⊎ ((x : Float) → T (not (isNoted a x))) → T (isNoted a sl) → ⊥
+unnoted a i sl h (inl p) t = lt-nle sl (a .best) (subst (λ (z : Float). T (lt sl z)) (p .0) (and-l (lt sl (a .previous)) (lt zero64 (a .previous) && nearZero (a .previous ⊖ a .best)) t)) h
 unnoted a i sl h (inr f) t = T-not (isNoted a sl) (f sl) t
 
 module _ (i : ℕ) (cs : List Candidate) where
@@ -64,75 +65,98 @@ module _ (i : ℕ) (cs : List Candidate) where
 
 module _ (i : ℕ) (a : BackwardSums) (cs : List Candidate) (bare : Bare (suc i) a cs) (s sw sl : Float) where
   -- The score is the new best: nothing is noted.
-  raised-bare : T (le (a .best) sl) → Bare i (record { s = s; sw = sw; last = sl; best = sl; found = i + 1 }) (noted a sl i cs)
+  raised-bare : T (le (a .best) sl) → Bare i (record { s = s; sw = sw; previous = sl; best = sl; found = i + 1 }) (noted a sl i cs)
   raised-bare h =
-      by-test (λ (z : List Candidate). Bare i (record { s = s; sw = sw; last = sl; best = sl; found = i + 1 }) z) (isNoted a sl) (cs ++ candidate (i + 1) (a .best) ∷ []) cs
+      by-test (λ (z : List Candidate). Bare i (record { s = s; sw = sw; previous = sl; best = sl; found = i + 1 }) z) (isNoted a sl) (cs ++ candidate (i + 1) (a .best) ∷ []) cs
       (λ t. absurd (unnoted a (suc i) sl h (bare .level) t))
       (λ _. record { level = inl (refl, refl); passed = older i cs (bare .passed); top = newer i cs sl (bare .passed) })
 
   -- The score falls: what is noted is the best place.
-  noted-top : T (isNoted a sl) → ((a .last ≡ a .best) × (a .found ≡ suc i + 1)) ⊎ ((x : Float) → T (not (isNoted a x))) → Top (a .found) (a .best) (cs ++ candidate (i + 1) (a .best) ∷ [])
+  noted-top : T (isNoted a sl) → ((a .previous ≡ a .best) × (a .found ≡ suc i + 1)) ⊎ ((x : Float) → T (not (isNoted a x))) → Top (a .found) (a .best) (cs ++ candidate (i + 1) (a .best) ∷ [])
   noted-top t (inl p) =
       let e : i + 1 ≡ a .found - 1 = omega (arith, p .1) in
       inr (inr (last-snoc cs (candidate (i + 1) (a .best)) ∙ ap (λ (k : ℕ). candidate k (a .best)) e))
   noted-top t (inr f) = absurd (T-not (isNoted a sl) (f sl) t)
 
-  fallen-bare : T (not (lt (a .best ⊖ sl) tiny)) → Bare i (record { s = s; sw = sw; last = sl; best = a .best; found = a .found }) (noted a sl i cs)
+  fallen-bare : T (not (lt (a .best ⊖ sl) tiny)) → Bare i (record { s = s; sw = sw; previous = sl; best = a .best; found = a .found }) (noted a sl i cs)
   fallen-bare h =
       let apart = apart-unnoted a s sw sl h in
       let place : last (cs ++ candidate (i + 1) (a .best) ∷ []) .place ≡ i + 1 = ap (λ (c : Candidate). c .place) (last-snoc cs (candidate (i + 1) (a .best))) in
-      by-test (λ (z : List Candidate). Bare i (record { s = s; sw = sw; last = sl; best = a .best; found = a .found }) z) (isNoted a sl) (cs ++ candidate (i + 1) (a .best) ∷ []) cs
+      by-test (λ (z : List Candidate). Bare i (record { s = s; sw = sw; previous = sl; best = a .best; found = a .found }) z) (isNoted a sl) (cs ++ candidate (i + 1) (a .best) ∷ []) cs
       (λ t. record { level = inr apart; passed = inr (omega arith); top = noted-top t (bare .level) })
       (λ _. record { level = inr apart; passed = older i cs (bare .passed); top = bare .top })
 
-  judged-bare : T (not (isTied a sl)) → Bare i (backwardJudged a s sw sl i) (noted a sl i cs)
-  judged-bare h =
-      by-test (λ (z : BackwardSums). Bare i z (noted a sl i cs)) (le (a .best) sl) (record { s = s; sw = sw; last = sl; best = sl; found = i + 1 })
-      (record { s = s; sw = sw; last = sl; best = a .best; found = a .found })
-      raised-bare
-      (λ t. fallen-bare (not-T (lt (a .best ⊖ sl) tiny) (λ k. T-not (isTied a sl) h (and-i (not (le (a .best) sl)) (lt (a .best ⊖ sl) tiny) t k))))
-
 -- ---- The quick scan and the definition's.
-pub record Agrees (r : Quick) (b : Backward) : Type 0 where
-  pub best-same : b .best ≡ r .best
-  pub found-same : b .found ≡ r .found
+pub record Agrees (r : Rest) (b : Backward) : Type 0 where
+  pub best-same : b .best ≡ r .sums .best
+  pub found-same : b .found ≡ r .sums .found
   top : Top (b .found) (b .best) (b .candidates)
 
-module _ (S : Setup) (q : List Place) where
-  quick-agrees : (i l : ℕ) (a : BackwardSums) (counts : List ℕ) (cs : List Candidate) → Bare i a cs → quickFrom S q i l a counts .tied ≡ false → Agrees (quickFrom S q i l a counts) (backwardFrom S q i l a counts cs)
-  unfolding quickFrom backwardFrom
-  quick-agrees zero l a counts cs bare h = record { best-same = refl; found-same = refl; top = bare .top }
-  quick-agrees (suc i) l a counts cs bare h =
-      let e : Place = getD q i ambiguous in
-      let counts′ : List ℕ = raise counts e in
-      let s : Float = a .s ⊕ (value S counts e ⊖ S .score-threshold) in
-      let sl : Float = s ⊖ fAt S l in
-      let sw : Float = a .sw ⊕ (secondValue S q counts′ e ⊖ S .score-threshold) in
-      let a′ : BackwardSums = backwardJudged a s sw sl i in
-      let cs′ : List Candidate = noted a sl i cs in
-      let over : Quick = record { best = a .best; found = a .found; tied = false } in
-      let tie : Quick = record { best = a .best; found = a .found; tied = true } in
-      let fell : Quick = record { best = a′ .best; found = a′ .found; tied = false } in
-      let later : Quick = quickFrom S q i (l + 1) a′ counts′ in
-      let over₂ : Backward = record { best = a .best; found = a .found; counts = counts′; candidates = cs } in
-      let fell₂ : Backward = record { best = a′ .best; found = a′ .found; counts = counts′; candidates = cs′ } in
-      let later₂ : Backward = backwardFrom S q i (l + 1) a′ counts′ cs′ in
-      by-test-both (λ (r : Quick) (b : Backward). r .tied ≡ false → Agrees r b) (lt (sw ⊖ fAt S l) zero64)
-      over (cond (isTied a sl) tie (cond (isDropped S a sl) fell later)) over₂ (cond (isDropped S a sl) fell₂ later₂)
-      (λ _ _. record { best-same = refl; found-same = refl; top = bare .top })
-      (λ _. by-test (λ (r : Quick). r .tied ≡ false → Agrees r (cond (isDropped S a sl) fell₂ later₂)) (isTied a sl) tie (cond (isDropped S a sl) fell later)
-      (λ _ (t : true ≡ false). absurd (true≢false t))
-      (λ n. let bare′ = judged-bare i a cs bare s sw sl n in
-      by-test-both (λ (r : Quick) (b : Backward). r .tied ≡ false → Agrees r b) (isDropped S a sl) fell later fell₂ later₂
-      (λ _ _. record { best-same = refl; found-same = refl; top = bare′ .top })
-      (λ _ (t : later .tied ≡ false). quick-agrees i (l + 1) a′ counts′ cs′ bare′ t))) h
+module _ (S : Setup) (window-counts : List ℕ) (q : List Place) (window-counted : Counted (kmers S) window-counts q) (below : Below (kmers S) q) where
+  module _ (m : ℕ) (l : m < length q) (a : BackwardSums) (counts : List ℕ) (c : Counted (kmers S) counts (drop (suc m) q)) (cs : List Candidate) (bare : Bare (suc m) a cs) (higher later : Rest) where
+    abbrev e : Place
+    e = getD q m ambiguous
+
+    abbrev raised : List ℕ
+    raised = raise counts e
+
+    abbrev b : BackwardSums
+    b = sumsWith S window-counts raised e a
+
+    abbrev fl : Float
+    fl = fAt S (length q - m)
+
+    abbrev sl : Float
+    sl = b .s ⊖ fl
+
+    abbrev scanFrom : BackwardSums → Backward
+    scanFrom x = backwardFrom S q m (length q + 1 - m) x raised (noted b sl m cs)
+
+    abbrev rest : Bool → Bool → Bool → Bool → Rest
+    rest t₁ t₂ p d =
+        cond t₁ (record { sums = b; low = m; paused = false; done = true; counts = raised })
+        (cond t₂ higher (cond (p || d) (record { sums = fallenTo b sl; low = m; paused = p; done = d; counts = raised }) later))
+
+    cases : (t₁ t₂ p d : Bool) → le (a .best) sl ≡ t₂ → lt (a .best ⊖ sl) tiny ≡ p
+        → (Bare m (raisedAt b sl m) (noted b sl m cs) → higher .paused ≡ false → Agrees higher (scanFrom (raisedAt b sl m)))
+        → (Bare m (fallenTo b sl) (noted b sl m cs) → later .paused ≡ false → Agrees later (scanFrom (fallenTo b sl))) → rest t₁ t₂ p d .paused ≡ false
+        → Agrees (rest t₁ t₂ p d)
+        (cond t₁ (record { best = a .best; found = a .found; counts = raised; candidates = cs })
+        (cond (not t₂ && d)
+        (record { best = cond t₂ (raisedAt b sl m) (fallenTo b sl) .best; found = cond t₂ (raisedAt b sl m) (fallenTo b sl) .found; counts = raised; candidates = noted b sl m cs })
+        (scanFrom (cond t₂ (raisedAt b sl m) (fallenTo b sl)))))
+    cases true t₂ p d h n up down u = record { best-same = refl; found-same = refl; top = bare .top }
+    cases false true p d h n up down u = up (raised-bare m a cs bare (b .s) (b .sw) sl (subst T (sym h) tt)) u
+    cases false false true d h n up down u = absurd (true≢false u)
+    cases false false false true h n up down u =
+        record { best-same = refl; found-same = refl; top = fallen-bare m a cs bare (b .s) (b .sw) sl (subst (λ (z : Bool). T (not z)) (sym n) tt) .top }
+    cases false false false false h n up down u = down (fallen-bare m a cs bare (b .s) (b .sw) sl (subst (λ (z : Bool). T (not z)) (sym n) tt)) u
+
+  quick-agrees : (i : ℕ) → i ≤ length q → (a : BackwardSums) (counts : List ℕ) → Counted (kmers S) counts (drop i q) → (cs : List Candidate) → Bare i a cs
+      → restFrom S window-counts true q i a counts .paused ≡ false → Agrees (restFrom S window-counts true q i a counts) (backwardFrom S q i (length q + 1 - i) a counts cs)
+  unfolding restOver backwardFrom
+  quick-agrees zero l a counts c cs bare h = record { best-same = refl; found-same = refl; top = bare .top }
+  quick-agrees (suc m) l a counts c cs bare h =
+      let n : m < length q = omega arith in
+      let z : m + 0 ≡ m = omega arith in
+      let c′ = read-counted (kmers S) q m counts below n c in
+      let x : BackwardSums = b m n a counts c cs bare (restAt a 0 counts) (restAt a 0 counts) in
+      let y : Float = sl m n a counts c cs bare (restAt a 0 counts) (restAt a 0 counts) in
+      let raised′ : List ℕ = raise counts (getD q m ambiguous) in
+      subst (λ (o : Backward). Agrees (restFrom S window-counts true q (suc m) a counts) o) (sym (definition-turn S window-counts q window-counted below m n a counts c cs))
+      (rw z
+      (cases m n a counts c cs bare (restFrom S window-counts true q m (raisedAt x y m) raised′) (restFrom S window-counts true q m (fallenTo x y) raised′) (lt (x .sw ⊖ fAt S (length q - m)) zero64) (le (a .best) y)
+      (lt (a .best ⊖ y) tiny) (tooLow (S .drop-limit) x y) refl refl (λ g u. quick-agrees m (omega arith) (raisedAt x y m) raised′ c′ (noted x y m cs) g u)
+      (λ g u. quick-agrees m (omega arith) (fallenTo x y) raised′ c′ (noted x y m cs) g u) (rw z at h)))
 
   -- A scan from the newest entry on, and a list in which the last candidate is the best place.
-  pub quick-backward : quickFrom S q (length q) 1 backwardStart (cleared S) .tied ≡ false
-      → Agrees (quickFrom S q (length q) 1 backwardStart (cleared S)) (backwardFrom S q (length q) 1 backwardStart (cleared S) [])
+  pub quick-backward : restFrom S window-counts true q (length q) backwardStart (cleared S) .paused ≡ false
+      → Agrees (restFrom S window-counts true q (length q) backwardStart (cleared S)) (backwardFrom S q (length q) 1 backwardStart (cleared S) [])
   quick-backward h =
-      quick-agrees (length q) 1 backwardStart (cleared S) []
-      (record { level = inr (λ sl. subst (λ (t : Bool). T (not t)) (sym (first-not-noted sl)) tt); passed = inl refl; top = inl refl }) h
+      let one : length q + 1 - length q ≡ 1 = omega arith in
+      subst (λ (l : ℕ). Agrees (restFrom S window-counts true q (length q) backwardStart (cleared S)) (backwardFrom S q (length q) l backwardStart (cleared S) [])) one
+      (quick-agrees (length q) (omega arith) backwardStart (cleared S) (none-counted (kmers S) q (cleared S) refl) []
+      (record { level = inr (λ x. subst (λ (t : Bool). T (not t)) (sym (first-not-noted x)) tt); passed = inl refl; top = inl refl }) h)
 
 neither : (a b : Bool) → T (not (a || b)) → T (not a) × T (not b)
 neither false false h = (tt, tt)
@@ -173,9 +197,9 @@ first-tried S q cs n j m counts e h =
     let y : eqb (dustForward S q j m .sums .found) (length q) ≡ true = eq-eqb (dustForward S q j m .sums .found) (length q) h in
     rw (e, z, y)
 
-module _ (S : Setup) (q : List Place) (r : Quick) (b : Backward) (g : Agrees r b) where
+module _ (S : Setup) (q : List Place) (r : Rest) (b : Backward) (g : Agrees r b) where
   -- The best place, at index j, is tried first.
-  pub best-tried : (j : ℕ) → r .found ≡ suc j → dustForward S q j (r .best) .sums .found ≡ length q → tried S q b ≡ record { find = at j; counts = dustForward S q j (r .best) .counts }
+  pub best-tried : (j : ℕ) → r .sums .found ≡ suc j → dustForward S q j (r .sums .best) .sums .found ≡ length q → tried S q b ≡ record { find = at j; counts = dustForward S q j (r .sums .best) .counts }
   unfolding tried
   best-tried j e h =
       let cs : List Candidate = withBest (b .best) (b .found) (b .candidates) in
@@ -186,4 +210,4 @@ module _ (S : Setup) (q : List Place) (r : Quick) (b : Backward) (g : Agrees r b
       let long : length cs ≡ suc (length cs - 1) = omega (arith, ends .0) in
       ap (λ (t : Bool). cond t (record { find = none; counts = b .counts }) (tryFrom S q cs (length cs) 0 (b .counts))) z
       ∙ ap (λ (n : ℕ). tryFrom S q cs n 0 (b .counts)) long
-      ∙ first-tried S q cs (length cs - 1) j (r .best) (b .counts) (ends .1 ∙ rw (p, g .best-same)) h
+      ∙ first-tried S q cs (length cs - 1) j (r .sums .best) (b .counts) (ends .1 ∙ rw (p, g .best-same)) h

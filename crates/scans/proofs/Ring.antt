@@ -14,7 +14,7 @@ use borrow.Author.Tests.{ltb-true, ltb-false}
 use Rattle.letters.specs.Place.{ambiguous}
 use Rattle.letters.specs.Entry.{decode, decoded}
 use Rattle.letters.proofs.Entries.{decoded-length, decoded-at}
-use Rattle.scans.specs.Window.{queue, ringIndex, At, window}
+use Rattle.scans.specs.Terms.Window.{queue, ringIndex, At, window}
 
 at-by : (w head j : ℕ) (b : Bool) → ltb (head + j) w ≡ b → head < w → j ≤ w → At w head j (cond b (head + j) (head + j - w))
 at-by w head j true e h k = (ltb-true _ _ e, inl refl)

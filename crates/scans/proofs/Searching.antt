@@ -9,28 +9,28 @@ use lib.ListN.{length, getD, set, length-append}
 use lib.Seq.{getD-at}
 use lib.Dec.{eqb, ltb}
 use borrow.Author.Tests.{eqb-true, eqb-false}
-use Rattle.letters.specs.Place.{Place}
+use Rattle.letters.specs.Place.{Place, Below}
 use Rattle.scans.specs.declared.ForwardPosition.{ForwardPosition}
-use Rattle.scans.specs.declared.BackwardState.{BackwardState}
-use Rattle.scans.specs.declared.Search.{Search}
+use Rattle.scans.specs.declared.backward.BackwardState.{BackwardState}
+use Rattle.scans.specs.declared.candidates.Search.{Search}
 use Rattle.scans.specs.Setup.{Setup, kmers}
-use Rattle.scans.specs.Counts.{cleared}
+use Rattle.scans.specs.Counts.{cleared, Counted}
 use Rattle.scans.specs.Scans.{Candidate, candidate, noCandidate, BackwardSums, backwardStart, Backward, backwardFrom, withBest}
-use Rattle.scans.specs.Parts.{backwardOf, withPeak, resumed, BackwardPart}
-use Rattle.scans.specs.Search.{candidateOf, candidatesIn, FreshSearch, notingAt, restingAt, goneOn, finishedOf, toTry, withFresh, sought, Noted, Searches, NextCandidate, ScansBackward}
+use Rattle.scans.specs.Terms.Parts.{backwardOf, restOf, GoesOn}
+use Rattle.scans.specs.Terms.Search.{candidateOf, candidatesIn, FreshSearch, notingAt, restingAt, goneOn, finishedOf, toTry, withFresh, resumed, sought, Noted, Searches, NextCandidate, ScansBackward}
 use Rattle.scans.proofs.Test.{by-test, neither}
-use Rattle.scans.proofs.Candidates.{AllBelow, backward-scanned, candidates-fit}
+use Rattle.scans.proofs.Noting.{AllBelow, backward-scanned, candidates-fit}
 use Rattle.scans.proofs.Slices.{candidates-length, candidates-push}
-use Rattle.scans.proofs.BackwardScan.{backs-start}
+use Rattle.scans.proofs.BackwardScan.{withPeak, backs-start, backward-goes}
 
 no-entries : (l : List Candidate) → length l ≡ 0 → l ≡ []
 no-entries [] e = refl
 no-entries (c ∷ l) e = absurd (let b : ⊥ = omega arith in b)
 
-pub gone-peaked : (a : Search) (scan : BackwardState) → scan .peak ≡ true → goneOn a scan ≡ notingAt (restingAt a scan (a .on)) (scan .low + 2)
+pub gone-peaked : (a : Search) (scan : BackwardState) → scan .paused ≡ true → goneOn a scan ≡ notingAt (restingAt a scan (a .on)) (scan .low + 2)
 gone-peaked a scan t = ap (λ (b : Bool). cond b (notingAt (restingAt a scan (a .on)) (scan .low + 2)) (restingAt a scan (a .on))) t
 
-pub gone-level : (a : Search) (scan : BackwardState) → scan .peak ≡ false → goneOn a scan ≡ restingAt a scan (a .on)
+pub gone-level : (a : Search) (scan : BackwardState) → scan .paused ≡ false → goneOn a scan ≡ restingAt a scan (a .on)
 gone-level a scan t = ap (λ (b : Bool). cond b (notingAt (restingAt a scan (a .on)) (scan .low + 2)) (restingAt a scan (a .on))) t
 
 -- ---- The candidates that a search has noted.
@@ -123,12 +123,13 @@ module _ (S : Setup) (q : List Place) (a : Search) (counts : List ℕ) (c : Sear
             }
 
   -- The scan goes on.
-  module _ (e : a .scan .done || eqb (a .scan .low) 0 ≡ false) (scan : BackwardState) (counts′ : List ℕ) (k : BackwardPart S q (a .scan) scan counts counts′) where
+  module _ (e : a .scan .done || eqb (a .scan .low) 0 ≡ false) (scan : BackwardState) (counts′ : List ℕ) {window-counts : List ℕ} (window-counted : Counted (kmers S) window-counts q)
+      (below : Below (kmers S) q) (k : GoesOn S window-counts false q (restOf (a .scan) counts) (restOf scan counts′)) where
     going : a .scan .done ≡ false
     going = neither (a .scan .done) (eqb (a .scan .low) 0) e .0
 
-    scanned : (cs : List Candidate) → sought S q a counts cs ≡ toTry (resumed S q scan counts′ (withPeak scan cs))
-    scanned cs = begun cs ∙ rw going (ap toTry (k .scanned cs))
+    scanned : (cs : List Candidate) → sought S q a counts cs ≡ toTry (resumed S q scan counts′ (withPeak (restOf scan counts′) cs))
+    scanned cs = begun cs ∙ rw going (ap toTry (backward-goes S window-counts q window-counted below (restOf (a .scan) counts) (restOf scan counts′) k (c .scan) cs))
 
     fewer : (d o : Bool) → o ≡ true → cond o (cond d 1 (scan .low + 2)) 0 < cond (a .on) (cond (a .scan .done) 1 (a .scan .low + 2)) 0
     fewer d false h = absurd (true≢false (sym h))
@@ -139,9 +140,9 @@ module _ (S : Setup) (q : List Place) (a : Search) (counts : List ℕ) (c : Sear
     on-at = restingAt a scan (a .on)
 
     pub next-on : (b : Search) → b ≡ goneOn a scan → NextCandidate S q a b counts counts′
-    next-on b z = rw z (go (scan .peak) refl)
+    next-on b z = rw z (go (scan .paused) refl)
       where
-        go : (t : Bool) → scan .peak ≡ t → NextCandidate S q a (cond t (notingAt on-at (scan .low + 2)) on-at) counts counts′
+        go : (t : Bool) → scan .paused ≡ t → NextCandidate S q a (cond t (notingAt on-at (scan .low + 2)) on-at) counts counts′
         go true p =
             let one : scan .low + 2 - 1 ≡ scan .low + 1 = omega arith in
             record {
@@ -152,7 +153,7 @@ module _ (S : Setup) (q : List Place) (a : Search) (counts : List ℕ) (c : Sear
                 on = c .on;
                 scan = k .here;
                 few = omega (arith, c .few, k .less);
-                none = λ f. absurd (k .peaked p f);
+                none = λ f. absurd (k .peaked refl p f);
               };
               clear = λ f. absurd (true≢false (sym (c .on) ∙ f));
             }
@@ -203,7 +204,7 @@ module _ (S : Setup) (q : List Place) (counts₀ : List ℕ) (records₀ : List 
         };
         clear = λ e. absurd (true≢false (sym (f .on) ∙ e));
         noted = record { many = candidates-length (a .noted) records₀; last-is = λ s. absurd (let n : ⊥ = omega (arith, f .none-noted) in n) };
-        rest = rw (f .on, f .scan .going .0, low, one, f .scan .sums-are, clear, f .none-noted);
+        rest = rw (f .on, f .scan .going .1, low, one, f .scan .sums-are, clear, f .none-noted);
       }
 
   module _ (a : Search) (counts : List ℕ) (records : List ForwardPosition) (c : Seeking S q counts₀ records₀ a counts records) where

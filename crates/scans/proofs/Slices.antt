@@ -10,7 +10,7 @@ use lib.ListN.{length, getD, set, length-append, List·getD-append}
 use lib.Seq.{getD-at, getD-set-same, getD-set-other}
 use Rattle.scans.specs.declared.ForwardPosition.{ForwardPosition}
 use Rattle.scans.specs.Scans.{Candidate, noCandidate}
-use Rattle.scans.specs.Search.{candidateOf, noPosition, candidatesIn}
+use Rattle.scans.specs.Terms.Search.{candidateOf, noPosition, candidatesIn}
 
 pub candidates-length : (n : ℕ) (records : List ForwardPosition) → length (candidatesIn n records) ≡ n
 unfolding candidatesIn

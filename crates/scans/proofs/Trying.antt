@@ -2,7 +2,7 @@
 use mathlib.Core.Path.{_≡_, refl, sym, ap, _∙_, subst}
 use mathlib.Core.Bool.{true, false, cond}
 use mathlib.Core.List.{List}
-use Prim.Native.Nat.{ℕ, suc, _+_, _-_, _<_, _≤_}
+use Prim.Native.Nat.{ℕ, suc, _+_, _-_, _<_, _≤_, max}
 use native.Mathlib.Numerals.{add-one}
 use native.Mathlib.Omega.{arith}
 use lib.ListN.{length, getD, drop}
@@ -10,16 +10,16 @@ use lib.Dec.{eqb}
 use lib.Ieee.{Float}
 use borrow.Author.Tests.{lt-ltb, le-ltb, eq-eqb, ne-eqb}
 use Rattle.letters.specs.Place.{Place}
-use Rattle.scans.specs.declared.ForwardState.{ForwardState}
+use Rattle.scans.specs.declared.forward.ForwardState.{ForwardState}
 use Rattle.scans.specs.declared.ForwardPosition.{ForwardPosition}
 use Rattle.scans.specs.declared.Scanned.{Scanned}
-use Rattle.scans.specs.declared.Trial.{Trial}
+use Rattle.scans.specs.declared.candidates.Trial.{Trial}
 use Rattle.scans.specs.Setup.{Setup}
 use Rattle.scans.specs.Counts.{cleared}
-use Rattle.scans.specs.Scans.{none, at, Outcome, ForwardSums, Candidate, noCandidate, larger, dustForward, tryFrom}
-use Rattle.scans.specs.Parts.{Finds}
-use Rattle.scans.specs.Search.{candidateOf, FreshTrial, Leads, NextTrial}
-use Rattle.scans.specs.Carry.{Carried, Touched, Answers}
+use Rattle.scans.specs.Scans.{none, at, Outcome, ForwardSums, Candidate, noCandidate, dustForward, tryFrom}
+use Rattle.scans.specs.Terms.Parts.{Finds}
+use Rattle.scans.specs.Terms.Search.{candidateOf, FreshTrial, Leads, NextTrial}
+use Rattle.scans.specs.Terms.Carry.{Carried, Touched, Answers}
 use Rattle.scans.proofs.Touched.{dust-forward-touched}
 use Rattle.scans.proofs.CarriedScan.{found-carried}
 
@@ -80,7 +80,7 @@ module _ (S : Setup) (q : List Place) where
 
       tried-here : (cs : List Candidate) (o : Outcome) → getD cs (a .left - 1) noCandidate ≡ candidateOf c → Leads S q cs o a counts → o
           ≡ cond (eqb (st .found) (length q)) (record { find = at place; counts = counts′ })
-          (cond (S .approx) (record { find = none; counts = counts′ }) (tryFrom S q cs (a .left - 1) (larger (a .furthest) (st .found)) counts′))
+          (cond (S .approx) (record { find = none; counts = counts′ }) (tryFrom S q cs (a .left - 1) (max (a .furthest) (st .found)) counts′))
       unfolding tryFrom
       tried-here cs o here l = next cs o l ∙ rw (here, le-ltb (place + 1) (a .furthest) h, ← found-is, ← k .counts-are)
 
@@ -122,7 +122,7 @@ module _ (S : Setup) (q : List Place) where
               };
             })
 
-        pub trial-on : S .approx ≡ false → (f : ℕ) → f ≡ larger (a .furthest) (st .found) → (b : Trial) → b ≡ record { left = a .left - 1; furthest = f; scanned = a .scanned } → NextTrial S q c a b counts counts″
+        pub trial-on : S .approx ≡ false → (f : ℕ) → f ≡ max (a .furthest) (st .found) → (b : Trial) → b ≡ record { left = a .left - 1; furthest = f; scanned = a .scanned } → NextTrial S q c a b counts counts″
         trial-on x f p b z =
             rw z
             (record {

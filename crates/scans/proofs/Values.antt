@@ -14,12 +14,12 @@ use Rattle.floats.specs.Binary64.{zero64}
 use Rattle.letters.specs.Place.{Place, ambiguous, plain, BelowAt, Below}
 use Rattle.letters.specs.Entry.{decode, decoded}
 use Rattle.letters.proofs.Entries.{decode-plain, decode-ambiguous}
-use Rattle.scans.specs.declared.BackwardState.{BackwardState}
+use Rattle.scans.specs.declared.backward.BackwardState.{BackwardState}
 use Rattle.scans.specs.Setup.{Setup}
 use Rattle.scans.specs.Counts.{count, raise}
 use Rattle.scans.specs.Scans.{windowValue, value}
-use Rattle.scans.specs.Window.{countedValue}
-use Rattle.scans.specs.Parts.{withSums, AddsEntry}
+use Rattle.scans.specs.Terms.Window.{countedValue}
+use Rattle.scans.specs.Terms.Parts.{withSums, AddsEntry}
 
 pub even : (e : ℕ) → bitAnd e 1 ≡ 0 → e % 2 ≡ 0
 even e h = rw (and-mask e 1) at h

@@ -7,7 +7,7 @@ use lib.ListN.{length, getD}
 use Rattle.letters.specs.Place.{Place, ambiguous}
 use Rattle.letters.specs.Entry.{decode}
 use Rattle.scans.specs.declared.Params.{Params}
-use Rattle.scans.specs.Window.{At, queue, window, Windowed}
+use Rattle.scans.specs.Terms.Window.{At, queue, window, Windowed}
 use Rattle.scans.proofs.Counting.{count-le}
 use Rattle.scans.proofs.Ring.{queue-at, window-at, window-length}
 

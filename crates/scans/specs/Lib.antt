@@ -3,8 +3,4 @@ pub mod Counts
 pub mod Scans
 pub mod Score
 pub mod Judged
-pub mod Window
-pub mod Parts
-pub mod Carry
-pub mod Quick
-pub mod Search
+pub mod Terms

@@ -1,6 +1,6 @@
 -- The paper, 'Step and scans': extend, the back check and the two scans, float operation by float operation.
 -- The window `q` is the list of its places, the oldest first. A scan's counts are part of its answer, since an extension reads them.
-use Prim.Native.Nat.{ℕ, zero, suc, _+_, _-_, min}
+use Prim.Native.Nat.{ℕ, zero, suc, _+_, _-_, min, max}
 use mathlib.Core.List.{List, [], _∷_, _++_}
 use mathlib.Core.Bool.{Bool, true, false, cond, not, _&&_, _||_}
 use lib.ListN.{length, getD, drop}
@@ -102,21 +102,21 @@ abbrev pub secondValue : Setup → List Place → List ℕ → Place → Float
 secondValue S q raised ambiguous = zero64
 secondValue S q raised (plain x) = lnAt S (count x q - getD raised x 0 + 1)
 
--- The two sums, the last score, the best score, and one past its index (0: none).
+-- The two sums, the score before, the best score, and one past its index (0: none).
 pub record BackwardSums : Type 0 where
   pub s : Float
   pub sw : Float
-  pub last : Float
+  pub previous : Float
   pub best : Float
   pub found : ℕ
 
--- The last score is -1.0 at first.
+-- The score before the first is -1.0.
 abbrev pub backwardStart : BackwardSums
-backwardStart = record { s = zero64; sw = zero64; last = neg (ofBits binary64 0x3ff0_0000_0000_0000); best = zero64; found = 0 }
+backwardStart = record { s = zero64; sw = zero64; previous = neg (ofBits binary64 0x3ff0_0000_0000_0000); best = zero64; found = 0 }
 
 -- The score falls from a peak above 0 and within 1e-9 of the best, which is the best before this place is judged.
 abbrev pub isNoted : BackwardSums → Float → Bool
-isNoted a sl = lt sl (a .last) && (lt zero64 (a .last) && nearZero (a .last ⊖ a .best))
+isNoted a sl = lt sl (a .previous) && (lt zero64 (a .previous) && nearZero (a .previous ⊖ a .best))
 
 -- The scan comes from the newer side: the peak of a fall at index i stands at i + 1, and that is noted, with the best score so far.
 abbrev pub noted : BackwardSums → Float → ℕ → List Candidate → List Candidate
@@ -129,7 +129,7 @@ isDropped S a sl = not (le (a .best) sl) && (not (eqb (a .found) 0) && lt (S .dr
 -- An equal score is the new best.
 abbrev pub backwardJudged : BackwardSums → Float → Float → Float → ℕ → BackwardSums
 backwardJudged a s sw sl i =
-    cond (le (a .best) sl) (record { s = s; sw = sw; last = sl; best = sl; found = i + 1 }) (record { s = s; sw = sw; last = sl; best = a .best; found = a .found })
+    cond (le (a .best) sl) (record { s = s; sw = sw; previous = sl; best = sl; found = i + 1 }) (record { s = s; sw = sw; previous = sl; best = a .best; found = a .found })
 
 -- The best score, one past its index (0: none), the scan counts, and the candidates in the order noted.
 pub record Backward : Type 0 where
@@ -164,16 +164,13 @@ withBest best found cs =
 
 -- ---- Candidates are tried oldest first, which is the last noted first; i of them are left.
 -- `furthest` is one past the furthest forward best so far: an older candidate is skipped.
-abbrev pub larger : ℕ → ℕ → ℕ
-larger a b = cond (ltb a b) b a
-
 unfoldable pub tryFrom : Setup → List Place → List Candidate → ℕ → ℕ → List ℕ → Outcome
 tryFrom S q cs zero furthest counts = record { find = none; counts = counts }
 tryFrom S q cs (suc i) furthest counts =
     let c : Candidate = getD cs i noCandidate in
     let r : Forward = dustForward S q (c .place) (c .score) in
     let skipped : Outcome = tryFrom S q cs i furthest counts in
-    let later : Outcome = tryFrom S q cs i (larger furthest (r .sums .found)) (r .counts) in
+    let later : Outcome = tryFrom S q cs i (max furthest (r .sums .found)) (r .counts) in
     cond (ltb (c .place + 1) furthest) skipped
     (cond (eqb (r .sums .found) (length q)) (record { find = at (c .place); counts = r .counts })
     (cond (S .approx) (record { find = none; counts = r .counts }) later))

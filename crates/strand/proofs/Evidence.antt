@@ -30,7 +30,7 @@ use Rattle.scans.proofs.Evidence.{evidence}
 use Rattle.scans.proofs.ForwardScore.{forward-inside, forward-find}
 use Rattle.strand.specs.Step.{Run, begin, sumWithout, withoutOldest, leave, join, search, st2, startAfter, whole, saveFrom, savedAfter, foundBy, found, look, step, runFrom, run, intervalsOfPlaces}
 use Rattle.strand.proofs.Finds.{search-facts}
-use Rattle.strand.specs.Running.{Shaped}
+use Rattle.strand.specs.Terms.Running.{Shaped}
 use Rattle.strand.proofs.Shape.{ShapedAt, st2-is, begin-shaped, leave-shaped, join-shaped, join-some, step-shaped}
 use Rattle.strand.proofs.WindowSum.{leave-near, join-near, window-above}
 use Rattle.strand.proofs.Placing.{Placed, placed-room, placed-leave, placed-join, placed-below, placed-lengths, placed-stretch}

@@ -14,20 +14,20 @@ use borrow.Author.Tests.{ltb-true}
 use Rattle.intervals.specs.Interval.{Interval}
 use Rattle.intervals.specs.Save.{save}
 use Rattle.scans.specs.Scans.{at}
-use Rattle.scans.specs.Window.{findOf}
+use Rattle.scans.specs.Terms.Window.{findOf}
 use Rattle.strand.specs.Step.{st2, startAfter, saveFrom, savedAfter}
 use Rattle.strand.specs.declared.Window.{Window}
 use Rattle.strand.specs.declared.Open.{Open}
-use Rattle.strand.specs.Held.{lastBy, Closing, Found}
+use Rattle.strand.specs.Terms.Finding.{lastQBy, Closing, Found}
 
 -- ---- A number as a find.
 find-at : (r : ℕ) → (r ≡ 0 → ⊥) → findOf r ≡ at (r - 1)
 find-at zero h = absurd (h refl)
 find-at (suc j) h = ap at (let e : j ≡ suc j - 1 = omega arith in e)
 
-pub last-found : (w : Window) (r : ℕ) {l : ℤ} → (r ≡ 0 → ⊥) → l ≡ pos (r - 1)
-    → record { sum = w .sum; last = l; head = w .head; len = w .len; live = w .live; carry = w .carry } ≡ lastBy w (findOf r)
-last-found w r h e = rw (find-at r h, e)
+pub last-q-found : (w : Window) (r : ℕ) {l : ℤ} → (r ≡ 0 → ⊥) → l ≡ pos (r - 1)
+    → record { sum = w .sum; «last_q» = l; head = w .head; len = w .len; live = w .live; carry = w .carry } ≡ lastQBy w (findOf r)
+last-q-found w r h e = rw (find-at r h, e)
 
 -- ---- The interval in hand is saved.
 pub close-none : (start end : ℤ) (saved : List Interval) → ltZ start (pos 0) ≡ true → saved ≡ saveFrom saved start end

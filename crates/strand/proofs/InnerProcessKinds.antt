@@ -18,7 +18,7 @@ use mathlib.Core.List
 use mathlib.Core.Path as Path'
 use mir.Syntax
 
-abbrev pub ps : List.List (Kinds.PK 9)
+abbrev pub ps : List.List (Kinds.PK 8)
 ps = List._∷_ (Value.pVal record {
   ty = Declared.row Params.the-type;
   one = Path'.refl;
@@ -50,8 +50,8 @@ ps = List._∷_ (Value.pVal record {
     (List._∷_
     (MutSlice.pMutS (Rec·type.the-row) 6 tt)
     (List._∷_
-    (MutSlice.pMutS (Referent.rtF (Referent.fInt Syntax.w32)) 7 tt)
-    (List._∷_ (MutSlice.pMutS (Referent.rtF (Referent.fInt Syntax.w32)) 8 tt) List.[])))))))))
+    (MutSlice.pMutS (Array.Array (Referent.rtF (Referent.fInt Syntax.w32)) 2) 7 tt)
+    List.[]))))))))
 
-abbrev pub r : Kinds.RK 9
+abbrev pub r : Kinds.RK 8
 r = Kinds.rNum Syntax.w64

@@ -16,19 +16,19 @@ use mathlib.Core.Path as Path'
 abbrev pub Ghost : Type 0
 Ghost = Unit {0}
 
-module _ (κs : Lifetimes.Lfts 9) where
+module _ (κs : Lifetimes.Lfts 8) where
   abbrev pub Pinned : (a : World.ArgsD inner_process.signature κs) → (w : World.World) → Type 1
   Pinned = Learn.no-pin inner_process.signature κs
 
   abbrev pub Owned :
       (r : World.ResD inner_process.signature κs) →
-      (s : Clauses.AtExit (Kinds'.endedOf 9 Kinds.ps Kinds.r) κs) →
+      (s : Clauses.AtExit (Kinds'.endedOf 8 Kinds.ps Kinds.r) κs) →
       (w : World.World) →
       Type 1
-  Owned = Learn.no-own (Kinds'.endedOf 9 Kinds.ps Kinds.r) κs
+  Owned = Learn.no-own (Kinds'.endedOf 8 Kinds.ps Kinds.r) κs
 
   abbrev pub Base : (a : World.ArgsD inner_process.signature κs) → (w : World.World) → World.Pr w
-  Base = Written.Base 9 Kinds.ps Kinds.r (λ κs. Pinned) κs
+  Base = Written.Base 8 Kinds.ps Kinds.r (λ κs. Pinned) κs
 
   abbrev pub pins : (w : World.World) → Learn.PinOf inner_process.signature κs w λ a. Pinned a w
   pins = λ w. Learn.no-pins inner_process.signature κs w
@@ -36,7 +36,7 @@ module _ (κs : Lifetimes.Lfts 9) where
   abbrev pub owns :
       (w : World.World) →
       Learn.OwnOf
-      (Kinds'.endedOf 9 Kinds.ps Kinds.r)
+      (Kinds'.endedOf 8 Kinds.ps Kinds.r)
       (Kinds'.stays Kinds.ps)
       κs
       w
@@ -44,7 +44,7 @@ module _ (κs : Lifetimes.Lfts 9) where
       r
       s
       w
-  owns = λ w. Learn.no-owns (Kinds'.endedOf 9 Kinds.ps Kinds.r) (Kinds'.stays Kinds.ps) κs w
+  owns = λ w. Learn.no-owns (Kinds'.endedOf 8 Kinds.ps Kinds.r) (Kinds'.stays Kinds.ps) κs w
 
   abbrev pub requires :
       (a : World.ArgsD inner_process.signature κs) → (g : Ghost) → (w : World.World) → World.Pr w
@@ -63,7 +63,7 @@ module _ (κs : Lifetimes.Lfts 9) where
       (a : World.ArgsD inner_process.signature κs) →
       (g : Ghost) →
       (r : World.ResD inner_process.signature κs) →
-      (s : Clauses.AtExit (Kinds'.endedOf 9 Kinds.ps Kinds.r) κs) →
+      (s : Clauses.AtExit (Kinds'.endedOf 8 Kinds.ps Kinds.r) κs) →
       (w : World.World) →
       World.Pr w
   ensures =
@@ -101,7 +101,6 @@ module _ (κs : Lifetimes.Lfts 9) where
       (a .1 .1 .1 .1 .1 .1 .0)
       (a .1 .1 .1 .1 .1 .1 .1 .0)
       (a .1 .1 .1 .1 .1 .1 .1 .1 .0)
-      (a .1 .1 .1 .1 .1 .1 .1 .1 .1 .0)
   requires-1·read =
       λ a g. Read.all-models
       (λ w. inner_process.requires-1
@@ -119,8 +118,7 @@ module _ (κs : Lifetimes.Lfts 9) where
       (a .1 .1 .1 .1 .1 .0)
       (a .1 .1 .1 .1 .1 .1 .0)
       (a .1 .1 .1 .1 .1 .1 .1 .0)
-      (a .1 .1 .1 .1 .1 .1 .1 .1 .0)
-      (a .1 .1 .1 .1 .1 .1 .1 .1 .1 .0))
+      (a .1 .1 .1 .1 .1 .1 .1 .1 .0))
       (λ w. Read.r-last _)
       (λ w. Path'.refl)
       (λ w. Path'.refl)
@@ -136,7 +134,7 @@ module _ (κs : Lifetimes.Lfts 9) where
       (a : World.ArgsD inner_process.signature κs) →
       (g : Ghost) →
       (r : World.ResD inner_process.signature κs) →
-      (s : Clauses.AtExit (Kinds'.endedOf 9 Kinds.ps Kinds.r) κs) →
+      (s : Clauses.AtExit (Kinds'.endedOf 8 Kinds.ps Kinds.r) κs) →
       Read.Read
       (Base a)
       (Owned r s)
@@ -156,7 +154,6 @@ module _ (κs : Lifetimes.Lfts 9) where
       (a .1 .1 .1 .1 .1 .1 .0)
       (a .1 .1 .1 .1 .1 .1 .1 .0)
       (a .1 .1 .1 .1 .1 .1 .1 .1 .0)
-      (a .1 .1 .1 .1 .1 .1 .1 .1 .1 .0)
       record { entry = a .0; exit = s .0 }
       record { entry = a .1 .0; exit = s .1 .0 }
       record { entry = a .1 .1 .0; exit = s .1 .1 .0 }
@@ -166,7 +163,6 @@ module _ (κs : Lifetimes.Lfts 9) where
       record { entry = a .1 .1 .1 .1 .1 .1 .0; exit = s .1 .1 .1 .1 .1 .1 .0 }
       record { entry = a .1 .1 .1 .1 .1 .1 .1 .0; exit = s .1 .1 .1 .1 .1 .1 .1 .0 }
       record { entry = a .1 .1 .1 .1 .1 .1 .1 .1 .0; exit = s .1 .1 .1 .1 .1 .1 .1 .1 .0 }
-      record { entry = a .1 .1 .1 .1 .1 .1 .1 .1 .1 .0; exit = s .1 .1 .1 .1 .1 .1 .1 .1 .1 .0 }
       r
   ensures-1·read =
       λ a g r s. Read.all-models
@@ -186,7 +182,6 @@ module _ (κs : Lifetimes.Lfts 9) where
       (a .1 .1 .1 .1 .1 .1 .0)
       (a .1 .1 .1 .1 .1 .1 .1 .0)
       (a .1 .1 .1 .1 .1 .1 .1 .1 .0)
-      (a .1 .1 .1 .1 .1 .1 .1 .1 .1 .0)
       record { entry = a .0; exit = s .0 }
       record { entry = a .1 .0; exit = s .1 .0 }
       record { entry = a .1 .1 .0; exit = s .1 .1 .0 }
@@ -196,7 +191,6 @@ module _ (κs : Lifetimes.Lfts 9) where
       record { entry = a .1 .1 .1 .1 .1 .1 .0; exit = s .1 .1 .1 .1 .1 .1 .0 }
       record { entry = a .1 .1 .1 .1 .1 .1 .1 .0; exit = s .1 .1 .1 .1 .1 .1 .1 .0 }
       record { entry = a .1 .1 .1 .1 .1 .1 .1 .1 .0; exit = s .1 .1 .1 .1 .1 .1 .1 .1 .0 }
-      record { entry = a .1 .1 .1 .1 .1 .1 .1 .1 .1 .0; exit = s .1 .1 .1 .1 .1 .1 .1 .1 .1 .0 }
       r)
       (λ w. Read.r-last _)
       (λ w. Path'.refl)
@@ -207,39 +201,39 @@ module _ (κs : Lifetimes.Lfts 9) where
       (a : World.ArgsD inner_process.signature κs) →
       (g : Ghost) →
       (r : World.ResD inner_process.signature κs) →
-      (s : Clauses.AtExit (Kinds'.endedOf 9 Kinds.ps Kinds.r) κs) →
+      (s : Clauses.AtExit (Kinds'.endedOf 8 Kinds.ps Kinds.r) κs) →
       Read.Read (Base a) (Owned r s) (ensures a g r s)
   post-read = λ a g r s. ensures-1·read a g r s
 
-abbrev pub Pre : Kinds'.In 9 Kinds.ps
-Pre = Written.Pre 9 Kinds.ps Kinds.r Ghost requires ensures pre-read Pinned Owned post-read tt
+abbrev pub Pre : Kinds'.In 8 Kinds.ps
+Pre = Written.Pre 8 Kinds.ps Kinds.r Ghost requires ensures pre-read Pinned Owned post-read tt
 
-abbrev pub Post : Kinds'.Out 9 Kinds.ps Kinds.r
-Post = Written.Post 9 Kinds.ps Kinds.r Ghost requires ensures pre-read Pinned Owned post-read tt
+abbrev pub Post : Kinds'.Out 8 Kinds.ps Kinds.r
+Post = Written.Post 8 Kinds.ps Kinds.r Ghost requires ensures pre-read Pinned Owned post-read tt
 
-abbrev pub Asked : Kinds'.In 9 Kinds.ps
-Asked = Written.Asked 9 Kinds.ps Kinds.r Ghost requires ensures pre-read Pinned Owned post-read tt
+abbrev pub Asked : Kinds'.In 8 Kinds.ps
+Asked = Written.Asked 8 Kinds.ps Kinds.r Ghost requires ensures pre-read Pinned Owned post-read tt
 
-abbrev pub Learnt : Kinds'.Out 9 Kinds.ps Kinds.r
+abbrev pub Learnt : Kinds'.Out 8 Kinds.ps Kinds.r
 Learnt =
-    Written.Learnt 9 Kinds.ps Kinds.r Ghost requires ensures pre-read Pinned Owned post-read tt
+    Written.Learnt 8 Kinds.ps Kinds.r Ghost requires ensures pre-read Pinned Owned post-read tt
 
 pub passes :
     (w : World.World) →
-    Written.Passes 9 Kinds.ps Kinds.r Ghost requires ensures pre-read Pinned Owned post-read w
+    Written.Passes 8 Kinds.ps Kinds.r Ghost requires ensures pre-read Pinned Owned post-read w
 passes = λ w κs a g r ws ft p q. Monad.top (w .𝓤) (Read.all∗ w (pre-read κs a g .held w))
 
 pub lent :
     (w : World.World) →
-    (κs : Lifetimes.Lfts 9) →
+    (κs : Lifetimes.Lfts 8) →
     (a : World.ArgsD inner_process.signature κs) →
     Logic.ent (w .𝓤) (Logic.emp (w .𝓤)) (Read.all∗ w (pre-read κs a tt .held w))
 lent = λ w κs a. Logic.id⊢ (w .𝓤) (Logic.emp (w .𝓤))
 
-pub known : Picked.KnownAs 9 Kinds.ps Kinds.r Ghost requires ensures Asked Learnt
+pub known : Picked.KnownAs 8 Kinds.ps Kinds.r Ghost requires ensures Asked Learnt
 known =
     λ w γ k ρ same met. Written.cited
-    9
+    8
     Kinds.ps
     Kinds.r
     Ghost

@@ -3,30 +3,35 @@
 use mathlib.Core.Path.{_≡_, refl, sym, ap, ap₂, _∙_, subst}
 use mathlib.Core.Bool.{Bool, true, false, cond}
 use mathlib.Core.List.{List, []}
-use Prim.Native.Nat.{ℕ, zero, suc, _+_, _/_, _^_, _≤_, _<_}
+use Prim.Native.Nat.{ℕ, zero, suc, _+_, _≤_, _<_}
 use native.Mathlib.Omega.{arith}
 use lib.ListN.{length}
 use lib.Dec.{leb}
 use lib.IntN.{ℤ, pos}
 use lib.Ieee.{Float}
-use Rattle.letters.specs.Place.{Place, ambiguous, plain}
+use Rattle.letters.specs.Place.{Place, ambiguous, plain, placeAt}
 use Rattle.letters.specs.Entry.{decode}
+use Rattle.letters.specs.Rolling.{kmerAfter, entryOf}
+use Rattle.letters.proofs.Rolling.{entry-below, entry-place}
 use Rattle.intervals.specs.Interval.{Interval}
-use Rattle.intervals.specs.Rows.{rows}
 use Rattle.scans.specs.declared.Params.{Params}
 use Rattle.scans.specs.Setup.{Setup, setupOf}
 use Rattle.scans.specs.Counts.{count}
 use Rattle.scans.specs.Scans.{Find, none, at, Outcome}
 use Rattle.scans.specs.declared.Carry.{Carry}
-use Rattle.scans.specs.Window.{window, findOf, Windowed}
+use Rattle.scans.specs.Terms.Window.{window, findOf, Windowed}
 use Rattle.scans.proofs.Test.{by-test}
 use Rattle.scans.proofs.Windows.{long}
 use Rattle.strand.specs.Step.{Run, join, isAt, search, st2, startAfter, savedAfter, foundBy, found, look, step}
 use Rattle.strand.specs.declared.Window.{Window}
 use Rattle.strand.specs.declared.Open.{Open}
 use Rattle.strand.specs.declared.State.{State}
-use Rattle.strand.specs.Kept.{Kept, Sought, rescanned, Like}
-use Rattle.strand.specs.Held.{heldBy, Left, Joined, Entered, Enters, lookBy, lastBy, Seeks, Found, Settled}
+use Rattle.strand.specs.Terms.KnownCounts.{KnownCounts, Sought, sought, rescanned}
+use Rattle.strand.specs.Terms.Like.{Like}
+use Rattle.strand.specs.Terms.Entering.{heldBy, held, newestOf, Left, Joined, Entered, Enters}
+use Rattle.strand.specs.Terms.Searching.{lookBy}
+use Rattle.strand.specs.Terms.Finding.{lastQBy, Found, TakesFind, PassedOn}
+use Rattle.strand.proofs.Searching.{Seeks}
 use Rattle.strand.proofs.Shape.{InWindow, search-inside}
 use Rattle.strand.proofs.Like.{like-end, like-trans, like-found, like-step}
 
@@ -82,37 +87,37 @@ module _ (S : Setup) (i : ℕ) (w : Window) (o o′ : Open) (ring counts counts�
 
   -- Whatever the search left of the carried scan.
   found-is : (live : Bool) (carry : Carry) (find : Find) → Found (S .kmer) i (w .len) o o′ find saved saved′
-      → heldBy (lastBy (rescanned w live carry) find) o′ ring counts′ saved′ ≡ foundBy S i (heldBy w o ring counts saved) counts′ find
+      → heldBy (lastQBy (rescanned w live carry) find) o′ ring counts′ saved′ ≡ foundBy S i (heldBy w o ring counts saved) counts′ find
   unfolding foundBy by-start
   found-is live carry none h = rw (h .start-is, h .end-is, h .saved-is)
   found-is live carry (at j) h = rw (h .start-is, h .end-is, h .saved-is) (ap (λ (len : ℕ). by-start j (st2 (S .kmer) i len j)) (sym n))
 
 -- Where the window stands does not change.
-last-head : (w : Window) (find : Find) → lastBy w find .head ≡ w .head
-last-head w none = refl
-last-head w (at j) = refl
+last-q-head : (w : Window) (find : Find) → lastQBy w find .head ≡ w .head
+last-q-head w none = refl
+last-q-head w (at j) = refl
 
-last-len : (w : Window) (find : Find) → lastBy w find .len ≡ w .len
-last-len w none = refl
-last-len w (at j) = refl
+last-q-len : (w : Window) (find : Find) → lastQBy w find .len ≡ w .len
+last-q-len w none = refl
+last-q-len w (at j) = refl
 
-module _ (w : Window) {u : Window} (r : Sought) (same : r .window ≡ rescanned w (r .window .live) (r .window .carry)) (u-is : u ≡ lastBy (r .window) (findOf (r .found))) where
+module _ (w : Window) {u : Window} (r : Sought) (same : r .window ≡ rescanned w (r .window .live) (r .window .carry)) (u-is : u ≡ lastQBy (r .window) (findOf (r .found))) where
   head-same : u .head ≡ w .head
-  head-same = ap (λ (z : Window). z .head) u-is ∙ last-head (r .window) (findOf (r .found)) ∙ ap (λ (z : Window). z .head) same
+  head-same = ap (λ (z : Window). z .head) u-is ∙ last-q-head (r .window) (findOf (r .found)) ∙ ap (λ (z : Window). z .head) same
 
   len-same : u .len ≡ w .len
-  len-same = ap (λ (z : Window). z .len) u-is ∙ last-len (r .window) (findOf (r .found)) ∙ ap (λ (z : Window). z .len) same
+  len-same = ap (λ (z : Window). z .len) u-is ∙ last-q-len (r .window) (findOf (r .found)) ∙ ap (λ (z : Window). z .len) same
 
 -- ---- After the search: where the window stands, its scan counts, and the run.
 module _ {S : Setup} {w w′ : Window} {x : Outcome} {r : Sought} (ring : List ℕ) {counts′ : List ℕ} (t : Seeks S (window ring (w .head) (w .len)) w x r counts′)
-    (u : w′ ≡ lastBy (r .window) (findOf (r .found))) where
+    (u : w′ ≡ lastQBy (r .window) (findOf (r .found))) where
   pub looked-windowed : {p : Params} {window-counts : List ℕ} {n : ℕ} → Windowed p ring (w .head) (w .len) window-counts n → Windowed p ring (w′ .head) (w′ .len) window-counts n
   looked-windowed n = rw (head-same w r (t .same) u, len-same w r (t .same) u) n
 
-  pub looked-kept : Kept S (window ring (w′ .head) (w′ .len)) w′ counts′
-  looked-kept =
+  pub looked-known : KnownCounts S (window ring (w′ .head) (w′ .len)) w′ counts′
+  looked-known =
       let places = ap₂ (λ (head len : ℕ). window ring head len) (head-same w r (t .same) u) (len-same w r (t .same) u) in
-      subst (λ (q : List Place). Kept S q w′ counts′) (sym places) (subst (λ (z : Window). Kept S (window ring (w .head) (w .len)) z counts′) (sym u) (t .kept))
+      subst (λ (q : List Place). KnownCounts S q w′ counts′) (sym places) (subst (λ (z : Window). KnownCounts S (window ring (w .head) (w .len)) z counts′) (sym u) (t .known))
 
   pub looked-like : (i : ℕ) (e : Place) (o : Open) (counts : List ℕ) (saved : List Interval) {o′ : Open} {saved′ : List Interval} → length (window ring (w .head) (w .len)) ≡ w .len
       → isAt (o .end) (i + 1) ≡ false → x ≡ lookBy S i (heldBy w o ring counts saved) e → Found (S .kmer) i (w .len) o o′ (findOf (r .found)) saved saved′
@@ -121,45 +126,89 @@ module _ {S : Setup} {w w′ : Window} {x : Outcome} {r : Sought} (ring : List �
       let a = heldBy w o ring counts saved in
       let find = findOf (r .found) in
       let now : heldBy w′ o′ ring counts′ saved′ ≡ foundBy S i a counts′ find =
-      ap (λ (z : Window). heldBy z o′ ring counts′ saved′) (u ∙ ap (λ (z : Window). lastBy z find) (t .same))
+      ap (λ (z : Window). heldBy z o′ ring counts′ saved′) (u ∙ ap (λ (z : Window). lastQBy z find) (t .same))
       ∙ found-is S i w o o′ ring counts counts′ saved saved′ n (r .window .live) (r .window .carry) find h in
       let then : foundBy S i a (x .counts) (x .find) ≡ look S i a e = ap (λ (z : Outcome). foundBy S i a (z .counts) (z .find)) x-is ∙ sym (look-is S i a e) in
       subst (λ (z : Run). Like (i + 1) z (look S i a e)) (sym now)
       (subst (λ (z : Run). Like (i + 1) (foundBy S i a counts′ find) z) then
       (like-found S i a counts′ x (r .found) ended (t .find-is) (t .counts-are)))
 
-module _ {p : Params} {ln f : List Float} {i e : ℕ} {a : State} {w′ : Window} {o′ : Open} {r : Sought} {ring window-counts counts starts ends counts′ starts′ ends′ : List ℕ} where
-  pub settles : isAt (a .hand .end) (i + 1) ≡ false → Windowed p ring (a .window .head) (a .window .len) window-counts (length ln)
-      → ((saved : List Interval) → Seeks (setupOf p ln f) (window ring (a .window .head) (a .window .len)) (a .window)
-      (lookBy (setupOf p ln f) i (heldBy (a .window) (a .hand) ring counts saved) (decode e)) r counts′)
-      → Found (p .kmer) i (a .window .len) (a .hand) o′ (findOf (r .found)) (rows (a .hand .count) starts ends) (rows (o′ .count) starts′ ends′)
-      → w′ ≡ lastBy (r .window) (findOf (r .found))
-      → Settled p ln f i e a (record { window = w′; hand = o′ }) ring window-counts counts starts ends counts′ starts′ ends′
-  settles ended n t h u =
-      let saved = rows (a .hand .count) starts ends in
+-- Letter a .i has entered and is settled: the state a′ before the next letter.
+pub record Settled (p : Params) (ln f : List Float) (a a′ : State) (ring window-counts counts : List ℕ) (saved : List Interval) (counts′ : List ℕ) (saved′ : List Interval) : Type 0 where
+  pub kmer-is : a′ .kmer ≡ a .kmer
+  pub i-is : a′ .i ≡ a .i + 1
+  pub like : Like (a .i + 1) (held a′ ring counts′ saved′) (look (setupOf p ln f) (a .i) (held a ring counts saved) (newestOf p a))
+  pub windowed : Windowed p ring (a′ .window .head) (a′ .window .len) window-counts (length ln)
+  pub known : KnownCounts (setupOf p ln f) (window ring (a′ .window .head) (a′ .window .len)) (a′ .window) counts′
+
+-- What the look leads to was sought from the window of a, whatever is saved.
+abbrev pub SeeksAt : (p : Params) (ln f : List Float) (a : State) (ring counts : List ℕ) (r : Sought) (counts′ : List ℕ) → Type 0
+SeeksAt p ln f a ring counts r counts′ =
+    (saved : List Interval) → Seeks (setupOf p ln f) (window ring (a .window .head) (a .window .len)) (a .window)
+    (lookBy (setupOf p ln f) (a .i) (held a ring counts saved) (newestOf p a)) r counts′
+
+module _ {p : Params} {ln f : List Float} {a a′ : State} {r : Sought} {ring window-counts counts counts′ : List ℕ} {saved saved′ : List Interval} where
+  pub settles : isAt (a .hand .end) (a .i + 1) ≡ false → Windowed p ring (a .window .head) (a .window .len) window-counts (length ln)
+      → SeeksAt p ln f a ring counts r counts′ → TakesFind (p .kmer) a r a′ saved saved′
+      → Settled p ln f a a′ ring window-counts counts saved counts′ saved′
+  settles ended n t h =
       let s = t saved in
+      let len : r .window .len ≡ a .window .len = ap (λ (z : Window). z .len) (s .same) in
       record {
-        like = looked-like ring s u i (decode e) (a .hand) counts saved (long n) ended refl h;
-        windowed = looked-windowed ring s u n;
-        kept = looked-kept ring s u;
+        kmer-is = h .kmer-is;
+        i-is = h .i-is;
+        like = looked-like ring s (h .window-is) (a .i) (newestOf p a) (a .hand) counts saved (long n) ended refl
+            (subst (λ (l : ℕ). Found (p .kmer) (a .i) l (a .hand) (a′ .hand) (findOf (r .found)) saved saved′) len (h .found));
+        windowed = looked-windowed ring s (h .window-is) n;
+        known = looked-known ring s (h .window-is);
       }
 
--- ---- The entry enters the window, which then leads to the definitions' step.
-module _ {p : Params} {ln : List Float} (f : List Float) {e : ℕ} {w w₁ w′ : Window} {ring counts window-counts₁ ring′ window-counts′ counts′ : List ℕ} where
-  pub entering : e / 2 < 4 ^ p .kmer → Kept (setupOf p ln f) (window ring (w .head) (w .len)) w counts → Left p ln w w₁ ring counts window-counts₁ counts′
-      → Joined p ln w₁ w′ e ring ring′ window-counts′ → Enters p ln f w w′ e ring counts ring′ window-counts′ counts′
-  entering below k l j =
-      record {
-        run-is = λ o saved. j .run-is f o counts′ saved ∙ ap (λ (z : Run). join (setupOf p ln f) z (decode e)) (l .run-is f o saved);
-        entered = record { some = j .some; below = below; windowed = j .windowed; kept = j .kept f counts′ (l .kept f k); newest = j .newest };
-      }
+-- Without a find.
+pub passed-find : {p : Params} {ln f : List Float} {a a′ : State} {counts counts′ : List ℕ} (saved : List Interval)
+    → PassedOn p ln f a a′ counts counts′ → TakesFind (p .kmer) a (sought (a′ .window) 0) a′ saved saved
+passed-find saved t =
+    record {
+      kmer-is = t .kmer-is;
+      i-is = t .i-is;
+      window-is = refl;
+      found = record { start-is = ap (λ (o : Open). o .start) (t .hand-is); end-is = ap (λ (o : Open). o .end) (t .hand-is); saved-is = refl };
+    }
 
-module _ {p : Params} {ln f : List Float} {i e : ℕ} {w w′ : Window} (o : Open) {ring counts ring′ window-counts′ counts′ : List ℕ} (saved : List Interval) where
-  pub stepped : {a real : Run} → Enters p ln f w w′ e ring counts ring′ window-counts′ counts′ → isAt (o .end) (i + 1) ≡ false
-      → Like (i + 1) a (look (setupOf p ln f) i (heldBy w′ o ring′ counts′ saved) (decode e)) → Like i (heldBy w o ring counts saved) real
-      → Like (i + 1) a (step (setupOf p ln f) i real (decode e))
-  unfolding step
-  stepped {a} n ended l before =
+-- ---- The next letter enters the window, which then leads to the definitions' step.
+module _ {p : Params} {codes : List ℕ} {ln : List Float} (f : List Float) {a a′ : State} {w₁ : Window} {ring counts window-counts₁ ring′ window-counts′ counts′ : List ℕ} where
+  pub entering : a′ .kmer ≡ kmerAfter (p .kmer) codes (a .i + 1) → a′ .i ≡ a .i → a′ .hand ≡ a .hand
+      → KnownCounts (setupOf p ln f) (window ring (a .window .head) (a .window .len)) (a .window) counts → Left p ln (a .window) w₁ ring counts window-counts₁ counts′
+      → Joined p ln w₁ (a′ .window) (entryOf (p .kmer) (a′ .kmer)) ring ring′ window-counts′ → Enters p codes ln f a a′ ring counts ring′ window-counts′ counts′
+  entering kmer-is i-is hand-is k l j =
       let S = setupOf p ln f in
-      like-trans (subst (λ (z : Run). Like (i + 1) a (look S i z (decode e))) (n .run-is o saved) l)
-      (like-step S (decode e) before (subst (λ (z : ℤ). isAt z (i + 1) ≡ false) (like-end before) ended))
+      let place = entry-place (p .kmer) codes (a .i) (a′ .kmer) kmer-is in
+      record {
+        run-is = λ saved.
+            j .run-is f (a′ .hand) counts′ saved
+            ∙ ap (λ (o : Open). join S (heldBy w₁ o ring counts′ saved) (newestOf p a′)) hand-is
+            ∙ ap₂ (λ (z : Run) (e : Place). join S z e) (l .run-is f (a .hand) saved) place;
+        place-is = place;
+        kmer-is = kmer-is;
+        i-is = i-is;
+        hand-is = hand-is;
+        entered = record {
+          some = j .some;
+          below = entry-below (p .kmer) codes (a .i + 1) (a′ .kmer) kmer-is;
+          windowed = j .windowed;
+          known = j .known f counts′ (l .known f k);
+          newest = j .newest;
+        };
+      }
+
+module _ {p : Params} {codes : List ℕ} {ln f : List Float} {a a′ : State} {ring counts ring′ window-counts′ counts′ : List ℕ} (saved : List Interval) where
+  pub stepped : {x real : Run} → Enters p codes ln f a a′ ring counts ring′ window-counts′ counts′ → isAt (a .hand .end) (a .i + 1) ≡ false
+      → Like (a′ .i + 1) x (look (setupOf p ln f) (a′ .i) (held a′ ring′ counts′ saved) (newestOf p a′)) → Like (a .i) (held a ring counts saved) real
+      → Like (a .i + 1) x (step (setupOf p ln f) (a .i) real (placeAt (p .kmer) codes (a .i)))
+  unfolding step
+  stepped {x} n ended l before =
+      let S = setupOf p ln f in
+      let e = placeAt (p .kmer) codes (a .i) in
+      let i-same = subst (λ (i : ℕ). Like (i + 1) x (look S i (held a′ ring′ counts′ saved) (newestOf p a′))) (n .i-is) l in
+      let e-same = subst (λ (z : Place). Like (a .i + 1) x (look S (a .i) (held a′ ring′ counts′ saved) z)) (n .place-is) i-same in
+      like-trans (subst (λ (z : Run). Like (a .i + 1) x (look S (a .i) z e)) (n .run-is saved) e-same)
+      (like-step S e before (subst (λ (z : ℤ). isAt z (a .i + 1) ≡ false) (like-end before) ended))

@@ -14,7 +14,7 @@ pub mod Hand
 pub mod Letter
 pub mod ReadingOn
 pub mod Running
-pub mod Keeping
+pub mod KnownCounts
 pub mod Like
 pub mod InnerProcessKinds
 pub mod InnerProcessReads

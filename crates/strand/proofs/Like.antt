@@ -12,10 +12,10 @@ use Rattle.letters.specs.Place.{Place, ambiguous, plain}
 use Rattle.scans.specs.Setup.{Setup}
 use Rattle.scans.specs.Counts.{count}
 use Rattle.scans.specs.Scans.{Find, none, at, Outcome, ifBackward, dustBackward}
-use Rattle.scans.specs.Window.{findOf}
+use Rattle.scans.specs.Terms.Window.{findOf}
 use Rattle.scans.proofs.Test.{by-test, by-test-both}
 use Rattle.strand.specs.Step.{Run, whole, withoutOldest, leave, join, isAt, extendTried, search, foundBy, found, look, step}
-use Rattle.strand.specs.Kept.{withCounts, Like}
+use Rattle.strand.specs.Terms.Like.{withCounts, Like}
 
 -- No find ends past the letters that were read.
 pub ended : {i : ℕ} (end : ℤ) → whole end ≤ i → isAt end (i + 1) ≡ false

@@ -18,16 +18,16 @@ use Rattle.scans.specs.declared.Params.{Params}
 use Rattle.scans.specs.declared.Carry.{Carry}
 use Rattle.scans.specs.Setup.{Setup, setupOf}
 use Rattle.scans.specs.Counts.{count, raise, lower}
-use Rattle.scans.specs.Window.{queue, ringIndex, window, countedValue, Windowed}
+use Rattle.scans.specs.Terms.Window.{queue, ringIndex, window, countedValue, Windowed}
 use Rattle.scans.proofs.Counting.{Counted, hit-self, count-le, raise-counted, lower-counted}
 use Rattle.scans.proofs.Ring.{ring-index-at, queue-length, queue-join, queue-leave, window-join, window-leave, window-length}
 use Rattle.scans.proofs.Values.{decode-below, decoded-below}
 use Rattle.scans.proofs.Windows.{long}
-use Rattle.strand.specs.Step.{sumWithout, sumWith, countsWithout, lastWithout, withoutOldest, leave, join}
+use Rattle.strand.specs.Step.{sumWithout, sumWith, countsWithout, lastQWithout, withoutOldest, leave, join}
 use Rattle.strand.specs.declared.Window.{Window}
-use Rattle.strand.specs.Kept.{Kept, carryWithout}
-use Rattle.strand.specs.Held.{heldBy, sumLess, sumMore, Left, Joined}
-use Rattle.strand.proofs.Keeping.{kept-same, kept-oldest}
+use Rattle.strand.specs.Terms.KnownCounts.{KnownCounts, carryWithout}
+use Rattle.strand.specs.Terms.Entering.{heldBy, sumLess, sumMore, Left, Joined}
+use Rattle.strand.proofs.KnownCounts.{known-same, known-oldest}
 
 -- ---- The sum, by window counts that are those of the places q.
 module _ (S : Setup) (counts : List ℕ) (q : List Place) (c : (x : ℕ) → getD counts x 0 ≡ count x q) (sum : Float) where
@@ -194,22 +194,22 @@ module _ {p : Params} {ring : List ℕ} {head len : ℕ} {counts : List ℕ} {n 
 
 -- ---- The oldest entry leaves a full queue.
 abbrev pub lessOldest : Window → Float → Carry → Window
-lessOldest w sum carry = record { sum = sum; last = w .last; head = w .head; len = w .len; live = w .live; carry = carry }
+lessOldest w sum carry = record { sum = sum; «last_q» = w .«last_q»; head = w .head; len = w .len; live = w .live; carry = carry }
 
 -- b is the window whose sum and carried scan are without the entry.
 module _ {p : Params} {ln : List Float} {a b : Window} {ring counts scan-counts counts′ scan-counts′ : List ℕ} {sum : Float} {last : ℤ} {head : ℕ} where
-  pub left : Windowed p ring (a .head) (a .len) counts (length ln) → a .len ≡ p .«window_size» → b ≡ lessOldest a sum (carryWithout (a .last) (a .carry))
-      → sum ≡ sumLess ln counts (a .sum) (decode (getD ring (a .head) 0)) → last ≡ lastWithout (a .last) → head ≡ ringIndex (p .«window_size») (a .head) 1
-      → counts′ ≡ lower counts (decode (getD ring (a .head) 0)) → scan-counts′ ≡ countsWithout (a .last) scan-counts (decode (getD ring (a .head) 0))
-      → Left p ln a (record { sum = b .sum; last = last; head = head; len = b .len - 1; live = b .live; carry = b .carry }) ring scan-counts counts′ scan-counts′
+  pub left : Windowed p ring (a .head) (a .len) counts (length ln) → a .len ≡ p .«window_size» → b ≡ lessOldest a sum (carryWithout (a .«last_q») (a .carry))
+      → sum ≡ sumLess ln counts (a .sum) (decode (getD ring (a .head) 0)) → last ≡ lastQWithout (a .«last_q») → head ≡ ringIndex (p .«window_size») (a .head) 1
+      → counts′ ≡ lower counts (decode (getD ring (a .head) 0)) → scan-counts′ ≡ countsWithout (a .«last_q») scan-counts (decode (getD ring (a .head) 0))
+      → Left p ln a (record { sum = b .sum; «last_q» = last; head = head; len = b .len - 1; live = b .live; carry = b .carry }) ring scan-counts counts′ scan-counts′
   unfolding leave
   left w full b-is sum-is last-is head-is counts-is scan-is =
       let q = window ring (a .head) (a .len) in
       rw b-is
       (record {
-        kept = λ f k.
+        known = λ f k.
             rw (head-is, scan-is)
-            (kept-oldest (subst (λ (z : List Place). Kept (setupOf p ln f) z a scan-counts) (left-window w full) k) last-is refl refl);
+            (known-oldest (subst (λ (z : List Place). KnownCounts (setupOf p ln f) z a scan-counts) (left-window w full) k) last-is refl refl);
         run-is = λ f o saved.
             rw (le-leb (p .«window_size») (length q) (omega (arith, long w)), head-is, last-is, scan-is, sum-is)
             (rw (less-is (setupOf p ln f) counts q (w .counted) (a .sum) (decode (getD ring (a .head) 0)))
@@ -224,7 +224,7 @@ pub left-none : {p : Params} {ln : List Float} {a : Window} {ring counts scan-co
 unfolding leave
 left-none {p} {a = a} {ring} w h =
     record {
-      kept = λ f k. k;
+      known = λ f k. k;
       run-is = λ f o saved. rw (lt-leb (p .«window_size») (length (window ring (a .head) (a .len))) (omega (arith, long w, w .len-in)));
       windowed = w;
       room = omega (arith, w .len-in);
@@ -234,14 +234,14 @@ left-none {p} {a = a} {ring} w h =
 module _ {p : Params} {ln : List Float} {a : Window} {ring counts counts′ : List ℕ} {e i : ℕ} {sum : Float} where
   pub joined : Windowed p ring (a .head) (a .len) counts (length ln) → a .len < p .«window_size» → e / 2 < 4 ^ p .kmer
       → i ≡ ringIndex (p .«window_size») (a .head) (a .len) → sum ≡ sumMore ln counts′ (a .sum) (decode e) → counts′ ≡ raise counts (decode e)
-      → Joined p ln a (record { sum = sum; last = a .last; head = a .head; len = a .len + 1; live = a .live; carry = a .carry }) e ring (set ring i e) counts′
+      → Joined p ln a (record { sum = sum; «last_q» = a .«last_q»; head = a .head; len = a .len + 1; live = a .live; carry = a .carry }) e ring (set ring i e) counts′
   unfolding join
   joined w room below i-is sum-is counts-is =
       let q = window ring (a .head) (a .len) ++ decode e ∷ [] in
       record {
-        kept = λ f scan-counts k.
+        known = λ f scan-counts k.
             rw i-is
-            (kept-same (subst (λ (z : List Place). Kept (setupOf p ln f) z a scan-counts) (sym (joined-before w room e below)) k) refl refl refl);
+            (known-same (subst (λ (z : List Place). KnownCounts (setupOf p ln f) z a scan-counts) (sym (joined-before w room e below)) k) refl refl refl);
         run-is = λ f o scan-counts saved.
             rw (i-is, joined-window w room e below, sum-is, counts-is)
             (rw (more-is (setupOf p ln f) (raise counts (decode e)) q (joined-counted w room e below .counted) (a .sum) (decode e)));

@@ -3,9 +3,9 @@
 use mathlib.Core.Path.{_≡_, refl, sym, ap, _∙_, subst}
 use mathlib.Core.Bool.{Bool, true, false, cond, _&&_, _||_, true≢false}
 use mathlib.Core.List.{List, [], _∷_, _++_}
-use Prim.Native.Nat.{ℕ, zero, suc, _+_, _-_, _/_, _%_, _≤_, _<_}
+use Prim.Native.Nat.{ℕ, zero, suc, _+_, _-_, _/_, _%_, _^_, _≤_, _<_}
 use native.Mathlib.Omega.{arith}
-use lib.ListN.{length, getD, drop, replicate, length-append}
+use lib.ListN.{length, getD, drop, replicate, length-append, length-drop}
 use lib.Seq.{drop-append-le}
 use lib.Dec.{leb, eqb}
 use lib.IntN.{ℤ, pos, _-ℤ_}
@@ -24,8 +24,9 @@ use Rattle.scans.specs.declared.Scanned.{Scanned}
 use Rattle.scans.specs.Setup.{Setup, setupOf, kmers}
 use Rattle.scans.specs.Counts.{count, raise}
 use Rattle.scans.specs.Scans.{Find, none, at, Outcome, extends, ifBackward, dustBackward}
-use Rattle.scans.specs.Window.{queue, window, findOf, Windowed, Extends}
-use Rattle.scans.specs.Carry.{Touched, countsLeft, Answers, CarriesOn}
+use Rattle.scans.specs.Terms.Window.{queue, window, findOf, Windowed, Extends}
+use Rattle.scans.specs.Terms.Carry.{Touched, countsLeft, Answers, CarriesOn}
+use Rattle.scans.proofs.Counting.{count-le}
 use Rattle.scans.proofs.Windows.{long}
 use Rattle.scans.proofs.Touched.{touched-more}
 use Rattle.strand.specs.Step.{Run, whole, isAt, windowScore, extendTried, search}
@@ -33,46 +34,55 @@ use Rattle.strand.specs.declared.Window.{Window}
 use Rattle.strand.specs.declared.State.{State}
 use Rattle.strand.specs.declared.Look.{Look}
 use Rattle.strand.specs.declared.Look.the-variants.{Pass, Extension, Scan}
-use Rattle.strand.specs.Kept.{Kept, Sought, Passes, Clearing, rescanned, extendedOf, answeredBy}
-use Rattle.strand.specs.Held.{heldBy, isSearched, triedBy, Extended, lookBy, lookedAs, countsLooked, Looks, lastBy, Seeks}
+use Rattle.strand.specs.Terms.KnownCounts.{KnownCounts, Sought, Passing, Passes, Clearing, rescanned, extendedOf, answeredBy}
+use Rattle.strand.specs.Terms.Entering.{held, Entered}
+use Rattle.strand.specs.Terms.Searching.{isSearched, triedBy, Extended, lookBy, lookedAs, countsLooked, Looks}
+use Rattle.strand.specs.Terms.Finding.{lastQBy}
 use Rattle.strand.proofs.Moving.{window-split, older-long}
-use Rattle.strand.proofs.Keeping.{kept-passed, kept-extended, kept-answered}
+use Rattle.strand.proofs.KnownCounts.{known-passed, known-extended, known-answered}
+
+-- The search from a window w of the places q answers the outcome's find, with its scan counts where something is found.
+pub record Seeks (S : Setup) (q : List Place) (w : Window) (o : Outcome) (r : Sought) (counts′ : List ℕ) : Type 0 where
+  pub find-is : findOf (r .found) ≡ o .find
+  pub counts-are : 0 < r .found → counts′ ≡ o .counts
+  pub known : KnownCounts S q (lastQBy (r .window) (findOf (r .found))) counts′
+  pub same : r .window ≡ rescanned w (r .window .live) (r .window .carry)
 
 -- What the code hands on of end, last_q and start, it reads back from their bits.
-pub tried : (p : Params) (f : List Float) (i : ℕ) (a : State) {end last start : ℤ} {at-end at-zero past : Bool}
-    → end ≡ a .hand .end → last ≡ a .window .last → start ≡ a .hand .start
-    → at-end ≡ isAt end i → at-zero ≡ isAt last 0 → past ≡ leZ (pos (a .window .len)) (pos i -ℤ start)
+pub tried : (p : Params) (f : List Float) (a : State) {end last start : ℤ} {at-end at-zero past : Bool}
+    → end ≡ a .hand .end → last ≡ a .window .«last_q» → start ≡ a .hand .start
+    → at-end ≡ isAt end (a .i) → at-zero ≡ isAt last 0 → past ≡ leZ (pos (a .window .len)) (pos (a .i) -ℤ start)
     → at-end && (lt zero64 (a .window .sum ⊖ getD f (a .window .len) nan ⊖ number (a .window .len) ⊗ p .«score_threshold») && (at-zero || past))
-    ≡ triedBy p f i a
-tried p f i a he hl hs x y z = rw (x, y, z, he, hl, hs)
+    ≡ triedBy p f a
+tried p f a he hl hs x y z = rw (x, y, z, he, hl, hs)
 
 -- ---- The extension.
-module _ {p : Params} {ln f : List Float} {i : ℕ} {a : State} {x : ℕ} {counts : List ℕ} {b : Bool} where
-  pub extended-tried : {r : Bool} {counts′ : List ℕ} → b ≡ triedBy p f i a → b ≡ true → Extends (setupOf p ln f) counts (a .window .len) x r counts′
-      → Extended p ln f i a x counts r counts′
+module _ {p : Params} {ln f : List Float} {a : State} {x : ℕ} {counts : List ℕ} {b : Bool} where
+  pub extended-tried : {r : Bool} {counts′ : List ℕ} → b ≡ triedBy p f a → b ≡ true → Extends (setupOf p ln f) counts (a .window .len) x r counts′
+      → Extended p ln f a x counts r counts′
   extended-tried e t h =
       record {
         answer = h .answer ∙ ap (λ (z : Bool). z && extends (setupOf p ln f) counts (a .window .len) x) (sym t ∙ e);
         counts-are = h .counts-are;
       }
 
-  pub extended-untried : b ≡ triedBy p f i a → b ≡ false → Extended p ln f i a x counts false counts
+  pub extended-untried : b ≡ triedBy p f a → b ≡ false → Extended p ln f a x counts false counts
   extended-untried e t = record { answer = ap (λ (z : Bool). z && extends (setupOf p ln f) counts (a .window .len) x) (sym t ∙ e); counts-are = refl }
 
 -- In a window that holds, it is the definitions' extension.
-module _ {p : Params} {ln f : List Float} {i : ℕ} {a : State} {x : ℕ} {r : Bool} {counts counts′ : List ℕ}
-    (h : Extended p ln f i a x counts r counts′) {ring window-counts : List ℕ} (w : Windowed p ring (a .window .head) (a .window .len) window-counts (length ln)) (saved : List Interval) where
+module _ {p : Params} {ln f : List Float} {a : State} {x : ℕ} {r : Bool} {counts counts′ : List ℕ}
+    (h : Extended p ln f a x counts r counts′) {ring window-counts : List ℕ} (w : Windowed p ring (a .window .head) (a .window .len) window-counts (length ln)) (saved : List Interval) where
   abbrev S : Setup
   S = setupOf p ln f
 
   abbrev A : Run
-  A = heldBy (a .window) (a .hand) ring counts saved
+  A = held a ring counts saved
 
-  tried-is : triedBy p f i a ≡ extendTried S i A
+  tried-is : triedBy p f a ≡ extendTried S (a .i) A
   unfolding extendTried windowScore
   tried-is = rw (long w)
 
-  pub extended-is : r ≡ extendTried S i A && extends S counts (length (A .window)) x
+  pub extended-is : r ≡ extendTried S (a .i) A && extends S counts (length (A .window)) x
   extended-is = h .answer ∙ rw (tried-is, long w)
 
 -- ---- What the look answers. A letter that is not searched from leads to nothing.
@@ -123,7 +133,7 @@ module _ (S : Setup) (i : ℕ) (a : Run) (e : ℕ) where
 
 -- ---- No find: what the carried scan makes of the newest entry.
 module _ {S : Setup} {w : Window} {e : Place} {counts : List ℕ} where
-  pub passes-on : {l : ℕ} {carry : Carry} {counts′ : List ℕ} → w .carry .on ≡ true → l ≡ whole (w .last) → CarriesOn S (w .len - l) e (w .carry) carry counts counts′
+  pub passes-on : {l : ℕ} {carry : Carry} {counts′ : List ℕ} → w .carry .on ≡ true → l ≡ whole (w .«last_q») → CarriesOn S (w .len - l) e (w .carry) carry counts counts′
       → Passes S w e (rescanned w (w .live) carry) counts counts′
   passes-on {carry = carry} {counts′} on l-is h =
       record {
@@ -133,6 +143,26 @@ module _ {S : Setup} {w : Window} {e : Place} {counts : List ℕ} where
 
   pub passes-off : w .carry .on ≡ false → Passes S w e w counts counts
   passes-off off = record { off = λ _. (refl, refl); on = λ on. absurd (true≢false (sym on ∙ off)) }
+
+-- A carried scan can go on to an entry that has entered.
+pub passing : {p : Params} {ln f : List Float} {w : Window} {e n-f : ℕ} {ring window-counts counts : List ℕ} → Entered p ln f w e ring window-counts counts
+    → length counts ≡ 4 ^ p .kmer → p .«window_size» < n-f → Passing p w e (length ln) n-f counts
+passing {w = w} {e} {ring = ring} n c f =
+    let k = n .known in
+    let h = n .windowed in
+    let q = window ring (w .head) (w .len - 1) in
+    let j = whole (w .«last_q») in
+    record {
+      some = n .some;
+      len-in = h .len-in;
+      small = h .small;
+      ln-long = h .ln-long;
+      f-long = f;
+      below = omega (arith, n .below, c);
+      from = λ on. k .from (k .live on);
+      inside = λ on. omega (arith, k .inside (k .live on), older-long h);
+      few = λ on. omega (arith, k .counted on .counted (e / 2), count-le (e / 2) (drop j q), length-drop j q, older-long h, n .some);
+    }
 
 passes-same : {S : Setup} {w : Window} {e : Place} {w′ : Window} {counts counts′ : List ℕ} → Passes S w e w′ counts counts′
     → w′ ≡ rescanned w (w′ .live) (w′ .carry)
@@ -145,13 +175,13 @@ passes-same {w = w} {w′ = w′} h = go (w .carry .on) refl
         same ∙ ap (λ (l : Bool). rescanned w l (w′ .carry)) (sym (ap (λ (z : Window). z .live) same))
 
 -- ---- The backward scan. Scan counts that places before the newest have raised are cleared with those of all.
-module _ {S : Setup} {p : Params} {w : Window} {counts ring window-counts : List ℕ} {head len n : ℕ} (k : Kept S (window ring head (len - 1)) w counts)
+module _ {S : Setup} {p : Params} {w : Window} {counts ring window-counts : List ℕ} {head len n : ℕ} (k : KnownCounts S (window ring head (len - 1)) w counts)
     (h : Windowed p ring head len window-counts n) where
-  pub touched-all : {l : ℕ} → l ≡ whole (w .last) → w .live ≡ true → (l ≤ len) × Touched counts (drop l (window ring head len))
+  pub touched-all : {l : ℕ} → l ≡ whole (w .«last_q») → w .live ≡ true → (l ≤ len) × Touched counts (drop l (window ring head len))
   touched-all l-is on =
       let older : List Place = window ring head (len - 1) in
       let newer : List Place = decoded (drop (len - 1) (queue ring head len)) in
-      let j : ℕ = whole (w .last) in
+      let j : ℕ = whole (w .«last_q») in
       rw l-is (
         omega (arith, k .inside on, older-long h),
         subst (λ (z : List Place). Touched counts z)
@@ -177,7 +207,7 @@ seeks-answered {S} {q} {w} {r} some b h e =
     (record {
       find-is = h .settles .find-is;
       counts-are = λ l. h .settles .counts-are ∙ left-found S (dustBackward S q) (r .found) (h .settles .find-is) l;
-      kept = kept-answered w some b h;
+      known = known-answered w some b h;
       same = refl;
     })
 
@@ -187,11 +217,11 @@ IsNone none = Unit {0}
 IsNone (at j) = ⊥
 
 -- Only a plain entry is extended from.
-extended-kept : (S : Setup) (i : ℕ) (a : Run) (e : Place) {q : List Place} {w : Window} {counts : List ℕ} → Kept S q w (a .counts)
-    → lookBy S i a e ≡ record { find = at 0; counts = counts } → counts ≡ raise (a .counts) e → Kept S (q ++ e ∷ []) (lastBy (extendedOf w .window) (at 0)) counts
+extended-known : (S : Setup) (i : ℕ) (a : Run) (e : Place) {q : List Place} {w : Window} {counts : List ℕ} → KnownCounts S q w (a .counts)
+    → lookBy S i a e ≡ record { find = at 0; counts = counts } → counts ≡ raise (a .counts) e → KnownCounts S (q ++ e ∷ []) (lastQBy (extendedOf w .window) (at 0)) counts
 unfolding lookBy
-extended-kept S i a ambiguous k o c = absurd (subst (λ (z : Outcome). IsNone (z .find)) o tt)
-extended-kept S i a (plain x) k o c = rw c (kept-extended x k)
+extended-known S i a ambiguous k o c = absurd (subst (λ (z : Outcome). IsNone (z .find)) o tt)
+extended-known S i a (plain x) k o c = rw c (known-extended x k)
 
 module _ {S : Setup} {i : ℕ} {a : Run} {e : Place} {r : Look} {counts : List ℕ} (h : Looks S i a e r counts) where
   outcome-by : {r′ : Look} → r ≡ r′ → lookBy S i a e ≡ lookedAs S a r′ counts
@@ -200,7 +230,7 @@ module _ {S : Setup} {i : ℕ} {a : Run} {e : Place} {r : Look} {counts : List �
   pub looked-counts : {r′ : Look} → r ≡ r′ → counts ≡ countsLooked r′ (a .counts) e
   looked-counts t = h .counts-are ∙ ap (λ (z : Look). countsLooked z (a .counts) e) t
 
-  module _ {q : List Place} {w : Window} (k : Kept S q w (a .counts)) (newest : a .window ≡ q ++ e ∷ []) where
+  module _ {q : List Place} {w : Window} (k : KnownCounts S q w (a .counts)) (newest : a .window ≡ q ++ e ∷ []) where
     pub seeks-passed : {w′ : Window} {counts′ : List ℕ} → r ≡ Pass → Below (kmers S) (a .window) → w .len ≡ length (a .window) → Passes S w e w′ counts counts′
         → Seeks S (a .window) w (lookBy S i a e) (record { window = w′; found = 0 }) counts′
     seeks-passed t b n p =
@@ -208,8 +238,8 @@ module _ {S : Setup} {i : ℕ} {a : Run} {e : Place} {r : Look} {counts : List �
         record {
           find-is = sym (ap (λ (o : Outcome). o .find) (outcome-by t));
           counts-are = λ l. absurd (let b : ⊥ = omega (arith, l) in b);
-          kept = rw newest
-              (kept-passed (subst (λ (z : List Place). Below (kmers S) z) newest b) long (subst (λ (z : List ℕ). Kept S q w z) (sym (looked-counts t)) k) p);
+          known = rw newest
+              (known-passed (subst (λ (z : List Place). Below (kmers S) z) newest b) long (subst (λ (z : List ℕ). KnownCounts S q w z) (sym (looked-counts t)) k) p);
           same = passes-same p;
         }
 
@@ -219,7 +249,7 @@ module _ {S : Setup} {i : ℕ} {a : Run} {e : Place} {r : Look} {counts : List �
         (record {
           find-is = sym (ap (λ (o : Outcome). o .find) (outcome-by t));
           counts-are = λ _. sym (ap (λ (o : Outcome). o .counts) (outcome-by t));
-          kept = rw newest (extended-kept S i a e k (outcome-by t) (looked-counts t));
+          known = rw newest (extended-known S i a e k (outcome-by t) (looked-counts t));
           same = refl;
         })
 

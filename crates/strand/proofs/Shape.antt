@@ -19,7 +19,7 @@ use Rattle.scans.specs.Scans.{Find, none, at, Outcome}
 use Rattle.scans.proofs.Test.{by-test}
 use Rattle.scans.proofs.ForwardScore.{forward-inside}
 use Rattle.strand.specs.Step.{Run, begin, withoutOldest, leave, join, search, st2, startAfter, whole, saveFrom, savedAfter, foundBy, found, look, step, runFrom, run, intervalsOfPlaces}
-use Rattle.strand.specs.Running.{StartOk, Shaped}
+use Rattle.strand.specs.Terms.Running.{StartOk, Shaped}
 use Rattle.strand.proofs.Finds.{search-facts}
 
 -- ---- st2 is (i + j + 2) - (len + k).

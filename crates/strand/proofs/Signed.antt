@@ -16,9 +16,9 @@ use Rattle.floats.proofs.Whole.{Is, is-as, is-sub}
 use Rattle.letters.specs.Place.{Place}
 use Rattle.scans.specs.declared.Carry.{Carry}
 use Rattle.scans.specs.Counts.{lower}
-use Rattle.scans.specs.Carry.{noCarry}
-use Rattle.strand.specs.Step.{whole, countsWithout, lastWithout, isAt, st2}
-use Rattle.strand.specs.Kept.{carryWithout}
+use Rattle.scans.specs.Terms.Carry.{noCarry}
+use Rattle.strand.specs.Step.{whole, countsWithout, lastQWithout, isAt, st2}
+use Rattle.strand.specs.Terms.KnownCounts.{carryWithout}
 use Rattle.strand.proofs.Shape.{st2-is}
 
 -- ---- What is read back.
@@ -91,15 +91,15 @@ pub one-less-fits : (z : ℤ) → SFits w64 z → ltZ (pos 0) z ≡ true → SFi
 one-less-fits (pos n) f h = diff-fits n 1 (f .sfits) (omega arith)
 one-less-fits (negsuc n) f h = let e : _≡_ {A = ℕ} 0 1 = cc in absurd (let b : ⊥ = omega arith in b)
 
-pub last-falls : (z : ℤ) → ltZ (pos 0) z ≡ true → z -ℤ pos 1 ≡ lastWithout z
-last-falls (pos zero) h = let e : _≡_ {A = ℕ} 0 1 = cc in absurd (let b : ⊥ = omega arith in b)
-last-falls (pos (suc n)) h = rw (le-ltb (suc n) 1 (omega arith)) (ap pos (omega arith))
-last-falls (negsuc n) h = let e : _≡_ {A = ℕ} 0 1 = cc in absurd (let b : ⊥ = omega arith in b)
+pub last-q-falls : (z : ℤ) → ltZ (pos 0) z ≡ true → z -ℤ pos 1 ≡ lastQWithout z
+last-q-falls (pos zero) h = let e : _≡_ {A = ℕ} 0 1 = cc in absurd (let b : ⊥ = omega arith in b)
+last-q-falls (pos (suc n)) h = rw (le-ltb (suc n) 1 (omega arith)) (ap pos (omega arith))
+last-q-falls (negsuc n) h = let e : _≡_ {A = ℕ} 0 1 = cc in absurd (let b : ⊥ = omega arith in b)
 
-pub last-stays : (z : ℤ) → ltZ (pos 0) z ≡ false → z ≡ lastWithout z
-last-stays (pos zero) h = refl
-last-stays (pos (suc n)) h = absurd (let l : suc n ≤ 0 = ltb-false 0 (suc n) h in let b : ⊥ = omega arith in b)
-last-stays (negsuc n) h = refl
+pub last-q-stays : (z : ℤ) → ltZ (pos 0) z ≡ false → z ≡ lastQWithout z
+last-q-stays (pos zero) h = refl
+last-q-stays (pos (suc n)) h = absurd (let l : suc n ≤ 0 = ltb-false 0 (suc n) h in let b : ⊥ = omega arith in b)
+last-q-stays (negsuc n) h = refl
 
 -- ---- The scan counts and the carried scan without the oldest entry.
 module _ (counts : List ℕ) (e : Place) where

@@ -1,6 +1,4 @@
 pub mod Step
 pub mod Range
 pub mod ScanFind
-pub mod Kept
-pub mod Held
-pub mod Running
+pub mod Terms

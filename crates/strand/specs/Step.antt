@@ -42,10 +42,10 @@ countsWithout (pos zero) counts e = lower counts e
 countsWithout (pos (suc j)) counts e = counts
 countsWithout (negsuc j) counts e = counts
 
-abbrev pub lastWithout : ℤ → ℤ
-lastWithout (pos zero) = pos zero
-lastWithout (pos (suc j)) = pos j
-lastWithout (negsuc j) = negsuc j
+abbrev pub lastQWithout : ℤ → ℤ
+lastQWithout (pos zero) = pos zero
+lastQWithout (pos (suc j)) = pos j
+lastQWithout (negsuc j) = negsuc j
 
 abbrev pub withoutOldest : Setup → Run → List Place → Run
 withoutOldest S a [] = a
@@ -56,7 +56,7 @@ withoutOldest S a (e ∷ q) =
       counts = countsWithout (a .last-q) (a .counts) e;
       start = a .start;
       end = a .end;
-      last-q = lastWithout (a .last-q);
+      last-q = lastQWithout (a .last-q);
       saved = a .saved;
     }
 

@@ -1,4 +1,12 @@
-// One strand: the run over its letters and the intervals that it saves.
+// One strand: the run over its letters and the intervals that it saves. What the Rust's `inner_process` became:
+//
+// | the Rust | here |
+// |---|---|
+// | its locals, the window's ends | `State`: the rolling k-mer, the next letter, `Window` and `Open` |
+// | a turn of its loop up to the new entry | `State::enter`, with `Window::make_room` and `Window::join` |
+// | the tests before a search | `State::is_searched`, `State::look` |
+// | what follows a search | `State::passed`, `State::extended`, `State::answered` |
+// | its loop | `skim` over letters that are not searched from, in `until_scan` over letters without a backward scan, in `inner_process` |
 
 ghost use mathlib.Core.Path.{_≡_};
 ghost use mathlib.Core.Bool.{true};
@@ -7,20 +15,22 @@ ghost use Prim.Native.Nat.{_+_, _-_, _/_, _^_, _<_, _≤_};
 ghost use lib.ListN.{length, getD, replicate};
 ghost use lib.IntN.{pos, _-ℤ_};
 ghost use lib.Signed.{leZ};
+ghost use lib.Ieee.{Float};
 ghost use Rattle.letters.specs.Place.{plain};
 ghost use Rattle.letters.specs.Entry.{decode};
+ghost use Rattle.letters.specs.Rolling.{entryOf};
 ghost use Rattle.intervals.specs.Interval.{Interval};
-ghost use Rattle.intervals.specs.Rows.{rows};
 ghost use Rattle.scans.specs.Setup.{setupOf};
 ghost use Rattle.scans.specs.Counts.{raise, lower};
-ghost use Rattle.scans.specs.Window.{findOf, window, Windowed};
-ghost use Rattle.scans.specs.Parts.{Queued};
-ghost use Rattle.strand.specs.Step.{whole, lastWithout, isAt, st2, startAfter, saveFrom, savedAfter, intervalsOf};
-ghost use Rattle.strand.specs.Held.{heldBy, sumLess, sumMore, Left, Joined, triedBy, Extended};
-ghost use Rattle.strand.specs.Held.{lastBy, Found, Saving, unread, noInterval, readOn, PartLent, StrandLent};
-ghost use Rattle.strand.specs.Held.{isSearched, Looks, Read, Skimmed};
-ghost use Rattle.strand.specs.Kept.{Passing, Passes, Clearing, extendedOf, answeredBy};
-ghost use Rattle.strand.specs.Running.{Before, Reached, ScanAnswered, begun};
+ghost use Rattle.scans.specs.Terms.Window.{findOf, window, Windowed};
+ghost use Rattle.scans.specs.Terms.Parts.{Queued};
+ghost use Rattle.strand.specs.Step.{whole, lastQWithout, isAt, st2, startAfter, saveFrom, savedAfter};
+ghost use Rattle.strand.specs.Terms.KnownCounts.{KnownCounts, Passing, Passes, Clearing, sought, extendedOf, answeredBy};
+ghost use Rattle.strand.specs.Terms.Entering.{held, newestOf, sumLess, sumMore, Left, Joined, Next, Enters};
+ghost use Rattle.strand.specs.Terms.Searching.{triedBy, Extended, isSearched, Looks};
+ghost use Rattle.strand.specs.Terms.Finding.{lastQBy, savedIn, Found, Saving, TakesFind, PassedOn};
+ghost use Rattle.strand.specs.Terms.ReadingOn.{unread, Read, Skimmed};
+ghost use Rattle.strand.specs.Terms.Running.{PartLent, StrandLent, Before, Reached, StrandList};
 
 // ---- The window.
 
@@ -28,7 +38,7 @@ ghost use Rattle.strand.specs.Running.{Before, Reached, ScanAnswered, be
 // Unless `live`, all scan counts are 0; `carry` is the forward scan from last_q on.
 struct Window {
     sum: f64,
-    last: i64,
+    last_q: i64,
     head: usize,
     len: usize,
     live: bool,
@@ -36,7 +46,7 @@ struct Window {
 }
 
 // The sum without an entry that leaves: if plain, the ln entry of its count leaves the sum, and the count falls.
-fn sum_without(sum: f64, counts: &mut [u16], ln: &[f64], entry: u32) -> f64
+fn sum_without(sum: f64, entry: u32, ln: &[f64], counts: &mut [u16]) -> f64
     requires { ⌜ (entry / 2 < length (now counts)) × (getD (now counts) (entry / 2) 0 < length (now ln))
         × (decode entry ≡ plain (entry / 2) → 0 < getD (now counts) (entry / 2) 0) ⌝ }
     ensures { λ r. ⌜ (r ≡ sumLess (now (ln .entry)) (now (counts .entry)) sum (decode entry))
@@ -52,7 +62,7 @@ fn sum_without(sum: f64, counts: &mut [u16], ln: &[f64], entry: u32) -> f64
 }
 
 // The sum with an entry that joins: if plain, its count rises, and the ln entry of the count is added.
-fn sum_with(sum: f64, counts: &mut [u16], ln: &[f64], entry: u32) -> f64
+fn sum_with(sum: f64, entry: u32, ln: &[f64], counts: &mut [u16]) -> f64
     requires { ⌜ (entry / 2 < length (now counts)) × (getD (now counts) (entry / 2) 0 < 65535)
         × (getD (now counts) (entry / 2) 0 + 1 < length (now ln)) ⌝ }
     ensures { λ r. ⌜ (r ≡ sumMore (now (ln .entry)) (now (counts .exit)) sum (decode entry))
@@ -66,31 +76,32 @@ fn sum_with(sum: f64, counts: &mut [u16], ln: &[f64], entry: u32) -> f64
 }
 
 // last_q without the oldest entry.
-fn last_without(last: i64) -> i64
-    ensures { λ r. ⌜ r ≡ lastWithout last ⌝ }
+fn last_q_without(last_q: i64) -> i64
+    ensures { λ r. ⌜ r ≡ lastQWithout «last_q» ⌝ }
 {
-    if last > 0 { last - 1 } else { last }
-}
-
-// last_q as an index; 0 where there is none.
-fn last_index(last: i64) -> usize
-    ensures { λ r. ⌜ r ≡ whole last ⌝ }
-{
-    if last < 0 {
-        return 0;
-    }
-    last as usize
+    if last_q > 0 { last_q - 1 } else { last_q }
 }
 
 impl Window {
+    // last_q as an index; 0 where there is none.
+    fn last_q_index(self) -> usize
+        ensures { λ r. ⌜ r ≡ whole (self .«last_q») ⌝ }
+    {
+        let last_q = self.last_q;
+        if last_q < 0 {
+            return 0;
+        }
+        last_q as usize
+    }
+
     // The oldest entry leaves a full queue; last_q = 0 lowers its scan count, and ends a carried scan, which began there.
     fn leave(
         mut self,
         p: scans::Params,
+        ln: &[f64],
         queue: &[u32],
         window_counts: &mut [u16],
         scan_counts: &mut [u16],
-        ln: &[f64],
     ) -> Self
         requires { ⌜ (self .len ≡ p .«window_size») × (length (now «scan_counts») ≡ 4 ^ p .kmer) ⌝ }
         requires { ⌜ Windowed p (now queue) (self .head) (self .len) (now «window_counts») (length (now ln)) ⌝ }
@@ -98,14 +109,14 @@ impl Window {
             (now («window_counts» .exit)) (now («scan_counts» .exit)) ⌝ }
     {
         let head = self.head;
-        let last = self.last;
+        let last_q = self.last_q;
         let entry = queue[head];
-        self.sum = sum_without(self.sum, window_counts, ln, entry);
-        if last == 0 {
+        self.sum = sum_without(self.sum, entry, ln, window_counts);
+        if last_q == 0 {
             scans::lower_entry(scan_counts, entry);
             self.carry = scans::Carry::none();
         }
-        self.last = last_without(last);
+        self.last_q = last_q_without(last_q);
         self.head = scans::ring_index(p.window_size, head, 1);
         self.len -= 1;
         self
@@ -115,10 +126,10 @@ impl Window {
     fn make_room(
         self,
         p: scans::Params,
+        ln: &[f64],
         queue: &[u32],
         window_counts: &mut [u16],
         scan_counts: &mut [u16],
-        ln: &[f64],
     ) -> Self
         requires { ⌜ length (now «scan_counts») ≡ 4 ^ p .kmer ⌝ }
         requires { ⌜ Windowed p (now queue) (self .head) (self .len) (now «window_counts») (length (now ln)) ⌝ }
@@ -126,7 +137,7 @@ impl Window {
             (now («window_counts» .exit)) (now («scan_counts» .exit)) ⌝ }
     {
         if self.len == p.window_size {
-            return self.leave(p, queue, window_counts, scan_counts, ln);
+            return self.leave(p, ln, queue, window_counts, scan_counts);
         }
         self
     }
@@ -135,10 +146,10 @@ impl Window {
     fn join(
         mut self,
         p: scans::Params,
+        entry: u32,
+        ln: &[f64],
         queue: &mut [u32],
         window_counts: &mut [u16],
-        ln: &[f64],
-        entry: u32,
     ) -> Self
         requires { ⌜ (self .len < p .«window_size») × (entry / 2 < 4 ^ p .kmer) ⌝ }
         requires { ⌜ Windowed p (now queue) (self .head) (self .len) (now «window_counts») (length (now ln)) ⌝ }
@@ -147,7 +158,7 @@ impl Window {
     {
         let i = scans::ring_index(p.window_size, self.head, self.len);
         queue[i] = entry;
-        self.sum = sum_with(self.sum, window_counts, ln, entry);
+        self.sum = sum_with(self.sum, entry, ln, window_counts);
         self.len += 1;
         self
     }
@@ -161,63 +172,57 @@ impl Window {
         f: &[f64],
         scan_counts: &mut [u16],
     ) -> Self
-        requires { ⌜ (0 < self .len) × (self .len ≤ p .«window_size») × (p .«window_size» ≤ 65535) × (p .«window_size» < length (now ln)) × (p .«window_size» < length (now f)) × (entry / 2 < length (now «scan_counts»)) ⌝ }
-        requires { ⌜ Passing self entry (now «scan_counts») ⌝ }
-        ensures { λ r. ⌜ Passes (setupOf p (now (ln .entry)) (now (f .entry))) self (decode entry) r (now («scan_counts» .entry)) (now («scan_counts» .exit)) ⌝ }
+        requires { ⌜ Passing p self entry (length (now ln)) (length (now f)) (now «scan_counts») ⌝ }
+        ensures { λ r. ⌜ Passes (setupOf p (now (ln .entry)) (now (f .entry))) self (decode entry) r
+            (now («scan_counts» .entry)) (now («scan_counts» .exit)) ⌝ }
     {
         if self.carry.on {
-            let l = self.len - last_index(self.last);
+            let l = self.len - self.last_q_index();
             self.carry = self.carry.next(p, l, entry, ln, f, scan_counts);
         }
         self
     }
 
-    // A find by extension, at the oldest entry.
+    // The window with the scan counts that a find by extension leaves.
     fn extended(mut self) -> Self
-        ensures { λ r. ⌜ r ≡ lastBy (extendedOf self .window) (findOf 1) ⌝ }
+        ensures { λ r. ⌜ r ≡ extendedOf self .window ⌝ }
     {
         self.live = true;
         self.carry = scans::Carry::none();
-        self.last = 0;
         self
     }
 
-    // Clears the scan counts, and answers last_q as an index.
-    fn cleared(self, queue: &[u32], scan_counts: &mut [u16]) -> usize
-        requires { ⌜ Queued (now queue) (self .head) (self .len) (length (now «scan_counts»)) ⌝ }
-        requires { ⌜ Clearing self (window (now queue) (self .head) (self .len)) (now «scan_counts») ⌝ }
-        ensures { λ r. ⌜ (r ≡ whole (self .last)) × (now («scan_counts» .exit) ≡ replicate (length (now («scan_counts» .entry))) 0) ⌝ }
-    {
-        let head = self.head;
-        let len = self.len;
-        let last = last_index(self.last);
-        if self.live {
-            scans::clear_from(queue, head, len, last, scan_counts);
-            return last;
-        }
-        last
-    }
-
-    // last_q after a search: r is one past the index found, 0 for none.
-    fn found(mut self, r: usize) -> Self
-        requires { ⌜ r ≤ 65535 ⌝ }
-        ensures { λ w. ⌜ w ≡ lastBy self (findOf r) ⌝ }
-    {
-        if r == 0 {
-            return self;
-        }
-        self.last = (r - 1) as i64;
-        self
-    }
-
-    // What a backward scan found, with the scan that it left to carry on.
+    // The window with the scan counts that a backward scan leaves: `found` is one past the index that it found, 0 for none.
     fn answered(mut self, found: usize, carry: scans::Carry) -> Self
-        requires { ⌜ found ≤ 65535 ⌝ }
-        ensures { λ r. ⌜ r ≡ lastBy (answeredBy self found carry .window) (findOf found) ⌝ }
+        ensures { λ r. ⌜ r ≡ answeredBy self found carry .window ⌝ }
     {
         self.live = found != 0;
         self.carry = carry;
-        self.found(found)
+        self
+    }
+
+    // Clears the scan counts.
+    fn clear(self, queue: &[u32], scan_counts: &mut [u16])
+        requires { ⌜ Queued (now queue) (self .head) (self .len) (length (now «scan_counts»)) ⌝ }
+        requires { ⌜ Clearing self (window (now queue) (self .head) (self .len)) (now «scan_counts») ⌝ }
+        ensures { λ _. ⌜ now («scan_counts» .exit) ≡ replicate (length (now («scan_counts» .entry))) 0 ⌝ }
+    {
+        if self.live {
+            let from = self.last_q_index();
+            scans::clear_from(queue, self.head, self.len, from, scan_counts);
+        }
+    }
+
+    // last_q after a search: `found` is one past the index found, 0 for none.
+    fn found(mut self, found: usize) -> Self
+        requires { ⌜ found ≤ 65535 ⌝ }
+        ensures { λ w. ⌜ w ≡ lastQBy self (findOf found) ⌝ }
+    {
+        if found == 0 {
+            return self;
+        }
+        self.last_q = (found - 1) as i64;
+        self
     }
 }
 
@@ -252,22 +257,11 @@ fn start_after(start: i64, end: i64, s: i64) -> i64
 }
 
 impl Open {
-    // No interval.
-    fn new() -> Self
-        ensures { λ r. ⌜ r ≡ noInterval ⌝ }
-    {
-        Open {
-            start: -1,
-            end: -1,
-            count: 0,
-        }
-    }
-
     // The interval is saved if its start is not below 0; answers how many are saved then.
-    fn close(self, starts: &mut [u32], ends: &mut [u32]) -> usize
-        requires { ⌜ Saving self (now starts) (now ends) ⌝ }
-        ensures { λ r. ⌜ rows r (now (starts .exit)) (now (ends .exit))
-            ≡ saveFrom (rows (self .count) (now (starts .entry)) (now (ends .entry))) (self .start) (self .end) ⌝ }
+    fn close(self, list: &mut [[u32; 2]]) -> usize
+        requires { ⌜ Saving self (now list) ⌝ }
+        ensures { λ r. ⌜ (savedIn r (now (list .exit)) ≡ saveFrom (savedIn (self .count) (now (list .entry))) (self .start) (self .end))
+            × (r ≤ length (now (list .exit))) ⌝ }
     {
         let start = self.start;
         let end = self.end;
@@ -275,42 +269,34 @@ impl Open {
         if start < 0 {
             return count;
         }
-        intervals::save_interval(starts, ends, count, start as u32, end as u32)
+        intervals::save_interval(list, count, start as u32, end as u32)
     }
 
     // The same before a find from letter s on, unless s lies before the end.
-    fn close_before(self, s: i64, starts: &mut [u32], ends: &mut [u32]) -> usize
-        requires { ⌜ Saving self (now starts) (now ends) ⌝ }
-        ensures { λ r. ⌜ rows r (now (starts .exit)) (now (ends .exit))
-            ≡ savedAfter (rows (self .count) (now (starts .entry)) (now (ends .entry))) (self .start) (self .end) s ⌝ }
+    fn close_before(self, s: i64, list: &mut [[u32; 2]]) -> usize
+        requires { ⌜ Saving self (now list) ⌝ }
+        ensures { λ r. ⌜ (savedIn r (now (list .exit)) ≡ savedAfter (savedIn (self .count) (now (list .entry))) (self .start) (self .end) s)
+            × (r ≤ length (now (list .exit))) ⌝ }
     {
         let end = self.end;
         if s < end {
             return self.count;
         }
-        self.close(starts, ends)
+        self.close(list)
     }
 
     // The interval after a search at letter i: r is one past the index found in a window of `len` entries, 0 for none.
-    fn found(
-        mut self,
-        k: usize,
-        i: usize,
-        len: usize,
-        r: usize,
-        starts: &mut [u32],
-        ends: &mut [u32],
-    ) -> Self
+    fn found(mut self, k: usize, i: usize, len: usize, r: usize, list: &mut [[u32; 2]]) -> Self
         requires { ⌜ (i < 2147483648) × (len < 65536) × (r ≤ len) × (k ≤ 12) ⌝ }
-        requires { ⌜ Saving self (now starts) (now ends) ⌝ }
-        ensures { λ o. ⌜ Found k i len self o (findOf r) (rows (self .count) (now (starts .entry)) (now (ends .entry)))
-            (rows (o .count) (now (starts .exit)) (now (ends .exit))) ⌝ }
+        requires { ⌜ Saving self (now list) ⌝ }
+        ensures { λ o. ⌜ Found k i len self o (findOf r) (savedIn (self .count) (now (list .entry)))
+            (savedIn (o .count) (now (list .exit))) × (o .count ≤ length (now (list .exit))) ⌝ }
     {
         if r == 0 {
             return self;
         }
         let s = first_letter(i, len, r, k);
-        let count = self.close_before(s, starts, ends);
+        let count = self.close_before(s, list);
         self.count = count;
         self.start = start_after(self.start, self.end, s);
         self.end = (i + 1) as i64;
@@ -318,19 +304,22 @@ impl Open {
     }
 }
 
-// ---- A letter that is searched from.
+// ---- The state of a run.
+
+// What moves on letter by letter: the next letter i, the k-mer of the letters read, the window, and the interval in hand.
+// At letter i itself, once that has entered the window, the k-mer is that of letter i.
+struct State {
+    kmer: letters::Kmer,
+    i: usize,
+    window: Window,
+    hand: Open,
+}
 
 // What a letter leads to: nothing more, a find by extension, or the backward scan.
 enum Look {
     Pass,
     Extension,
     Scan,
-}
-
-// The window and the interval in hand.
-struct State {
-    window: Window,
-    hand: Open,
 }
 
 // Whether a signed number is i.
@@ -350,61 +339,175 @@ fn is_past(start: i64, i: usize, len: usize) -> bool
 }
 
 impl State {
+    // No letter is read.
+    fn new() -> Self
+        ensures { λ r. ⌜ r ≡ unread ⌝ }
+    {
+        State {
+            kmer: letters::Kmer::new(),
+            i: 0,
+            window: Window {
+                sum: 0.0,
+                last_q: -1,
+                head: 0,
+                len: 0,
+                live: false,
+                carry: scans::Carry::none(),
+            },
+            hand: Open {
+                start: -1,
+                end: -1,
+                count: 0,
+            },
+        }
+    }
+
+    // Letter i enters the window: with a full queue the oldest entry leaves, then the new entry joins.
+    fn enter(
+        mut self,
+        p: scans::Params,
+        codes: &[u8],
+        ln: &[f64],
+        queue: &mut [u32],
+        window_counts: &mut [u16],
+        scan_counts: &mut [u16],
+    ) -> Self
+        requires { ⌜ Next p (now codes) (length (now ln)) self (now queue) (now «window_counts») (length (now «scan_counts»)) ⌝ }
+        ensures { λ r. ⌜ ((f : List Float) → KnownCounts (setupOf p (now (ln .entry)) f)
+            (window (now (queue .entry)) (self .window .head) (self .window .len)) (self .window) (now («scan_counts» .entry))
+            → Enters p (now (codes .entry)) (now (ln .entry)) f self r (now (queue .entry)) (now («scan_counts» .entry))
+            (now (queue .exit)) (now («window_counts» .exit)) (now («scan_counts» .exit))) ⌝ }
+    {
+        let i = self.i;
+        self.kmer = self.kmer.next(codes[i], p.kmer);
+        let entry = self.kmer.entry(p.kmer);
+        let room = self.window
+            .make_room(p, ln, queue, window_counts, scan_counts);
+        self.window = room.join(p, entry, ln, queue, window_counts);
+        self
+    }
+
+    // Whether letter i is searched from: its place is plain, and its count at least min_start_cnt.
+    fn is_searched(self, p: scans::Params, window_counts: &[u16]) -> bool
+        requires { ⌜ (self .kmer .value < 16777216) × (entryOf (p .kmer) (self .kmer) / 2 < length (now «window_counts»)) ⌝ }
+        ensures { λ r. ⌜ r ≡ isSearched (p .«min_start_cnt») (now («window_counts» .entry)) (newestOf p self) ⌝ }
+    {
+        let entry = self.kmer.entry(p.kmer);
+        if entry & 1 != 0 {
+            return false;
+        }
+        let kmer = (entry >> 1) as usize;
+        window_counts[kmer] >= p.min_start_cnt
+    }
+
+    // Letter i is no find: a carried scan goes on to it.
+    fn passed(mut self, p: scans::Params, ln: &[f64], f: &[f64], scan_counts: &mut [u16]) -> Self
+        requires { ⌜ (self .kmer .value < 16777216) × (self .i < 2147483648) ⌝ }
+        requires { ⌜ Passing p (self .window) (entryOf (p .kmer) (self .kmer)) (length (now ln)) (length (now f)) (now «scan_counts») ⌝ }
+        ensures { λ r. ⌜ PassedOn p (now (ln .entry)) (now (f .entry)) self r (now («scan_counts» .entry)) (now («scan_counts» .exit)) ⌝ }
+    {
+        let entry = self.kmer.entry(p.kmer);
+        self.window = self.window.passed(p, entry, ln, f, scan_counts);
+        self.i += 1;
+        self
+    }
+
+    // Letter i is settled: the window with the scan counts that the search left, and one past the index found, 0 for none.
+    fn settled(
+        mut self,
+        p: scans::Params,
+        window: Window,
+        found: usize,
+        list: &mut [[u32; 2]],
+    ) -> Self
+        requires { ⌜ (self .i < 2147483648) × (window .len < 65536) × (found ≤ window .len) × (p .kmer ≤ 12) ⌝ }
+        requires { ⌜ Saving (self .hand) (now list) ⌝ }
+        ensures { λ a. ⌜ TakesFind (p .kmer) self (sought window found) a
+            (savedIn (self .hand .count) (now (list .entry))) (savedIn (a .hand .count) (now (list .exit)))
+            × (a .hand .count ≤ length (now (list .exit))) ⌝ }
+    {
+        self.hand = self.hand.found(p.kmer, self.i, window.len, found, list);
+        self.window = window.found(found);
+        self.i += 1;
+        self
+    }
+
+    // Letter i is a find by extension, at the oldest entry.
+    fn extended(self, p: scans::Params, list: &mut [[u32; 2]]) -> Self
+        requires { ⌜ (self .i < 2147483648) × (self .window .len < 65536) × (1 ≤ self .window .len) × (p .kmer ≤ 12) ⌝ }
+        requires { ⌜ Saving (self .hand) (now list) ⌝ }
+        ensures { λ a. ⌜ TakesFind (p .kmer) self (extendedOf (self .window)) a
+            (savedIn (self .hand .count) (now (list .entry))) (savedIn (a .hand .count) (now (list .exit)))
+            × (a .hand .count ≤ length (now (list .exit))) ⌝ }
+    {
+        self.settled(p, self.window.extended(), 1, list)
+    }
+
+    // The backward scan from letter i is answered.
+    fn answered(self, p: scans::Params, r: scans::Scanned, list: &mut [[u32; 2]]) -> Self
+        requires { ⌜ (self .i < 2147483648) × (self .window .len < 65536) × (r .found ≤ self .window .len) × (p .kmer ≤ 12) ⌝ }
+        requires { ⌜ Saving (self .hand) (now list) ⌝ }
+        ensures { λ a. ⌜ TakesFind (p .kmer) self (answeredBy (self .window) (r .found) (r .carry)) a
+            (savedIn (self .hand .count) (now (list .entry))) (savedIn (a .hand .count) (now (list .exit)))
+            × (a .hand .count ≤ length (now (list .exit))) ⌝ }
+    {
+        let found = r.found;
+        self.settled(p, self.window.answered(found, r.carry), found, list)
+    }
+
     // Whether extend is tried at letter i: i = end, window score > 0, and last_q = 0 or i - start >= len.
-    fn extend_tried(self, p: scans::Params, i: usize, f: &[f64]) -> bool
-        requires { ⌜ (i < 2147483648) × (self .window .len < length (now f)) × (self .window .len < 65536) ⌝ }
-        ensures { λ r. ⌜ r ≡ triedBy p (now (f .entry)) i self ⌝ }
+    fn extend_tried(self, p: scans::Params, f: &[f64]) -> bool
+        requires { ⌜ (self .i < 2147483648) × (self .window .len < length (now f)) × (self .window .len < 65536) ⌝ }
+        ensures { λ r. ⌜ r ≡ triedBy p (now (f .entry)) self ⌝ }
     {
         let len = self.window.len;
         let l = len as u32;
         let score = self.window.sum - f[len] - (l as f64) * p.score_threshold;
-        let due = is_at(self.window.last, 0) | is_past(self.hand.start, i, len);
-        is_at(self.hand.end, i) & ((score > 0.0) & due)
+        let due = is_at(self.window.last_q, 0) | is_past(self.hand.start, self.i, len);
+        is_at(self.hand.end, self.i) & ((score > 0.0) & due)
     }
 
-    // Extends from the k-mer of the newest entry if that is tried, and answers whether it succeeded.
-    fn extended(
+    // Extends from letter i's k-mer if that is tried, and answers whether it succeeded.
+    fn extends(
         self,
         p: scans::Params,
-        i: usize,
         kmer: u32,
         ln: &[f64],
         f: &[f64],
         scan_counts: &mut [u16],
     ) -> bool
-        requires { ⌜ (i < 2147483648) × (0 < self .window .len) × (self .window .len ≤ p .«window_size») × (p .«window_size» ≤ 65535)
+        requires { ⌜ (self .i < 2147483648) × (0 < self .window .len) × (self .window .len ≤ p .«window_size») × (p .«window_size» ≤ 65535)
             × (p .«window_size» < length (now ln)) × (p .«window_size» < length (now f)) × (kmer < length (now «scan_counts»)) ⌝ }
-        ensures { λ r. ⌜ Extended p (now (ln .entry)) (now (f .entry)) i self kmer (now («scan_counts» .entry)) r
+        ensures { λ r. ⌜ Extended p (now (ln .entry)) (now (f .entry)) self kmer (now («scan_counts» .entry)) r
             (now («scan_counts» .exit)) ⌝ }
     {
-        if self.extend_tried(p, i, f) {
+        if self.extend_tried(p, f) {
             return scans::extend(p, self.window.len, kmer, ln, f, scan_counts);
         }
         false
     }
 
-    // What the newest entry, which is searched from, leads to at letter i. An extension raises its scan count.
+    // What letter i, which is searched from, leads to. An extension raises its scan count.
     fn look(
         self,
         p: scans::Params,
-        i: usize,
-        entry: u32,
+        ln: &[f64],
+        f: &[f64],
         queue: &[u32],
         window_counts: &[u16],
         scan_counts: &mut [u16],
-        ln: &[f64],
-        f: &[f64],
     ) -> Look
-        requires { ⌜ (i < 2147483648) × (0 < self .window .len) × (entry / 2 < 4 ^ p .kmer) × (length (now «scan_counts») ≡ 4 ^ p .kmer) × (p .«window_size» < length (now f)) ⌝ }
-        requires { ⌜ Windowed p (now queue) (self .window .head) (self .window .len) (now «window_counts»)
-            (length (now ln)) ⌝ }
-        requires { ⌜ isSearched (p .«min_start_cnt») (now «window_counts») (decode entry) ≡ true ⌝ }
-        ensures { λ r. ⌜ ((saved : List Interval) → Looks (setupOf p (now (ln .entry)) (now (f .entry))) i
-            (heldBy (self .window) (self .hand) (now (queue .entry)) (now («scan_counts» .entry)) saved) (decode entry)
+        requires { ⌜ (self .i < 2147483648) × (0 < self .window .len) × (self .kmer .value < 16777216)
+            × (entryOf (p .kmer) (self .kmer) / 2 < 4 ^ p .kmer) × (length (now «scan_counts») ≡ 4 ^ p .kmer)
+            × (p .«window_size» < length (now f)) ⌝ }
+        requires { ⌜ Windowed p (now queue) (self .window .head) (self .window .len) (now «window_counts») (length (now ln)) ⌝ }
+        requires { ⌜ isSearched (p .«min_start_cnt») (now «window_counts») (newestOf p self) ≡ true ⌝ }
+        ensures { λ r. ⌜ ((saved : List Interval) → Looks (setupOf p (now (ln .entry)) (now (f .entry))) (self .i)
+            (held self (now (queue .entry)) (now («scan_counts» .entry)) saved) (newestOf p self)
             r (now («scan_counts» .exit))) ⌝ }
     {
-        let kmer = entry >> 1;
-        if self.extended(p, i, kmer, ln, f, scan_counts) {
+        let kmer = self.kmer.entry(p.kmer) >> 1;
+        if self.extends(p, kmer, ln, f, scan_counts) {
             return Look::Extension;
         }
         if scans::if_backward(
@@ -421,212 +524,89 @@ impl State {
     }
 }
 
-// ---- Reading on.
+// ---- The run.
 
-// How far a strand is read: the next letter i, with the k-mer and the window before it; or a letter i that is searched from, with those that its place, `entry`, has joined.
-struct Reading {
-    kmer: letters::Kmer,
-    window: Window,
-    entry: u32,
-    i: usize,
-}
-
-impl Reading {
-    // No letter is read.
-    fn new() -> Self
-        ensures { λ r. ⌜ r ≡ unread ⌝ }
-    {
-        Reading {
-            kmer: letters::Kmer::new(),
-            window: Window {
-                sum: 0.0,
-                last: -1,
-                head: 0,
-                len: 0,
-                live: false,
-                carry: scans::Carry::none(),
-            },
-            entry: 1,
-            i: 0,
-        }
-    }
-
-    // The next letter, with the window that the search left.
-    fn after(mut self, window: Window) -> Self
-        requires { ⌜ self .i < 2147483648 ⌝ }
-        ensures { λ r. ⌜ r ≡ readOn self window ⌝ }
-    {
-        self.window = window;
-        self.i += 1;
-        self
-    }
-}
-
-// Whether an entry is searched from: it is plain, and its count at least min_start_cnt.
-fn is_searched(p: scans::Params, entry: u32, window_counts: &[u16]) -> bool
-    requires { ⌜ entry / 2 < length (now «window_counts») ⌝ }
-    ensures { λ r. ⌜ r ≡ isSearched (p .«min_start_cnt») (now («window_counts» .entry)) (decode entry) ⌝ }
-{
-    if entry & 1 != 0 {
-        return false;
-    }
-    let kmer = (entry >> 1) as usize;
-    window_counts[kmer] >= p.min_start_cnt
-}
-
-// Reads on to the next letter that is searched from, or to the end.
+// Goes on to the next letter that is searched from, which enters the window, or to the end.
 fn skim(
     p: scans::Params,
-    at: Reading,
+    from: State,
     codes: &[u8],
     ln: &[f64],
     f: &[f64],
     queue: &mut [u32],
     window_counts: &mut [u16],
     scan_counts: &mut [u16],
-) -> Reading
-    requires { ⌜ (p .kmer ≤ 12) × (length (now codes) < 2147483648) × (p .«window_size» < length (now f)) × (length (now «scan_counts») ≡ 4 ^ p .kmer) ⌝ }
-    requires { ⌜ Read p (now codes) (now ln) (now f) (at .i) (at .kmer) (at .window) (now queue) (now «window_counts») (now «scan_counts») ⌝ }
-    ensures { λ r. ⌜ Skimmed p (now (codes .entry)) (now (ln .entry)) (now (f .entry)) at r
-        (now (queue .entry)) (now («scan_counts» .entry)) (now (queue .exit)) (now («window_counts» .exit)) (now («scan_counts» .exit)) ⌝ }
+) -> State
+    requires { ⌜ (p .kmer ≤ 12) × (length (now codes) < 2147483648) × (p .«window_size» < length (now f))
+        × (length (now «scan_counts») ≡ 4 ^ p .kmer) ⌝ }
+    requires { ⌜ Read p (now codes) (now ln) (now f) from (now queue) (now «window_counts») (now «scan_counts») ⌝ }
+    ensures { λ r. ⌜ Skimmed p (now (codes .entry)) (now (ln .entry)) (now (f .entry)) from r (now (queue .entry))
+        (now («scan_counts» .entry)) (now (queue .exit)) (now («window_counts» .exit)) (now («scan_counts» .exit)) ⌝ }
 {
-    let mut kmer = at.kmer;
-    let mut window = at.window;
-    let mut i = at.i;
-    while i < codes.len() {
-        kmer = kmer.next(codes[i], p.kmer);
-        let entry = kmer.entry(p.kmer);
-        let room = window.make_room(p, queue, window_counts, scan_counts, ln);
-        window = room.join(p, queue, window_counts, ln, entry);
-        if is_searched(p, entry, window_counts) {
-            return Reading {
-                kmer: kmer,
-                window: window,
-                entry: entry,
-                i: i,
-            };
+    let mut st = from;
+    while st.i < codes.len() {
+        st = st.enter(p, codes, ln, queue, window_counts, scan_counts);
+        if st.is_searched(p, window_counts) {
+            return st;
         }
-        window = window.passed(p, entry, ln, f, scan_counts);
-        i += 1;
+        st = st.passed(p, ln, f, scan_counts);
     }
-    Reading {
-        kmer: kmer,
-        window: window,
-        entry: 1,
-        i: i,
-    }
-}
-
-// ---- The run.
-
-// Where a run stands: how far it has read, and the interval in hand. Where a backward scan is due, `last` is last_q as an index.
-struct Going {
-    at: Reading,
-    hand: Open,
-    last: usize,
-}
-
-impl Going {
-    // The state after letter i, whose backward scan is answered.
-    fn answered(
-        self,
-        p: scans::Params,
-        r: scans::Scanned,
-        starts: &mut [u32],
-        ends: &mut [u32],
-    ) -> Self
-        requires { ⌜ (self .at .i < 2147483648) × (self .at .window .len < 65536) × (r .found ≤ self .at .window .len) × (p .kmer ≤ 12) ⌝ }
-        requires { ⌜ Saving (self .hand) (now starts) (now ends) ⌝ }
-        ensures { λ g. ⌜ ScanAnswered (p .kmer) self r g (now (starts .entry)) (now (ends .entry)) (now (starts .exit)) (now (ends .exit)) ⌝ }
-    {
-        let at = self.at;
-        let window = at.window;
-        let hand = self.hand;
-        let found = r.found;
-        let next = hand.found(p.kmer, at.i, window.len, found, starts, ends);
-        let after = at.after(window.answered(found, r.carry));
-        Going {
-            at: after,
-            hand: next,
-            last: 0,
-        }
-    }
+    st
 }
 
 // No letter is read, and the counts are cleared.
-fn begin(window_counts: &mut [u16], scan_counts: &mut [u16]) -> Going
-    ensures { λ r. ⌜ (r ≡ begun) × (now («window_counts» .exit) ≡ replicate (length (now («window_counts» .entry))) 0)
+fn begin(window_counts: &mut [u16], scan_counts: &mut [u16]) -> State
+    ensures { λ r. ⌜ (r ≡ unread) × (now («window_counts» .exit) ≡ replicate (length (now («window_counts» .entry))) 0)
         × (now («scan_counts» .exit) ≡ replicate (length (now («scan_counts» .entry))) 0) ⌝ }
 {
     buffers::clear(window_counts);
     buffers::clear(scan_counts);
-    let at = Reading::new();
-    let hand = Open::new();
-    Going {
-        at: at,
-        hand: hand,
-        last: 0,
-    }
+    State::new()
 }
 
-// Goes on with a run to the next letter whose backward scan is due, with cleared scan counts, or to the end.
+// Goes on to the next letter whose backward scan is due, with cleared scan counts, or to the end.
 fn until_scan(
     p: scans::Params,
-    from: Going,
+    from: State,
     codes: &[u8],
     ln: &[f64],
     f: &[f64],
     queue: &mut [u32],
     window_counts: &mut [u16],
     scan_counts: &mut [u16],
-    starts: &mut [u32],
-    ends: &mut [u32],
-) -> Going
-    requires { ⌜ PartLent p (length (now codes)) (length (now f)) (length (now «scan_counts»)) (length (now starts)) (length (now ends)) ⌝ }
-    requires { ⌜ Before p (now codes) (now ln) (now f) (from .at) (from .hand) (now queue) (now «window_counts») (now «scan_counts») (now starts) (now ends) ⌝ }
-    ensures { λ r. ⌜ Reached p (now (codes .entry)) (now (ln .entry)) (now (f .entry)) (from .at .i) r
-        (now (queue .exit)) (now («window_counts» .exit)) (now («scan_counts» .exit)) (now (starts .exit)) (now (ends .exit)) ⌝ }
+    list: &mut [[u32; 2]],
+) -> State
+    requires { ⌜ PartLent p (length (now codes)) (length (now f)) (length (now «scan_counts»)) (length (now list)) ⌝ }
+    requires { ⌜ Before p (now codes) (now ln) (now f) from (now queue) (now «window_counts») (now «scan_counts») (now list) ⌝ }
+    ensures { λ r. ⌜ Reached p (now (codes .entry)) (now (ln .entry)) (now (f .entry)) (from .i) r
+        (now (queue .exit)) (now («window_counts» .exit)) (now («scan_counts» .exit)) (now (list .exit)) ⌝ }
 {
-    let mut at = from.at;
-    let mut hand = from.hand;
+    let mut st = from;
     loop {
-        at = skim(p, at, codes, ln, f, queue, window_counts, scan_counts);
-        if at.i >= codes.len() {
-            return Going {
-                at: at,
-                hand: hand,
-                last: 0,
-            };
+        st = skim(p, st, codes, ln, f, queue, window_counts, scan_counts);
+        if st.i >= codes.len() {
+            return st;
         }
-        let window = at.window;
-        let st = State {
-            window: window,
-            hand: hand,
-        };
-        let look = st.look(p, at.i, at.entry, queue, window_counts, scan_counts, ln, f);
+        let look = st.look(p, ln, f, queue, window_counts, scan_counts);
         match look {
             Look::Scan => {
-                let last = window.cleared(queue, scan_counts);
-                return Going {
-                    at: at,
-                    hand: hand,
-                    last: last,
-                };
+                let window = st.window;
+                window.clear(queue, scan_counts);
+                return st;
             }
             Look::Extension => {
-                hand = hand.found(p.kmer, at.i, window.len, 1, starts, ends);
-                at = at.after(window.extended());
+                st = st.extended(p, list);
                 continue;
             }
             Look::Pass => {
-                at = at.after(window.passed(p, at.entry, ln, f, scan_counts));
+                st = st.passed(p, ln, f, scan_counts);
                 continue;
             }
         }
     }
 }
 
-// The intervals of a strand of codes, in the first entries of `starts` and `ends`; answers how many there are.
+// Takes a strand of codes, the tables and the lent buffers; writes the strand's intervals to the first entries of `list`, in order, and answers how many there are.
 pub fn inner_process(
     p: scans::Params,
     codes: &[u8],
@@ -636,45 +616,33 @@ pub fn inner_process(
     window_counts: &mut [u16],
     scan_counts: &mut [u16],
     candidates: &mut [scans::ForwardPosition],
-    starts: &mut [u32],
-    ends: &mut [u32],
+    list: &mut [[u32; 2]],
 ) -> usize
     requires { ⌜ StrandLent p (length (now codes)) (length (now ln)) (length (now f)) (length (now queue))
         (length (now «window_counts»)) (length (now «scan_counts»)) (length (now candidates))
-        (length (now starts)) (length (now ends)) ⌝ }
-    ensures { λ r. ⌜ rows r (now (starts .exit)) (now (ends .exit))
-        ≡ intervalsOf (setupOf p (now (ln .entry)) (now (f .entry))) (now (codes .entry)) ⌝ }
+        (length (now list)) ⌝ }
+    ensures { λ r. ⌜ StrandList (setupOf p (now (ln .entry)) (now (f .entry))) (now (codes .entry)) (now (list .exit)) r ⌝ }
 {
     let mut st = begin(window_counts, scan_counts);
     loop {
-        st = until_scan(
-            p,
-            st,
-            codes,
-            ln,
-            f,
-            queue,
-            window_counts,
-            scan_counts,
-            starts,
-            ends,
-        );
-        if st.at.i >= codes.len() {
-            return st.hand.close(starts, ends);
+        st = until_scan(p, st, codes, ln, f, queue, window_counts, scan_counts, list);
+        if st.i >= codes.len() {
+            return st.hand.close(list);
         }
+        let from = st.window.last_q_index();
         let r = scans::dust_backward(
             p,
-            st.at.window.carry,
-            st.last,
+            st.window.carry,
+            from,
             queue,
-            st.at.window.head,
-            st.at.window.len,
+            st.window.head,
+            st.window.len,
             window_counts,
             ln,
             f,
             scan_counts,
             candidates,
         );
-        st = st.answered(p, r, starts, ends);
+        st = st.answered(p, r, list);
     }
 }

@@ -1,5 +1,5 @@
 -- `push_nonempty` meets its contract: an interval with no letter is none.
-use mathlib.Core.Path.{sym, _∙_}
+use mathlib.Core.Path.{sym}
 use native.Mathlib.Omega.{arith}
 use borrow.Author.Needs.{needs}
 use Rattle.buffers.proofs.Put.{putAt-store, putAt-none}

@@ -5,7 +5,7 @@ use native.Mathlib.Omega.{arith}
 use borrow.Author.Needs.{needs}
 use lib.ListN.{length}
 use lib.Seq.{length-take-le}
-use Rattle.intervals.proofs.SaveSteps.{staying-within, save-absorbs, save-appends, save-length}
+use Rattle.intervals.proofs.SaveSteps.{save-absorbs, save-appends, save-length}
 use Rattle.intervals.proofs.save_interval.Statement.{statement}
 use Rattle.intervals.proofs.save_interval.Tie as tie
 

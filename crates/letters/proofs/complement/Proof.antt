@@ -5,9 +5,6 @@ use Rattle.letters.specs.Code.{complement}
 use Rattle.letters.proofs.complement.Statement.{statement}
 use Rattle.letters.proofs.complement.Tie as tie
 
-sub-result : tie.Need-sub-result
-sub-result c = search needs
-
 returns : tie.Need-returns
 unfolding complement
 returns c = simp (lt-ltb _ _ (c .if1 .taken))
@@ -17,4 +14,4 @@ unfolding complement
 returns-2 c = simp (le-ltb _ _ (c .if1 .left))
 
 pub complement-spec : {M : Type 1} → statement M
-complement-spec = tie.close (tie.spec sub-result returns returns-2)
+complement-spec = tie.close (tie.spec (λ c. search needs) returns returns-2)

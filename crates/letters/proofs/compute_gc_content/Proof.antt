@@ -16,30 +16,15 @@ abbrev μ-loop : tie.MeasureT-loop
 loop-holds : tie.Need-loop-holds Inv-loop μ-loop
 loop-holds c = let s = c .before .args .encoded .now in (search needs, tallied-none isAcgt s, tallied-none isGc s)
 
-shared-slice-read-c : tie.Need-shared-slice-read-c Inv-loop μ-loop
-shared-slice-read-c c = search needs
-
-cast-acgt : tie.Need-cast-acgt Inv-loop μ-loop
-cast-acgt c = search needs
-
 add-acgt : tie.Need-add-acgt Inv-loop μ-loop
 add-acgt c =
     let l = c .before .before .loop in
     omega (arith, l .inv .1 .few, bit-few (isAcgt (getD (c .before .before .before .before .args .encoded .now) (l .i) 0)))
 
-cast-gc : tie.Need-cast-gc Inv-loop μ-loop
-cast-gc c = search needs
-
 add-gc : tie.Need-add-gc Inv-loop μ-loop
 add-gc c =
     let l = c .before .before .loop in
     omega (arith, l .inv .2 .few, bit-few (isGc (getD (c .before .before .before .before .args .encoded .now) (l .i) 0)))
-
-add-i : tie.Need-add-i Inv-loop μ-loop
-add-i c = search needs
-
-loop-less : tie.Need-loop-less Inv-loop μ-loop
-loop-less c = search needs
 
 loop-again : tie.Need-loop-again Inv-loop μ-loop
 loop-again c =
@@ -51,12 +36,6 @@ returns : tie.Need-returns Inv-loop μ-loop
 returns c =
     let l = c .before .before .loop in
     gc-none (c .before .before .before .before .args .encoded .now) (l .i) (l .acgt) (l .gc) (omega arith) (l .inv .1) (l .inv .2) (c .if1 .taken)
-
-nearest-u64-to-f64-requires : tie.Need-nearest-u64-to-f64-requires Inv-loop μ-loop
-nearest-u64-to-f64-requires c κs = search needs
-
-nearest-u64-to-f64-requires-2 : tie.Need-nearest-u64-to-f64-requires-2 Inv-loop μ-loop
-nearest-u64-to-f64-requires-2 c κs = search needs
 
 returns-2 : tie.Need-returns-2 Inv-loop μ-loop
 returns-2 c =
@@ -72,15 +51,15 @@ compute-gc-content-spec =
     Inv-loop
     μ-loop
     loop-holds
-    shared-slice-read-c
-    cast-acgt
+    (λ c. search needs)
+    (λ c. search needs)
     add-acgt
-    cast-gc
+    (λ c. search needs)
     add-gc
-    add-i
-    loop-less
+    (λ c. search needs)
+    (λ c. search needs)
     loop-again
     returns
-    nearest-u64-to-f64-requires
-    nearest-u64-to-f64-requires-2
+    (λ c κs. search needs)
+    (λ c κs. search needs)
     returns-2)

@@ -16,24 +16,6 @@ Inv-loop sequence encoded₀ i₀ encoded i = (i ≤ length sequence) × (length
 abbrev μ-loop : tie.MeasureT-loop
 μ-loop sequence encoded₀ i₀ encoded i = length sequence - i
 
-loop-holds : tie.Need-loop-holds Inv-loop μ-loop
-loop-holds c = search needs
-
-shared-slice-read-encode : tie.Need-shared-slice-read-encode Inv-loop μ-loop
-shared-slice-read-encode c = search needs
-
-encode-requires : tie.Need-encode-requires Inv-loop μ-loop
-encode-requires c κs = search needs
-
-slice-write-encoded : tie.Need-slice-write-encoded Inv-loop μ-loop
-slice-write-encoded c = search needs
-
-add-i : tie.Need-add-i Inv-loop μ-loop
-add-i c = search needs
-
-loop-less : tie.Need-loop-less Inv-loop μ-loop
-loop-less c = search needs
-
 loop-again : tie.Need-loop-again Inv-loop μ-loop
 loop-again c =
     let l = c .before .before .before .loop in
@@ -45,9 +27,6 @@ loop-again c =
       simp length-set (omega arith),
       fill-store (codes s) (a .encoded .now) (omega arith) (l .i) _ (l .inv .3) 4 _ (omega arith) (c .encode .ensures ∙ sym (codes-at s (l .i) (omega arith))),
     )
-
-same-length : tie.Need-same-length Inv-loop μ-loop
-same-length c = search needs
 
 returns : tie.Need-returns Inv-loop μ-loop
 returns c =
@@ -62,12 +41,12 @@ encode-sequence-spec =
     (tie.spec
     Inv-loop
     μ-loop
-    loop-holds
-    shared-slice-read-encode
-    encode-requires
-    slice-write-encoded
-    add-i
-    loop-less
+    (λ c. search needs)
+    (λ c. search needs)
+    (λ c κs. search needs)
+    (λ c. search needs)
+    (λ c. search needs)
+    (λ c. search needs)
     loop-again
-    same-length
+    (λ c. search needs)
     returns)

@@ -17,30 +17,6 @@ Inv-loop encoded reversed₀ n i₀ reversed i =
 abbrev μ-loop : tie.MeasureT-loop
 μ-loop encoded reversed₀ n i₀ reversed i = n - i
 
-loop-holds : tie.Need-loop-holds Inv-loop μ-loop
-loop-holds c = search needs
-
-sub-complement : tie.Need-sub-complement Inv-loop μ-loop
-sub-complement c = search needs
-
-sub-complement-2 : tie.Need-sub-complement-2 Inv-loop μ-loop
-sub-complement-2 c = search needs
-
-shared-slice-read-complement : tie.Need-shared-slice-read-complement Inv-loop μ-loop
-shared-slice-read-complement c = search needs
-
-complement-requires : tie.Need-complement-requires Inv-loop μ-loop
-complement-requires c κs = search needs
-
-slice-write-reversed : tie.Need-slice-write-reversed Inv-loop μ-loop
-slice-write-reversed c = search needs
-
-add-i : tie.Need-add-i Inv-loop μ-loop
-add-i c = search needs
-
-loop-less : tie.Need-loop-less Inv-loop μ-loop
-loop-less c = search needs
-
 loop-again : tie.Need-loop-again Inv-loop μ-loop
 loop-again c =
     let l = c .before .before .before .loop in
@@ -55,9 +31,6 @@ loop-again c =
           (c .complement .ensures ∙ sym (reverseComplement-at s (l .i) (omega arith))),
     )
 
-same-length : tie.Need-same-length Inv-loop μ-loop
-same-length c = search needs
-
 returns : tie.Need-returns Inv-loop μ-loop
 returns c =
     let l = c .before .loop in
@@ -71,14 +44,14 @@ reverse-complement-encoded-sequence-spec =
     (tie.spec
     Inv-loop
     μ-loop
-    loop-holds
-    sub-complement
-    sub-complement-2
-    shared-slice-read-complement
-    complement-requires
-    slice-write-reversed
-    add-i
-    loop-less
+    (λ c. search needs)
+    (λ c. search needs)
+    (λ c. search needs)
+    (λ c. search needs)
+    (λ c κs. search needs)
+    (λ c. search needs)
+    (λ c. search needs)
+    (λ c. search needs)
     loop-again
-    same-length
+    (λ c. search needs)
     returns)

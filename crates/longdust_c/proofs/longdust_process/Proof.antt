@@ -7,37 +7,16 @@ mod Lts
 mod Tie
 
 abbrev call : tie.After-count-or-refusal → tie.After-process
-call c = c .before .before .before .before .before .before .before .before .before .before .before .before .before .before .before .before .before .before .before .before .before .before .before .before .before .before .before .before .before
-
-options-of-requires : tie.Need-options-of-requires
-options-of-requires c κs = search needs
-
-process-requires : tie.Need-process-requires
-process-requires c κs = search needs
-
-flag-of-requires : tie.Need-flag-of-requires
-flag-of-requires c κs = search needs
-
-count-or-refusal-requires : tie.Need-count-or-refusal-requires
-count-or-refusal-requires c κs = count-small (c .before .before .before .before .before .before .before .before .before .before .before .before .before .before .before .before .before .before .before .before .before .before .before .before .before .before .before .before .process .ensures)
-
-returns : tie.Need-returns
-returns c =
-    exported
-    (call c .process .ensures)
-    (call c .before .before .before .before .before .before .before .before .before .before .before .before .before .before .before .options-of .ensures)
-    (record { sfits = c .count-or-refusal .ok })
-    (c .count-or-refusal .ensures)
-    (c .before .flag-of .ensures)
+call c = c .before .before .before .before .before .before .before .before .before .before .before .before .before .before .before .before .before .before .before .before
 
 pub longdust-process-spec : {M : Type 1} → statement M
 longdust-process-spec =
     tie.close
     (tie.spec
-    options-of-requires
-    process-requires
-    flag-of-requires
-    count-or-refusal-requires
+    (λ c κs. search needs)
+    (λ c κs. search needs)
+    (λ c κs. search needs)
+    (λ c κs. count-small (c .before .before .before .before .before .before .before .before .before .before .before .before .before .before .before .before .before .before .before .process .ensures))
     (λ c. call c .process .kept .1 .1 .0)
     (λ c. call c .process .kept .1 .1 .1 .0)
     (λ c. call c .process .kept .1 .1 .1 .1 .0)
@@ -49,7 +28,6 @@ longdust-process-spec =
     (λ c. call c .process .kept .1 .1 .1 .1 .1 .1 .1 .1 .1 .1 .0)
     (λ c. call c .process .kept .1 .1 .1 .1 .1 .1 .1 .1 .1 .1 .1 .0)
     (λ c. call c .process .kept .1 .1 .1 .1 .1 .1 .1 .1 .1 .1 .1 .1 .0)
-    (λ c. call c .process .kept .1 .1 .1 .1 .1 .1 .1 .1 .1 .1 .1 .1 .1 .0)
-    (λ c. call c .process .kept .1 .1 .1 .1 .1 .1 .1 .1 .1 .1 .1 .1 .1 .1 .0)
-    (λ c. call c .process .kept .1 .1 .1 .1 .1 .1 .1 .1 .1 .1 .1 .1 .1 .1 .1 .0)
-    returns)
+    (λ c.
+    exported (call c .process .ensures) (call c .before .before .before .before .before .before .before .before .before .before .before .before .options-of .ensures) (record { sfits = c .count-or-refusal .ok }) (c .count-or-refusal .ensures)
+    (c .before .flag-of .ensures)))

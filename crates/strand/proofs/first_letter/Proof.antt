@@ -8,21 +8,6 @@ use Rattle.strand.proofs.Signed.{diff-fits, st2-once}
 use Rattle.strand.proofs.first_letter.Statement.{statement}
 use Rattle.strand.proofs.first_letter.Tie as tie
 
-add-result : tie.Need-add-result
-add-result c = search needs
-
-add-result-2 : tie.Need-add-result-2
-add-result-2 c = search needs
-
-cast-result : tie.Need-cast-result
-cast-result c = search needs
-
-add-result-3 : tie.Need-add-result-3
-add-result-3 c = search needs
-
-cast-result-2 : tie.Need-cast-result-2
-cast-result-2 c = search needs
-
 sub-result : tie.Need-sub-result
 sub-result c =
     let a = c .args in
@@ -38,4 +23,4 @@ returns c =
 pub first-letter-spec : {M : Type 1} → statement M
 first-letter-spec =
     tie.close
-    (tie.spec add-result add-result-2 cast-result add-result-3 cast-result-2 sub-result returns)
+    (tie.spec (λ c. search needs) (λ c. search needs) (λ c. search needs) (λ c. search needs) (λ c. search needs) sub-result returns)

@@ -1,4 +1,4 @@
-use mathlib.Core.Path.{_≡_, refl, sym, ap, _∙_}
+use mathlib.Core.Path.{_≡_, refl, sym, _∙_}
 use mathlib.Core.List.{List}
 use Prim.Native.Nat.{ℕ, _-_, _^_}
 use native.Mathlib.Omega.{arith}
@@ -6,9 +6,8 @@ use lib.ListN.{length}
 use lib.Ieee.{Float}
 use Rattle.scans.specs.declared.ForwardPosition.{ForwardPosition}
 use Rattle.scans.specs.declared.Params.{Params}
-use Rattle.strand.specs.declared.Going.{Going}
-use Rattle.strand.specs.declared.Reading.{Reading}
-use Rattle.strand.specs.Running.{Before}
+use Rattle.strand.specs.declared.State.{State}
+use Rattle.strand.specs.Terms.Running.{Before}
 use Rattle.strand.proofs.Running.{part-lent, inv-start, last-saved}
 use Rattle.strand.proofs.inner_process.Statement.{statement}
 use Rattle.strand.proofs.inner_process.Proof.Tie as tie
@@ -16,79 +15,81 @@ mod Lts
 mod Tie
 
 -- Where the run stands, and what that does not tell of the sizes of the lent slices.
-record Around (p : Params) (codes : List ℕ) (ln f : List Float) (candidates₀ : List ForwardPosition) (starts₀ ends₀ : List ℕ)
-    (queue window-counts scan-counts : List ℕ) (candidates : List ForwardPosition) (starts ends : List ℕ) (st : Going) : Type 0 where
-  inv : Before p codes ln f (st .at) (st .hand) queue window-counts scan-counts starts ends
+record Around (p : Params) (codes : List ℕ) (ln f : List Float) (candidates₀ : List ForwardPosition) (list₀ : List (List ℕ))
+    (queue window-counts scan-counts : List ℕ) (candidates : List ForwardPosition) (list : List (List ℕ)) (st : State) : Type 0 where
+  inv : Before p codes ln f st queue window-counts scan-counts list
   counts-are : length scan-counts ≡ 4 ^ p .kmer
   same-candidates : length candidates ≡ length candidates₀
-  same-starts : length starts ≡ length starts₀
-  same-ends : length ends ≡ length ends₀
+  same-list : length list ≡ length list₀
 
 abbrev Inv-loop : tie.InvT-loop
-Inv-loop p codes ln f queue₀ window-counts₀ scan-counts₀ candidates₀ starts₀ ends₀ st₀ queue window-counts scan-counts candidates starts ends st =
-    Around p codes ln f candidates₀ starts₀ ends₀ queue window-counts scan-counts candidates starts ends st
+Inv-loop p codes ln f queue₀ window-counts₀ scan-counts₀ candidates₀ list₀ st₀ queue window-counts scan-counts candidates list st =
+    Around p codes ln f candidates₀ list₀ queue window-counts scan-counts candidates list st
 
 abbrev μ-loop : tie.MeasureT-loop
-μ-loop p codes ln f queue₀ window-counts₀ scan-counts₀ candidates₀ starts₀ ends₀ st₀ queue window-counts scan-counts candidates starts ends st =
-    length codes - st .at .i
+μ-loop p codes ln f queue₀ window-counts₀ scan-counts₀ candidates₀ list₀ st₀ queue window-counts scan-counts candidates list st =
+    length codes - st .i
 
 abbrev start : tie.At-loop Inv-loop μ-loop → tie.Start Inv-loop μ-loop
-start c = c .before .before .before .before .before .before .before .before .before .before .before .before .before .before .before .before
+start c = c .before .before .before .before .before .before .before .before .before .before .before .before .before .before
 
 abbrev looping : tie.After-until-scan Inv-loop μ-loop → tie.At-loop Inv-loop μ-loop
-looping c = c .before .before .before .before .before .before
+looping c = c .before .before .before .before .before
 
 abbrev reached : tie.After-struct-known Inv-loop μ-loop → tie.After-until-scan Inv-loop μ-loop
-reached c = c .before .before .before .before .before .before .before .before .before .before .before
+reached c = c .before .before .before .before .before .before .before .before
 
-abbrev closed : tie.After-slice-known14 Inv-loop μ-loop → tie.After-close Inv-loop μ-loop
-closed c = c .before .before .before .before
+abbrev closed : tie.After-list2 Inv-loop μ-loop → tie.After-close Inv-loop μ-loop
+closed c = c .before
 
-abbrev ended : tie.After-slice-known14 Inv-loop μ-loop → tie.After-until-scan Inv-loop μ-loop
-ended c = reached (closed c .before .before .before .before)
+abbrev ended : tie.After-list2 Inv-loop μ-loop → tie.After-until-scan Inv-loop μ-loop
+ended c = reached (closed c .before .before .before)
 
 abbrev scanning : tie.After-dust-backward Inv-loop μ-loop → tie.Else1 Inv-loop μ-loop
-scanning c = c .before .before .before .before .before
+scanning c = c .before .before .before .before .before .before
 
 abbrev scanned : tie.After-answered Inv-loop μ-loop → tie.After-dust-backward Inv-loop μ-loop
-scanned c = c .before .before .before .before .before .before
-
-begin-requires : tie.Need-begin-requires Inv-loop μ-loop
-begin-requires c κs = tt
+scanned c = c .before .before .before .before .before
 
 loop-holds : tie.Need-loop-holds Inv-loop μ-loop
 loop-holds c =
     let b = c .before .before .before .before in
-    let l = b .before .before .before .before .before .before .before .before .before .before .before .pre in
-    record { inv = inv-start l (b .begin .ensures); counts-are = b .begin .kept .1 .0 ∙ l .part .counts-is; same-candidates = refl; same-starts = refl; same-ends = refl }
+    let l = b .before .before .before .before .before .before .before .before .before .pre in
+    record { inv = inv-start l (b .begin .ensures); counts-are = b .begin .kept .1 .0 ∙ l .part .counts-is; same-candidates = refl; same-list = refl }
 
 until-scan-requires : tie.Need-until-scan-requires Inv-loop μ-loop
 until-scan-requires c κs =
-    let g = c .before .before .before .before .before in
+    let g = c .before .before .before .before in
     let h = g .loop .inv in
-    (part-lent (start g .pre) (h .counts-are) (h .same-starts) (h .same-ends), h .inv)
+    (part-lent (start g .pre) (h .counts-are) (h .same-list), h .inv)
 
 close-requires : tie.Need-close-requires Inv-loop μ-loop
 close-requires c κs =
-    let t = c .before .before in
+    let t = c .before in
     reached (t .before) .until-scan .ensures .ended (t .if1 .taken) .saving
 
 returns : tie.Need-returns Inv-loop μ-loop
-returns c = last-saved (ended c .until-scan .ensures .ended (closed c .before .before .before .if1 .taken)) (closed c .close .ensures)
+returns c = last-saved (ended c .until-scan .ensures .ended (closed c .before .before .if1 .taken)) (closed c .close .ensures .0) (closed c .close .ensures .1)
 
 dust-backward-requires : tie.Need-dust-backward-requires Inv-loop μ-loop
 dust-backward-requires c κs =
-    let x = c .before .before .before .before in
+    let i = c .before .before .before .before in
+    let x = i .before in
     let u = reached (x .before) in
     let g = looping u in
     let l = start g .pre in
     let d = u .until-scan .ensures .due (x .if1 .left) in
-    let counts-are = u .until-scan .kept .1 .1 .1 .1 .1 .1 .1 .0 ∙ g .loop .inv .counts-are in
-    (d .windowed, (record { f-long = l .part .f-long; counts-is = counts-are; candidates-long = omega (arith, g .loop .inv .same-candidates, l .candidates-long) }, ((d .some, d .clear), d .carried)))
+    let counts-are = u .until-scan .kept .1 .1 .1 .1 .1 .1 .1 .0 ∙ g .loop .inv .counts-are in (
+      d .windowed,
+      (
+        record { f-long = l .part .f-long; counts-is = counts-are; candidates-long = omega (arith, g .loop .inv .same-candidates, l .candidates-long) },
+        ((d .some, d .clear), rw (i .last-q-index .ensures) (d .carried)),
+      ),
+    )
 
 answered-requires : tie.Need-answered-requires Inv-loop μ-loop
 answered-requires c κs =
-    let b = c .before .before .before .before .before in
+    let b = c .before .before .before .before in
     let x = scanning b in
     let u = reached (x .before) in
     let l = start (looping u) .pre .part in
@@ -97,33 +98,32 @@ answered-requires c κs =
 
 loop-less : tie.Need-loop-less Inv-loop μ-loop
 loop-less c =
-    let n = c .before .before .before .before in
+    let n = c .before in
     let x = scanning (scanned n) in
-    omega (arith, x .if1 .left, reached (x .before) .until-scan .ensures .further, ap (λ (z : Reading). z .i) (n .answered .ensures .at-is))
+    omega (arith, x .if1 .left, reached (x .before) .until-scan .ensures .further, n .answered .ensures .0 .i-is)
 
 loop-again : tie.Need-loop-again Inv-loop μ-loop
 loop-again c =
-    let n = c .before .before .before .before in
+    let n = c .before in
     let b = scanned n .dust-backward in
     let x = scanning (scanned n) in
     let u = reached (x .before) in
     let h = looping u .loop .inv in
     record {
-      inv = u .until-scan .ensures .due (x .if1 .left) .leads _ _ _ _ _ (b .ensures) (n .answered .ensures);
+      inv = u .until-scan .ensures .due (x .if1 .left) .leads _ _ _ _ (b .ensures) (n .answered .ensures .0) (n .answered .ensures .1);
       counts-are = b .kept .1 .1 .1 .1 .1 .1 .1 .1 .1 .0 ∙ u .until-scan .kept .1 .1 .1 .1 .1 .1 .1 .0 ∙ h .counts-are;
       same-candidates = b .kept .1 .1 .1 .1 .1 .1 .1 .1 .1 .1 .0 ∙ h .same-candidates;
-      same-starts = n .answered .kept .1 .1 .1 .0 ∙ u .until-scan .kept .1 .1 .1 .1 .1 .1 .1 .1 .0 ∙ h .same-starts;
-      same-ends = n .answered .kept .1 .1 .1 .1 .0 ∙ u .until-scan .kept .1 .1 .1 .1 .1 .1 .1 .1 .1 .0 ∙ h .same-ends;
+      same-list = n .answered .kept .1 .1 .1 .0 ∙ u .until-scan .kept .1 .1 .1 .1 .1 .1 .1 .1 .0 ∙ h .same-list;
     }
 
 pub inner-process-spec : {M : Type 1} → statement M
 inner-process-spec =
     tie.close
-    (tie.spec Inv-loop μ-loop begin-requires loop-holds until-scan-requires close-requires
+    (tie.spec Inv-loop μ-loop (λ c κs. tt) loop-holds until-scan-requires close-requires
     (λ c. ended c .until-scan .kept .1 .1 .1 .1 .1 .0 ∙ looping (ended c) .loop .inv .inv .read .windowed .ring-is ∙ sym (start (looping (ended c)) .pre .ring-is))
     (λ c. ended c .until-scan .kept .1 .1 .1 .1 .1 .1 .0 ∙ looping (ended c) .loop .inv .inv .read .windowed .counts-long ∙ sym (start (looping (ended c)) .pre .window-counts-are))
     (λ c. ended c .until-scan .kept .1 .1 .1 .1 .1 .1 .1 .0 ∙ looping (ended c) .loop .inv .counts-are ∙ sym (start (looping (ended c)) .pre .part .counts-is))
     (λ c. looping (ended c) .loop .inv .same-candidates)
-    (λ c. closed c .close .kept .1 .0 ∙ ended c .until-scan .kept .1 .1 .1 .1 .1 .1 .1 .1 .0 ∙ looping (ended c) .loop .inv .same-starts)
-    (λ c. closed c .close .kept .1 .1 .0 ∙ ended c .until-scan .kept .1 .1 .1 .1 .1 .1 .1 .1 .1 .0 ∙ looping (ended c) .loop .inv .same-ends) returns
-    dust-backward-requires answered-requires loop-less loop-again)
+    (λ c. closed c .close .kept .1 .0 ∙ ended c .until-scan .kept .1 .1 .1 .1 .1 .1 .1 .1 .0 ∙ looping (ended c) .loop .inv .same-list)
+    returns
+    (λ c κs. tt) dust-backward-requires answered-requires loop-less loop-again)

@@ -3,11 +3,8 @@ use Rattle.strand.proofs.Signed.{at-bits}
 use Rattle.strand.proofs.is_at.Statement.{statement}
 use Rattle.strand.proofs.is_at.Tie as tie
 
-cast-result : tie.Need-cast-result
-cast-result c = search needs
-
 returns : tie.Need-returns
 returns c = at-bits (c .args .z) (c .args .i) (c .fits .z) (c .pre)
 
 pub is-at-spec : {M : Type 1} → statement M
-is-at-spec = tie.close (tie.spec cast-result returns)
+is-at-spec = tie.close (tie.spec (λ c. search needs) returns)

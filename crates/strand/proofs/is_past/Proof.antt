@@ -6,12 +6,6 @@ use Rattle.strand.proofs.Signed.{diff-fits, past-is}
 use Rattle.strand.proofs.is_past.Statement.{statement}
 use Rattle.strand.proofs.is_past.Tie as tie
 
-cast-result : tie.Need-cast-result
-cast-result c = search needs
-
-cast-result-2 : tie.Need-cast-result-2
-cast-result-2 c = search needs
-
 sub-result : tie.Need-sub-result
 sub-result c =
     let a = c .args in
@@ -25,4 +19,4 @@ returns c =
     (past-is (a .start) (a .i) (a .len))
 
 pub is-past-spec : {M : Type 1} → statement M
-is-past-spec = tie.close (tie.spec cast-result cast-result-2 sub-result returns)
+is-past-spec = tie.close (tie.spec (λ c. search needs) (λ c. search needs) sub-result returns)

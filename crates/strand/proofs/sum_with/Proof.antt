@@ -5,20 +5,11 @@ use Rattle.strand.proofs.Moving.{more-plain}
 use Rattle.strand.proofs.sum_with.Statement.{statement}
 use Rattle.strand.proofs.sum_with.Tie as tie
 
-count-entry-requires : tie.Need-count-entry-requires
-count-entry-requires c κs = search needs
-
-same-length : tie.Need-same-length
-same-length c = search needs
-
 returns : tie.Need-returns
 returns c =
     let n = c .before .before .before .count-entry in
     let b = c .before .before .before .before .before .before .before in
     (rw (odd-ambiguous (b .args .entry) (c .if1 .taken)) refl, n .ensures .counts-are)
-
-same-length-2 : tie.Need-same-length-2
-same-length-2 c = search needs
 
 returns-2 : tie.Need-returns-2
 returns-2 c =
@@ -28,4 +19,4 @@ returns-2 c =
 
 pub sum-with-spec : {M : Type 1} → statement M
 sum-with-spec =
-    tie.close (tie.spec count-entry-requires same-length returns same-length-2 returns-2)
+    tie.close (tie.spec (λ c κs. search needs) (λ c. search needs) returns (λ c. search needs) returns-2)

@@ -7,35 +7,8 @@ use Rattle.strand.proofs.sum_without.Tie as tie
 returns : tie.Need-returns
 returns c = rw (odd-ambiguous (c .before .args .entry) (c .if1 .taken)) (refl, refl)
 
-cast-kmer : tie.Need-cast-kmer
-cast-kmer c = search needs
-
-mul-c : tie.Need-mul-c
-mul-c c = search needs
-
-slice-read-c : tie.Need-slice-read-c
-slice-read-c c = search needs
-
 sub-counts : tie.Need-sub-counts
 sub-counts c = c .before .before .pre .2 (even-plain (c .before .before .args .entry) (c .before .if1 .left))
-
-mul-counts : tie.Need-mul-counts
-mul-counts c = search needs
-
-slice-write-counts : tie.Need-slice-write-counts
-slice-write-counts c = search needs
-
-cast-result : tie.Need-cast-result
-cast-result c = search needs
-
-mul-result : tie.Need-mul-result
-mul-result c = search needs
-
-shared-slice-read-result : tie.Need-shared-slice-read-result
-shared-slice-read-result c = search needs
-
-same-length : tie.Need-same-length
-same-length c = search needs
 
 returns-2 : tie.Need-returns-2
 returns-2 c = let e = even-plain (c .before .before .before .args .entry) (c .before .before .if1 .left) in rw e (refl, refl)
@@ -45,14 +18,14 @@ sum-without-spec =
     tie.close
     (tie.spec
     returns
-    cast-kmer
-    mul-c
-    slice-read-c
+    (λ c. search needs)
+    (λ c. search needs)
+    (λ c. search needs)
     sub-counts
-    mul-counts
-    slice-write-counts
-    cast-result
-    mul-result
-    shared-slice-read-result
-    same-length
+    (λ c. search needs)
+    (λ c. search needs)
+    (λ c. search needs)
+    (λ c. search needs)
+    (λ c. search needs)
+    (λ c. search needs)
     returns-2)

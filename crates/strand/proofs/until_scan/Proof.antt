@@ -1,4 +1,4 @@
-use mathlib.Core.Path.{_≡_, refl, ap, _∙_}
+use mathlib.Core.Path.{_≡_, refl, sym, _∙_, subst}
 use mathlib.Core.List.{List}
 use Prim.Native.Nat.{ℕ, _-_, _^_, _≤_}
 use native.Mathlib.Omega.{arith}
@@ -8,36 +8,35 @@ use borrow.Author.Needs.{needs}
 use Rattle.scans.specs.declared.Params.{Params}
 use Rattle.scans.proofs.Walk.{windowed-queued}
 use Rattle.strand.specs.declared.Open.{Open}
-use Rattle.strand.specs.declared.Reading.{Reading}
-use Rattle.strand.specs.Held.{Saving, Stops}
-use Rattle.strand.specs.Running.{Before}
-use Rattle.strand.proofs.Moving.{older-long}
-use Rattle.strand.proofs.Keeping.{passing}
-use Rattle.strand.proofs.Running.{saving, inv-end, kept-passing, scan-clearing, before-passed, before-extended, due-scan}
+use Rattle.strand.specs.declared.State.{State}
+use Rattle.strand.specs.Terms.Finding.{Saving}
+use Rattle.strand.specs.Terms.ReadingOn.{Stops}
+use Rattle.strand.specs.Terms.Running.{Before}
+use Rattle.strand.proofs.ReadingOn.{small}
+use Rattle.strand.proofs.Running.{saving, stopped-hand, stopped-further, inv-end, look-passing, scan-clearing, before-passed, before-extended, due-scan}
 use Rattle.strand.proofs.until_scan.Statement.{statement}
 use Rattle.strand.proofs.until_scan.Tie as tie
 
 -- Where the run stands, and that every lent slice is as long as it was.
-record Around (p : Params) (codes : List ℕ) (ln f : List Float) (queue₀ window-counts₀ scan-counts₀ starts₀ ends₀ : List ℕ) (at₀ : Reading)
-    (queue window-counts scan-counts starts ends : List ℕ) (at : Reading) (hand : Open) : Type 0 where
-  inv : Before p codes ln f at hand queue window-counts scan-counts starts ends
-  further : at₀ .i ≤ at .i
+record Around (p : Params) (codes : List ℕ) (ln f : List Float) (queue₀ window-counts₀ scan-counts₀ : List ℕ) (list₀ : List (List ℕ)) (st₀ : State)
+    (queue window-counts scan-counts : List ℕ) (list : List (List ℕ)) (st : State) : Type 0 where
+  inv : Before p codes ln f st queue window-counts scan-counts list
+  further : st₀ .i ≤ st .i
   same-queue : length queue ≡ length queue₀
   same-window-counts : length window-counts ≡ length window-counts₀
   same-scan-counts : length scan-counts ≡ length scan-counts₀
-  same-starts : length starts ≡ length starts₀
-  same-ends : length ends ≡ length ends₀
+  same-list : length list ≡ length list₀
 
 abbrev Inv-loop : tie.InvT-loop
-Inv-loop p codes ln f queue₀ window-counts₀ scan-counts₀ starts₀ ends₀ at₀ hand₀ queue window-counts scan-counts starts ends at hand =
-    Around p codes ln f queue₀ window-counts₀ scan-counts₀ starts₀ ends₀ at₀ queue window-counts scan-counts starts ends at hand
+Inv-loop p codes ln f queue₀ window-counts₀ scan-counts₀ list₀ st₀ queue window-counts scan-counts list st =
+    Around p codes ln f queue₀ window-counts₀ scan-counts₀ list₀ st₀ queue window-counts scan-counts list st
 
 abbrev μ-loop : tie.MeasureT-loop
-μ-loop p codes ln f queue₀ window-counts₀ scan-counts₀ starts₀ ends₀ at₀ hand₀ queue window-counts scan-counts starts ends at hand =
-    length codes - at .i
+μ-loop p codes ln f queue₀ window-counts₀ scan-counts₀ list₀ st₀ queue window-counts scan-counts list st =
+    length codes - st .i
 
 abbrev start : tie.At-loop Inv-loop μ-loop → tie.Start Inv-loop μ-loop
-start c = c .before .before .before .before .before .before .before .before .before .before .before
+start c = c .before .before .before .before .before .before .before
 
 abbrev looped : tie.After-skim Inv-loop μ-loop → tie.At-loop Inv-loop μ-loop
 looped c = c .before .before .before .before
@@ -46,7 +45,7 @@ abbrev skimmed : tie.Else1 Inv-loop μ-loop → tie.After-skim Inv-loop μ-loop
 skimmed c = c .before .before .before .before .before .before .before .before
 
 abbrev stopped : tie.After-look Inv-loop μ-loop → tie.Else1 Inv-loop μ-loop
-stopped c = c .before .before .before .before .before
+stopped c = c .before .before .before .before
 
 abbrev scanning : tie.After-enum-told Inv-loop μ-loop → tie.After-look Inv-loop μ-loop
 scanning c = c .before .before .before .before
@@ -54,29 +53,37 @@ scanning c = c .before .before .before .before
 abbrev extending : tie.After-enum-told2 Inv-loop μ-loop → tie.After-look Inv-loop μ-loop
 extending c = c .before .before .before .before
 
-abbrev passing-look : tie.After-enum-told3 Inv-loop μ-loop → tie.After-look Inv-loop μ-loop
-passing-look c = c .before .before .before .before
+abbrev passing : tie.After-enum-told3 Inv-loop μ-loop → tie.After-look Inv-loop μ-loop
+passing c = c .before .before .before .before
 
 longer : {x n n′ : ℕ} → n′ ≡ n → x ≤ n → x ≤ n′
 longer e h = rw e h
 
-can-save : (c : tie.At-loop Inv-loop μ-loop) → Saving (c .loop .hand) (c .loop .starts) (c .loop .ends)
+can-save : (c : tie.At-loop Inv-loop μ-loop) → Saving (c .loop .st .hand) (c .loop .list)
 can-save c =
     let l = start c .pre .0 in
     let h = c .loop .inv in
-    saving (length (start c .args .codes .now)) (l .kmer-some) (l .letters-in) (h .inv .read .i-in) (longer (h .same-starts) (l .starts-long)) (longer (h .same-ends) (l .ends-long))
-    (h .inv .shaped)
+    saving (length (start c .args .codes .now)) (l .kmer-some) (l .letters-in) (h .inv .read .i-in) (longer (h .same-list) (l .list-long))
+    (h .inv .count-in) (h .inv .shaped)
 
--- A letter that is searched from.
+-- A letter that is searched from, and the interval in hand there.
 stops : (c : tie.Else1 Inv-loop μ-loop) → let s = skimmed c in let g = looped s in let a = start g .args in
-    Stops (a .p) (a .codes .now) (a .ln .now) (a .f .now) (g .loop .at) (s .skim .result) (g .loop .queue) (g .loop .scan-counts)
+    Stops (a .p) (a .codes .now) (a .ln .now) (a .f .now) (g .loop .st) (s .skim .result) (g .loop .queue) (g .loop .scan-counts)
     (s .skim .last .1 .1 .1 .1 .1 .0) (s .skim .last .1 .1 .1 .1 .1 .1 .0) (s .skim .last .1 .1 .1 .1 .1 .1 .1 .0)
 stops c = skimmed c .skim .ensures .stops (c .if1 .left)
 
+can-save-there : (c : tie.Else1 Inv-loop μ-loop) → let g = looped (skimmed c) in Saving (skimmed c .skim .result .hand) (g .loop .list)
+can-save-there c =
+    let g = looped (skimmed c) in
+    subst (λ (o : Open). Saving o (g .loop .list)) (sym (stopped-hand (g .loop .inv .inv) (stops c) (c .if1 .left))) (can-save g)
+
+further : (c : tie.Else1 Inv-loop μ-loop) → looped (skimmed c) .loop .st .i ≤ skimmed c .skim .result .i
+further c = stopped-further (looped (skimmed c) .loop .inv .inv) (stops c) (c .if1 .left)
+
 loop-holds : tie.Need-loop-holds Inv-loop μ-loop
 loop-holds c =
-    let b = c .before .before .before .before .before .before .before .before .before .before in
-    record { inv = b .pre .1; further = omega arith; same-queue = refl; same-window-counts = refl; same-scan-counts = refl; same-starts = refl; same-ends = refl }
+    let b = c .before .before .before .before .before .before in
+    record { inv = b .pre .1; further = omega arith; same-queue = refl; same-window-counts = refl; same-scan-counts = refl; same-list = refl }
 
 skim-requires : tie.Need-skim-requires Inv-loop μ-loop
 skim-requires c κs =
@@ -108,14 +115,17 @@ returns c =
       due = λ l. absurd (let b : ⊥ = omega (arith, l, c .if1 .taken) in b);
     }
 
+letter-small : (c : tie.Else1 Inv-loop μ-loop) → skimmed c .skim .result .i ≤ 2147483647
+letter-small c = omega (arith, c .if1 .left, start (looped (skimmed c)) .pre .0 .letters-in)
+
 look-requires : tie.Need-look-requires Inv-loop μ-loop
 look-requires c κs =
-    let x = c .before .before .before .before in
+    let x = c .before .before .before in
     let k = skimmed x in
     let l = start (looped k) .pre .0 in
     let s = stops x in
     let n = s .enters .entered in
-    ((omega (arith, x .if1 .left, l .letters-in), n .some, n .below, same-scan k ∙ l .counts-is, l .f-long), (n .windowed, s .searched))
+    ((omega (arith, letter-small x), n .some, small (s .enters) (l .kmer-small), n .below, same-scan k ∙ l .counts-is, l .f-long), (n .windowed, s .searched))
 
 -- The look leaves the number of scan counts.
 same-looked : (c : tie.After-look Inv-loop μ-loop) → length (c .look .last .1 .1 .1 .1 .1 .1 .0) ≡ length (start (looped (skimmed (stopped c))) .args .scan-counts .now)
@@ -124,12 +134,9 @@ same-looked c = c .look .kept .1 .1 .1 .1 .1 .1 .0 ∙ same-scan (skimmed (stopp
 all-counts : (c : tie.After-look Inv-loop μ-loop) → length (c .look .last .1 .1 .1 .1 .1 .1 .0) ≡ 4 ^ start (looped (skimmed (stopped c))) .args .p .kmer
 all-counts c = same-looked c ∙ start (looped (skimmed (stopped c))) .pre .0 .counts-is
 
-enum-told : tie.Need-enum-told Inv-loop μ-loop
-enum-told c = search needs
-
-cleared-requires : tie.Need-cleared-requires Inv-loop μ-loop
-cleared-requires c κs =
-    let t = c .before .before in
+clear-requires : tie.Need-clear-requires Inv-loop μ-loop
+clear-requires c κs =
+    let t = c .before .before .before in
     let l = scanning t in
     let x = stopped l in
     let s = stops x in (
@@ -137,127 +144,100 @@ cleared-requires c κs =
       scan-clearing (looped (skimmed x) .loop .inv .inv) s (x .if1 .left) (l .look .ensures) (t .enum-told .given .1) (all-counts l),
     )
 
-abbrev cleared : tie.After-slice-known10 Inv-loop μ-loop → tie.After-cleared Inv-loop μ-loop
+abbrev cleared : tie.After-slice-known8 Inv-loop μ-loop → tie.After-clear Inv-loop μ-loop
 cleared c = c .before .before
 
-abbrev due-at : tie.After-cleared Inv-loop μ-loop → tie.After-look Inv-loop μ-loop
-due-at c = scanning (c .before .before .before)
+abbrev due-at : tie.After-clear Inv-loop μ-loop → tie.After-look Inv-loop μ-loop
+due-at c = scanning (c .before .before .before .before)
 
 returns-2 : tie.Need-returns-2 Inv-loop μ-loop
 returns-2 c =
     let d = cleared c in
-    let t = d .before .before .before in
+    let t = d .before .before .before .before in
     let l = scanning t in
     let x = stopped l in
     let g = looped (skimmed x) in
-    let s = stops x in
     record {
-      further = omega (arith, g .loop .inv .further, s .skims .further);
+      further = omega (arith, g .loop .inv .further, further x);
       ended = λ h. absurd (let b : ⊥ = omega (arith, h, x .if1 .left) in b);
-      due = λ _. due-scan (g .loop .inv .inv) s (x .if1 .left) (l .look .ensures) (t .enum-told .given .1) (d .cleared .ensures .0) (d .cleared .ensures .1) (all-counts l) (can-save g);
+      due = λ _. due-scan (g .loop .inv .inv) (stops x) (x .if1 .left) (l .look .ensures) (t .enum-told .given .1) (d .clear .ensures) (all-counts l) (can-save-there x);
     }
 
-enum-told-2 : tie.Need-enum-told-2 Inv-loop μ-loop
-enum-told-2 c = search needs
-
-found-requires : tie.Need-found-requires Inv-loop μ-loop
-found-requires c κs =
-    let l = extending (c .before .before) in
-    let x = stopped l in
-    let g = looped (skimmed x) in
-    let b = start g .pre .0 in
+extended-requires : tie.Need-extended-requires Inv-loop μ-loop
+extended-requires c κs =
+    let x = stopped (extending (c .before)) in
+    let b = start (looped (skimmed x)) .pre .0 in
     let n = stops x .enters .entered in
     let w = n .windowed in
-    ((omega (arith, x .if1 .left, b .letters-in), omega (arith, w .len-in, w .small), omega (arith, n .some), b .kmer-small), can-save g)
+    ((omega (arith, letter-small x), omega (arith, w .len-in, w .small), omega (arith, n .some), b .kmer-small), can-save-there x)
 
-extended-requires : tie.Need-extended-requires Inv-loop μ-loop
-extended-requires c κs = search needs
-
-abbrev found : tie.After-extended Inv-loop μ-loop → tie.After-found Inv-loop μ-loop
-found c = c .before .before .before .before .before
+abbrev extended : tie.After-list Inv-loop μ-loop → tie.After-extended Inv-loop μ-loop
+extended c = c .before
 
 abbrev extension : tie.After-extended Inv-loop μ-loop → tie.After-enum-told2 Inv-loop μ-loop
-extension c = found c .before .before .before
-
-letter-small : (c : tie.After-look Inv-loop μ-loop) → skimmed (stopped c) .skim .result .i ≤ 2147483647
-letter-small c =
-    let x = stopped c in
-    omega (arith, x .if1 .left, start (looped (skimmed x)) .pre .0 .letters-in)
-
-after-requires : tie.Need-after-requires Inv-loop μ-loop
-after-requires c κs = omega (arith, letter-small (extending (extension c)))
+extension c = c .before .before
 
 loop-less : tie.Need-loop-less Inv-loop μ-loop
 loop-less c =
-    let x = stopped (extending (extension (c .before))) in
-    omega (arith, x .if1 .left, stops x .skims .further, ap (λ (z : Reading). z .i) (c .after .ensures))
+    let y = extended c in
+    let x = stopped (extending (extension y)) in
+    omega (arith, x .if1 .left, further x, y .extended .ensures .0 .i-is)
 
 loop-again : tie.Need-loop-again Inv-loop μ-loop
 loop-again c =
-    let y = c .before in
+    let y = extended c in
     let t = extension y in
     let l = extending t in
     let x = stopped l in
     let k = skimmed x in
     let h = looped k .loop .inv in
-    let s = stops x in
     record {
-      inv = before-extended (h .inv) s (x .if1 .left) (l .look .ensures) (t .enum-told2 .given .1) (found y .found .ensures) (y .extended .ensures) (c .after .ensures);
-      further = omega (arith, h .further, s .skims .further, ap (λ (z : Reading). z .i) (c .after .ensures));
+      inv = before-extended (h .inv) (stops x) (x .if1 .left) (l .look .ensures) (t .enum-told2 .given .1) (y .extended .ensures .0) (y .extended .ensures .1);
+      further = omega (arith, h .further, further x, y .extended .ensures .0 .i-is);
       same-queue = same-ring k;
       same-window-counts = same-window k;
       same-scan-counts = same-looked l;
-      same-starts = found y .found .kept .1 .1 .1 .1 .1 .0 ∙ h .same-starts;
-      same-ends = found y .found .kept .1 .1 .1 .1 .1 .1 .0 ∙ h .same-ends;
+      same-list = y .extended .kept .1 .1 .0 ∙ h .same-list;
     }
-
-enum-told-3 : tie.Need-enum-told-3 Inv-loop μ-loop
-enum-told-3 c = search needs
 
 passed-requires : tie.Need-passed-requires Inv-loop μ-loop
 passed-requires c κs =
     let t = c .before in
-    let l = passing-look t in
+    let l = passing t in
     let x = stopped l in
     let g = looped (skimmed x) in
-    let n = stops x .enters .entered in
-    let w = n .windowed in (
-      (n .some, w .len-in, w .small, w .ln-long, start g .pre .0 .f-long, omega (arith, n .below, all-counts l)),
-      passing (kept-passing (g .loop .inv .inv) (stops x) (x .if1 .left) (l .look .ensures) (t .enum-told3 .given .1)) (omega (arith, older-long w, n .some))
-          (skimmed x .skim .result .entry),
+    let b = start g .pre .0 in (
+      (small (stops x .enters) (b .kmer-small), omega (arith, letter-small x)),
+      look-passing (g .loop .inv .inv) (stops x) (x .if1 .left) (l .look .ensures) (t .enum-told3 .given .1) (all-counts l) (b .f-long),
     )
 
-abbrev passed : tie.After-slice-known13 Inv-loop μ-loop → tie.After-passed Inv-loop μ-loop
+abbrev passed : tie.After-slice-known9 Inv-loop μ-loop → tie.After-passed Inv-loop μ-loop
 passed c = c .before .before
 
-abbrev no-find : tie.After-slice-known13 Inv-loop μ-loop → tie.After-enum-told3 Inv-loop μ-loop
-no-find c = passed c .before .before
-
-after-requires-2 : tie.Need-after-requires-2 Inv-loop μ-loop
-after-requires-2 c κs = omega (arith, letter-small (passing-look (no-find c)))
+abbrev no-find : tie.After-passed Inv-loop μ-loop → tie.After-enum-told3 Inv-loop μ-loop
+no-find c = c .before .before
 
 loop-less-2 : tie.Need-loop-less-2 Inv-loop μ-loop
 loop-less-2 c =
-    let x = stopped (passing-look (no-find (c .before))) in
-    omega (arith, x .if1 .left, stops x .skims .further, ap (λ (z : Reading). z .i) (c .after2 .ensures))
+    let y = passed c in
+    let x = stopped (passing (no-find y)) in
+    omega (arith, x .if1 .left, further x, y .passed .ensures .i-is)
 
 loop-again-2 : tie.Need-loop-again-2 Inv-loop μ-loop
 loop-again-2 c =
-    let y = passed (c .before) in
-    let t = no-find (c .before) in
-    let l = passing-look t in
+    let y = passed c in
+    let t = no-find y in
+    let l = passing t in
     let x = stopped l in
     let k = skimmed x in
     let h = looped k .loop .inv in
-    let s = stops x in
     record {
-      inv = before-passed (h .inv) s (x .if1 .left) (l .look .ensures) (t .enum-told3 .given .1) (y .passed .ensures) (c .after2 .ensures);
-      further = omega (arith, h .further, s .skims .further, ap (λ (z : Reading). z .i) (c .after2 .ensures));
+      inv = before-passed (h .inv) (stops x) (x .if1 .left) (l .look .ensures) (t .enum-told3 .given .1) (y .passed .ensures);
+      further = omega (arith, h .further, further x, y .passed .ensures .i-is);
       same-queue = same-ring k;
       same-window-counts = same-window k;
-      same-scan-counts = y .passed .kept .1 .1 .1 .1 .1 .0 ∙ same-looked l;
-      same-starts = h .same-starts;
-      same-ends = h .same-ends;
+      same-scan-counts = y .passed .kept .1 .1 .1 .1 .0 ∙ same-looked l;
+      same-list = h .same-list;
     }
 
 pub until-scan-spec : {M : Type 1} → statement M
@@ -271,26 +251,21 @@ until-scan-spec =
     (λ c. same-ring (all c))
     (λ c. same-window (all c))
     (λ c. same-scan (all c))
-    (λ c. looped (all c) .loop .inv .same-starts)
-    (λ c. looped (all c) .loop .inv .same-ends)
+    (λ c. looped (all c) .loop .inv .same-list)
     returns
     look-requires
-    enum-told
-    cleared-requires
+    (λ c. search needs)
+    clear-requires
     (λ c. same-ring (skimmed (stopped (due-at (cleared c)))))
     (λ c. same-window (skimmed (stopped (due-at (cleared c)))))
-    (λ c. cleared c .cleared .kept .1 .1 .0 ∙ same-looked (due-at (cleared c)))
-    (λ c. looped (skimmed (stopped (due-at (cleared c)))) .loop .inv .same-starts)
-    (λ c. looped (skimmed (stopped (due-at (cleared c)))) .loop .inv .same-ends)
+    (λ c. cleared c .clear .kept .1 .1 .0 ∙ same-looked (due-at (cleared c)))
+    (λ c. looped (skimmed (stopped (due-at (cleared c)))) .loop .inv .same-list)
     returns-2
-    enum-told-2
-    found-requires
+    (λ c. search needs)
     extended-requires
-    after-requires
     loop-less
     loop-again
-    enum-told-3
+    (λ c. search needs)
     passed-requires
-    after-requires-2
     loop-less-2
     loop-again-2)

@@ -4,11 +4,8 @@ use Rattle.letters.proofs.Rolling.{entry-bits}
 use Rattle.letters.proofs.Kmer.entry.Statement.{statement}
 use Rattle.letters.proofs.Kmer.entry.Tie as tie
 
-cast-result : tie.Need-cast-result
-cast-result c = search needs
-
 returns : tie.Need-returns
 returns c = let st = c .before .before in entry-bits (st .args .k) (st .args .self) (st .pre)
 
 pub entry-spec : {M : Type 1} → statement M
-entry-spec = tie.close (tie.spec cast-result returns)
+entry-spec = tie.close (tie.spec (λ c. search needs) returns)

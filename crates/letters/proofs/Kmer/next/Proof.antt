@@ -6,17 +6,11 @@ use Rattle.letters.proofs.Rolling.{shifted-in, rolled-plain, rolled-oth
 use Rattle.letters.proofs.Kmer.next.Statement.{statement}
 use Rattle.letters.proofs.Kmer.next.Tie as tie
 
-n-kmers-requires : tie.Need-n-kmers-requires
-n-kmers-requires c κs = search needs
-
 sub-mask : tie.Need-sub-mask
 sub-mask c = let st = c .before .before in omega (arith, c .n-kmers .ensures, four-pos (st .args .k))
 
 cast-mask : tie.Need-cast-mask
 cast-mask c = let st = c .before .before in omega (arith, c .n-kmers .ensures, four-small (st .args .k) (st .pre .0))
-
-add-self : tie.Need-add-self
-add-self c = search needs
 
 returns : tie.Need-returns
 returns c =
@@ -29,4 +23,4 @@ returns-2 : tie.Need-returns-2
 returns-2 c = let a = c .before .args in rolled-other (a .k) (a .self) (a .b) (c .if1 .left)
 
 pub next-spec : {M : Type 1} → statement M
-next-spec = tie.close (tie.spec n-kmers-requires sub-mask cast-mask add-self returns returns-2)
+next-spec = tie.close (tie.spec (λ c κs. search needs) sub-mask cast-mask (λ c. search needs) returns returns-2)

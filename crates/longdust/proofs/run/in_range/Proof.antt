@@ -1,18 +1,18 @@
 -- `in_range`: the formula.
+use mathlib.Core.Path.{ap₂}
+use mathlib.Core.Bool.{Bool, _&&_}
+use lib.Ieee.{le}
 use borrow.Author.Needs.{needs}
+use Rattle.floats.specs.Binary64.{sixteen}
 use Rattle.strand.specs.Range.{inRange}
 use Rattle.longdust.proofs.run.in_range.Statement.{statement}
 use Rattle.longdust.proofs.run.in_range.Tie as tie
 
-table-in-range-requires : tie.Need-table-in-range-requires
-table-in-range-requires c κs = search needs
-
-table-in-range-requires-2 : tie.Need-table-in-range-requires-2
-table-in-range-requires-2 c κs = search needs
-
 returns : tie.Need-returns
 unfolding inRange
-returns c = rw (c .before .table-in-range2 .ensures, c .before .before .table-in-range .ensures)
+returns c =
+    let t = c .before .before .before .before .before .args .p .«score_threshold» in
+    ap₂ (λ (x y : Bool). le t sixteen && (x && y)) (c .before .before .table-in-range .ensures) (c .before .table-in-range2 .ensures)
 
 pub in-range-spec : {M : Type 1} → statement M
-in-range-spec = tie.close (tie.spec table-in-range-requires table-in-range-requires-2 returns)
+in-range-spec = tie.close (tie.spec (λ c κs. search needs) (λ c κs. search needs) returns)

@@ -5,7 +5,7 @@ use native.Mathlib.Omega.{arith}
 use borrow.Author.Needs.{needs}
 use lib.ListN.{length}
 use lib.Seq.{length-take-le}
-use Rattle.longdust.specs.Call.{Buffers, buffers}
+use Rattle.longdust.specs.Buffers.{Buffers, buffers}
 use Rattle.longdust.proofs.Setups.{prepared-kmer, prepared-window}
 use Rattle.longdust.proofs.Parts.{fronts, back, Returned, Whole, exact, whole}
 use Rattle.longdust.proofs.Answers.{ran}
@@ -15,10 +15,10 @@ mod Lts
 mod Tie
 
 abbrev start : tie.After-n-kmers → tie.Start
-start c = c .before .before .before .before .before .before .before .before .before .before .before .before .before .before
+start c = c .before .before .before .before .before .before .before .before
 
 abbrev letters : tie.Start → ℕ
-letters s = length (s .args .encoded .now)
+letters s = length (s .args .codes .now)
 
 abbrev size : tie.Start → ℕ
 size s = (letters s + 1) / (s .args .options .kmer + 1)
@@ -26,9 +26,9 @@ size s = (letters s + 1) / (s .args .options .kmer + 1)
 -- The buffers as they are lent, and the fronts as they come back.
 abbrev entry : tie.Start → Buffers
 entry s =
-    buffers (s .args .ln .now) (s .args .f .now) (s .args .queue .now) (s .args .window-counts .now) (s .args .scan-counts .now) (s .args .candidates .now)
-    (s .args .encoded .now) (s .args .reverse-codes .now) (s .args .forward-starts .now) (s .args .forward-ends .now) (s .args .reverse-starts .now)
-    (s .args .reverse-ends .now) (s .args .starts .now) (s .args .ends .now)
+    buffers (s .args .ln .now) (s .args .f .now) (s .args .queue .now) (s .args .window-counts .now) (s .args .scan-counts .now)
+    (s .args .candidates .now) (s .args .codes .now) (s .args .reverse-codes .now) (s .args .forward-list .now) (s .args .reverse-list .now)
+    (s .args .list .now)
 
 windows-within : (c : tie.After-n-kmers) → c .n-kmers .result ≤ length (start c .args .window-counts .now)
 windows-within c = omega (arith, c .n-kmers .ensures, start c .pre .enough .window-counts)
@@ -37,15 +37,13 @@ scans-within : (c : tie.After-n-kmers) → c .n-kmers .result ≤ length (start 
 scans-within c = omega (arith, c .n-kmers .ensures, start c .pre .enough .scan-counts)
 
 abbrev counted : tie.After-both-strands → tie.After-n-kmers
-counted c = c .before .before .before .before .before .before .before .before .before .before .before .before .before .before .before .before
+counted c = c .before .before .before .before .before .before .before .before .before .before .before .before .before
 
 abbrev left : tie.After-both-strands → Buffers
 left c =
     let a = start (counted c) .args in
     let l = c .both-strands .last .1 .1 .1 .1 .1 in
-    let m = l .1 .1 .1 .1 .1 in
-    buffers (a .ln .now) (a .f .now) (l .0) (l .1 .0) (l .1 .1 .0) (l .1 .1 .1 .0) (a .encoded .now) (l .1 .1 .1 .1 .0)
-    (m .0) (m .1 .0) (m .1 .1 .0) (m .1 .1 .1 .0) (m .1 .1 .1 .1 .0) (m .1 .1 .1 .1 .1 .0)
+    buffers (a .ln .now) (a .f .now) (l .0) (l .1 .0) (l .1 .1 .0) (l .1 .1 .1 .0) (a .codes .now) (l .1 .1 .1 .1 .0) (l .1 .1 .1 .1 .1 .0) (l .1 .1 .1 .1 .1 .1 .0) (l .1 .1 .1 .1 .1 .1 .1 .0)
 
 returned : (c : tie.After-both-strands)
     → Returned
@@ -53,19 +51,15 @@ returned : (c : tie.After-both-strands)
     (left c)
 returned c =
     let k = c .both-strands .kept .1 .1 .1 .1 .1 in
-    let m = k .1 .1 .1 .1 .1 in
     record {
       queue = k .0;
       window-counts = k .1 .0;
       scan-counts = k .1 .1 .0;
       candidates = k .1 .1 .1 .0;
       reverse-codes = k .1 .1 .1 .1 .0;
-      forward-starts = m .0;
-      forward-ends = m .1 .0;
-      reverse-starts = m .1 .1 .0;
-      reverse-ends = m .1 .1 .1 .0;
-      starts = m .1 .1 .1 .1 .0;
-      ends = m .1 .1 .1 .1 .1 .0;
+      forward-list = k .1 .1 .1 .1 .1 .0;
+      reverse-list = k .1 .1 .1 .1 .1 .1 .0;
+      list = k .1 .1 .1 .1 .1 .1 .1 .0;
     }
 
 freed : (c : tie.After-both-strands)
@@ -75,26 +69,8 @@ freed c =
     let s = start (counted c) in
     whole (s .args .options) (letters s) (counted c .n-kmers .result) (entry s) (s .pre) (counted c .n-kmers .ensures) (left c) (returned c)
 
-abbrev done : tie.After-slice-known20 → tie.After-both-strands
-done c = c .before .before .before .before .before .before .before .before .before .before .before .before .before .before .before .before .before .before .before .before .before
-
-n-kmers-requires : tie.Need-n-kmers-requires
-n-kmers-requires c κs = search needs
-
-add-rows : tie.Need-add-rows
-add-rows c = search needs
-
-add-rows-2 : tie.Need-add-rows-2
-add-rows-2 c = search needs
-
-div-rows : tie.Need-div-rows
-div-rows c = search needs
-
-add-ln : tie.Need-add-ln
-add-ln c = search needs
-
-add-f : tie.Need-add-f
-add-f c = search needs
+abbrev done : tie.After-accepted → tie.After-both-strands
+done c = c .before .before .before .before .before .before .before .before .before .before .before .before .before
 
 prepare-requires : tie.Need-prepare-requires
 prepare-requires c κs =
@@ -111,9 +87,9 @@ in-range-requires c κs =
 
 both-strands-requires : tie.Need-both-strands-requires
 both-strands-requires c κs =
-    let k = c .before .before .before .before .before .before .before .before .before .before .before .before .before .before .before in
+    let k = c .before .before .before .before .before .before .before .before .before .before .before .before in
     let s = start k in
-    let q = c .before .before .before .before .before .before .before .before .before .before .before .before .prepare in
+    let q = c .before .before .before .before .before .before .before .before .before .prepare in
     exact (s .args .options) (letters s) (k .n-kmers .result) (entry s) (s .pre) (k .n-kmers .ensures) (q .result) (prepared-kmer (q .ensures)) (prepared-window (q .ensures))
 
 returns : tie.Need-returns
@@ -121,22 +97,22 @@ returns c =
     let t = done c in
     let k = counted t in
     let s = start k in
-    let q = t .before .before .before .before .before .before .before .before .before .before .before .before .before .prepare in
-    let g = t .before .before .before .before .before .before .before .before .before .before .before .before .in-range in
-    ran (s .args .options) (s .args .encoded .now) (k .n-kmers .result) (entry s) (s .pre) (k .n-kmers .ensures) (left t) (returned t) (q .result) (q .ensures)
-    (g .result) (g .ensures) (t .both-strands .result) (t .both-strands .ensures)
+    let q = t .before .before .before .before .before .before .before .before .before .before .prepare in
+    let g = t .before .before .before .before .before .before .before .before .before .in-range in
+    ran (s .args .options) (s .args .codes .now) (k .n-kmers .result) (entry s) (s .pre) (k .n-kmers .ensures) (left t) (returned t) (q .result) (q .ensures)
+    (g .result) (g .ensures) (t .both-strands .result) (t .both-strands .ensures) (c .accepted .result) (c .accepted .ensures)
 
 pub mask-encoded-spec : {M : Type 1} → statement M
 mask-encoded-spec =
     tie.close
     (tie.spec
-    n-kmers-requires
-    add-rows
-    add-rows-2
-    div-rows
-    add-ln
+    (λ c κs. search needs)
+    (λ c. search needs)
+    (λ c. search needs)
+    (λ c. search needs)
+    (λ c. search needs)
     (λ c. sym (length-take-le _ _ (start (c .before) .pre .enough .ln)))
-    add-f
+    (λ c. search needs)
     (λ c. sym (length-take-le _ _ (start (c .before .before) .pre .enough .f)))
     prepare-requires
     in-range-requires
@@ -150,28 +126,20 @@ mask-encoded-spec =
     (λ c. sym (length-take-le _ _ (start (c .before .before .before .before .before .before .before .before) .pre .enough .candidates)))
     (λ c. start (c .before .before .before .before .before .before .before .before) .pre .enough .reverse-codes)
     (λ c. sym (length-take-le _ _ (start (c .before .before .before .before .before .before .before .before .before) .pre .enough .reverse-codes)))
-    (λ c. start (c .before .before .before .before .before .before .before .before .before) .pre .enough .forward-starts)
-    (λ c. sym (length-take-le _ _ (start (c .before .before .before .before .before .before .before .before .before .before) .pre .enough .forward-starts)))
-    (λ c. start (c .before .before .before .before .before .before .before .before .before .before) .pre .enough .forward-ends)
-    (λ c. sym (length-take-le _ _ (start (c .before .before .before .before .before .before .before .before .before .before .before) .pre .enough .forward-ends)))
-    (λ c. start (c .before .before .before .before .before .before .before .before .before .before .before) .pre .enough .reverse-starts)
-    (λ c. sym (length-take-le _ _ (start (c .before .before .before .before .before .before .before .before .before .before .before .before) .pre .enough .reverse-starts)))
-    (λ c. start (c .before .before .before .before .before .before .before .before .before .before .before .before) .pre .enough .reverse-ends)
-    (λ c. sym (length-take-le _ _ (start (c .before .before .before .before .before .before .before .before .before .before .before .before .before) .pre .enough .reverse-ends)))
-    (λ c. start (c .before .before .before .before .before .before .before .before .before .before .before .before .before) .pre .enough .starts)
-    (λ c. sym (length-take-le _ _ (start (c .before .before .before .before .before .before .before .before .before .before .before .before .before .before) .pre .enough .starts)))
-    (λ c. start (c .before .before .before .before .before .before .before .before .before .before .before .before .before .before) .pre .enough .ends)
-    (λ c. sym (length-take-le _ _ (start (c .before .before .before .before .before .before .before .before .before .before .before .before .before .before .before) .pre .enough .ends)))
+    (λ c. start (c .before .before .before .before .before .before .before .before .before) .pre .enough .forward-list)
+    (λ c. sym (length-take-le _ _ (start (c .before .before .before .before .before .before .before .before .before .before) .pre .enough .forward-list)))
+    (λ c. start (c .before .before .before .before .before .before .before .before .before .before) .pre .enough .reverse-list)
+    (λ c. sym (length-take-le _ _ (start (c .before .before .before .before .before .before .before .before .before .before .before) .pre .enough .reverse-list)))
+    (λ c. start (c .before .before .before .before .before .before .before .before .before .before .before) .pre .enough .list)
+    (λ c. sym (length-take-le _ _ (start (c .before .before .before .before .before .before .before .before .before .before .before .before) .pre .enough .list)))
     both-strands-requires
+    (λ c κs. search needs)
     (λ c. freed (done c) .queue .long)
     (λ c. freed (done c) .window-counts .long)
     (λ c. freed (done c) .scan-counts .long)
     (λ c. freed (done c) .candidates .long)
     (λ c. freed (done c) .reverse-codes .long)
-    (λ c. freed (done c) .forward-starts .long)
-    (λ c. freed (done c) .forward-ends .long)
-    (λ c. freed (done c) .reverse-starts .long)
-    (λ c. freed (done c) .reverse-ends .long)
-    (λ c. freed (done c) .starts .long)
-    (λ c. freed (done c) .ends .long)
+    (λ c. freed (done c) .forward-list .long)
+    (λ c. freed (done c) .reverse-list .long)
+    (λ c. freed (done c) .list)
     returns)

@@ -122,6 +122,12 @@ y15 = Syntax.tyRef Syntax.erased Syntax.mut y14
 abbrev y16 : Syntax.Ty
 y16 = Syntax.tyStruct (38 ∷ 91 ∷ 93 ∷ []) (Syntax.tcons y15 (Syntax.tcons y0 Syntax.tnil))
 
+abbrev y17 : Syntax.Ty
+y17 = Syntax.tyRef Syntax.erased Syntax.mut (Syntax.tyArray y2 2)
+
+abbrev y18 : Syntax.Ty
+y18 = Syntax.tyStruct (38 ∷ 91 ∷ 93 ∷ []) (Syntax.tcons y17 (Syntax.tcons y0 Syntax.tnil))
+
 abbrev q4 : Rows·type.RattleType
 q4 = Declared.row LongdustOptions.the-type
 
@@ -131,11 +137,11 @@ q5 = Declared.row Answer.the-type
 abbrev e0 : Row.Entry
 e0 = (0, Rows.any-gone y0)
 
-abbrev y17 : Syntax.Ty
-y17 = Syntax.tyRef (Syntax.named 0) Syntax.imm y14
+abbrev y19 : Syntax.Ty
+y19 = Syntax.tyRef (Syntax.named 0) Syntax.imm y14
 
 abbrev e1 : Row.Entry
-e1 = (1, Rows.sslice q0 y17 0)
+e1 = (1, Rows.sslice q0 y19 0)
 
 abbrev z0 : Row.Sc
 z0 = Row.sInt Syntax.w64
@@ -176,29 +182,29 @@ e10 = (10, Rows.sc-here z1)
 abbrev e11 : Row.Entry
 e11 = (11, Rows.sc-here z1)
 
-abbrev y18 : Syntax.Ty
-y18 = Syntax.tyRef (Syntax.named 1) Syntax.mut y1
+abbrev y20 : Syntax.Ty
+y20 = Syntax.tyRef (Syntax.named 1) Syntax.mut y1
 
 abbrev e12 : Row.Entry
-e12 = (12, Mut.mslice q1 y18 1)
-
-abbrev y19 : Syntax.Ty
-y19 = Syntax.tyRef (Syntax.named 2) Syntax.mut y1
-
-abbrev e13 : Row.Entry
-e13 = (13, Mut.mslice q1 y19 2)
-
-abbrev y20 : Syntax.Ty
-y20 = Syntax.tyRef (Syntax.named 3) Syntax.mut y2
-
-abbrev e14 : Row.Entry
-e14 = (14, Mut.mslice q2 y20 3)
+e12 = (12, Mut.mslice q1 y20 1)
 
 abbrev y21 : Syntax.Ty
-y21 = Syntax.tyRef (Syntax.named 4) Syntax.mut y3
+y21 = Syntax.tyRef (Syntax.named 2) Syntax.mut y1
+
+abbrev e13 : Row.Entry
+e13 = (13, Mut.mslice q1 y21 2)
+
+abbrev y22 : Syntax.Ty
+y22 = Syntax.tyRef (Syntax.named 3) Syntax.mut y2
+
+abbrev e14 : Row.Entry
+e14 = (14, Mut.mslice q2 y22 3)
+
+abbrev y23 : Syntax.Ty
+y23 = Syntax.tyRef (Syntax.named 4) Syntax.mut y3
 
 abbrev e15 : Row.Entry
-e15 = (15, Mut.mslice q3 y21 4)
+e15 = (15, Mut.mslice q3 y23 4)
 
 abbrev c0 : List.List Row.Entry
 c0 = e0 ∷ e1 ∷ e2 ∷ e3 ∷ e4 ∷ e5 ∷ e6 ∷ e7 ∷ []
@@ -206,86 +212,77 @@ c0 = e0 ∷ e1 ∷ e2 ∷ e3 ∷ e4 ∷ e5 ∷ e6 ∷ e7 ∷ []
 abbrev c1 : List.List Row.Entry
 c1 = e8 ∷ e9 ∷ e10 ∷ e11 ∷ e12 ∷ e13 ∷ e14 ∷ e15 ∷ []
 
-abbrev y22 : Syntax.Ty
-y22 = Syntax.tyRef (Syntax.named 5) Syntax.mut y3
+abbrev y24 : Syntax.Ty
+y24 = Syntax.tyRef (Syntax.named 5) Syntax.mut y3
 
 abbrev e16 : Row.Entry
-e16 = (16, Mut.mslice q3 y22 5)
-
-abbrev y23 : Syntax.Ty
-y23 = Syntax.tyRef (Syntax.named 6) Syntax.mut (Rec·memory.pointee (Rec·type.the-row .written))
-
-abbrev e17 : Row.Entry
-e17 = (17, Mut.mslice Rec·type.the-row y23 6)
-
-abbrev y24 : Syntax.Ty
-y24 = Syntax.tyRef (Syntax.named 7) Syntax.mut y14
-
-abbrev e18 : Row.Entry
-e18 = (18, Mut.mslice q0 y24 7)
+e16 = (16, Mut.mslice q3 y24 5)
 
 abbrev y25 : Syntax.Ty
-y25 = Syntax.tyRef (Syntax.named 8) Syntax.mut y14
+y25 = Syntax.tyRef (Syntax.named 6) Syntax.mut (Rec·memory.pointee (Rec·type.the-row .written))
 
-abbrev e19 : Row.Entry
-e19 = (19, Mut.mslice q0 y25 8)
+abbrev e17 : Row.Entry
+e17 = (17, Mut.mslice Rec·type.the-row y25 6)
 
 abbrev y26 : Syntax.Ty
-y26 = Syntax.tyRef (Syntax.named 9) Syntax.mut y2
+y26 = Syntax.tyRef (Syntax.named 7) Syntax.mut y14
 
-abbrev e20 : Row.Entry
-e20 = (20, Mut.mslice q2 y26 9)
+abbrev e18 : Row.Entry
+e18 = (18, Mut.mslice q0 y26 7)
 
 abbrev y27 : Syntax.Ty
-y27 = Syntax.tyRef (Syntax.named 10) Syntax.mut y2
+y27 = Syntax.tyRef (Syntax.named 8) Syntax.mut y14
 
-abbrev e21 : Row.Entry
-e21 = (21, Mut.mslice q2 y27 10)
+abbrev e19 : Row.Entry
+e19 = (19, Mut.mslice q0 y27 8)
 
 abbrev y28 : Syntax.Ty
-y28 = Syntax.tyRef (Syntax.named 11) Syntax.mut y2
+y28 = Syntax.tyRef (Syntax.named 9) Syntax.mut (Syntax.tyArray y2 2)
 
-abbrev e22 : Row.Entry
-e22 = (22, Mut.mslice q2 y28 11)
+abbrev e20 : Row.Entry
+e20 = (20, Mut.mslice (Array.Array q2 2) y28 9)
 
 abbrev y29 : Syntax.Ty
-y29 = Syntax.tyRef (Syntax.named 12) Syntax.mut y2
+y29 = Syntax.tyRef (Syntax.named 10) Syntax.mut (Syntax.tyArray y2 2)
 
-abbrev e23 : Row.Entry
-e23 = (23, Mut.mslice q2 y29 12)
+abbrev e21 : Row.Entry
+e21 = (21, Mut.mslice (Array.Array q2 2) y29 10)
 
 abbrev y30 : Syntax.Ty
-y30 = Syntax.tyRef (Syntax.named 13) Syntax.mut y2
+y30 = Syntax.tyRef (Syntax.named 11) Syntax.mut (Syntax.tyArray y2 2)
 
-abbrev e24 : Row.Entry
-e24 = (24, Mut.mslice q2 y30 13)
+abbrev e22 : Row.Entry
+e22 = (22, Mut.mslice (Array.Array q2 2) y30 11)
 
 abbrev y31 : Syntax.Ty
-y31 = Syntax.tyRef (Syntax.named 14) Syntax.mut y2
+y31 = Syntax.tyRef (Syntax.named 12) Syntax.mut y2
+
+abbrev e23 : Row.Entry
+e23 = (23, Rows.mref q2 y31 12)
+
+abbrev e24 : Row.Entry
+e24 = (24, Rows.any-gone y4)
 
 abbrev e25 : Row.Entry
-e25 = (25, Mut.mslice q2 y31 14)
-
-abbrev y32 : Syntax.Ty
-y32 = Syntax.tyRef (Syntax.named 15) Syntax.mut y2
+e25 = (25, Rows.any-gone y5)
 
 abbrev e26 : Row.Entry
-e26 = (26, Rows.mref q2 y32 15)
+e26 = (26, Rows.any-gone y6)
 
 abbrev e27 : Row.Entry
-e27 = (27, Rows.any-gone y4)
+e27 = (27, Rows.any-gone y7)
 
 abbrev e28 : Row.Entry
-e28 = (28, Rows.any-gone y5)
+e28 = (28, Rows.any-gone y6)
 
 abbrev e29 : Row.Entry
-e29 = (29, Rows.any-gone y6)
+e29 = (29, Rows.any-gone y7)
 
 abbrev e30 : Row.Entry
-e30 = (30, Rows.any-gone y7)
+e30 = (30, Rows.any-gone y8)
 
 abbrev e31 : Row.Entry
-e31 = (31, Rows.any-gone y6)
+e31 = (31, Rows.any-gone y9)
 
 abbrev c2 : List.List Row.Entry
 c2 = e16 ∷ e17 ∷ e18 ∷ e19 ∷ e20 ∷ e21 ∷ e22 ∷ e23 ∷ []
@@ -294,52 +291,52 @@ abbrev c3 : List.List Row.Entry
 c3 = e24 ∷ e25 ∷ e26 ∷ e27 ∷ e28 ∷ e29 ∷ e30 ∷ e31 ∷ []
 
 abbrev e32 : Row.Entry
-e32 = (32, Rows.any-gone y7)
+e32 = (32, Rows.any-gone y10)
 
 abbrev e33 : Row.Entry
-e33 = (33, Rows.any-gone y8)
+e33 = (33, Rows.any-gone y11)
 
 abbrev e34 : Row.Entry
-e34 = (34, Rows.any-gone y9)
+e34 = (34, Rows.any-gone y10)
 
 abbrev e35 : Row.Entry
-e35 = (35, Rows.any-gone y10)
+e35 = (35, Rows.any-gone y11)
 
 abbrev e36 : Row.Entry
-e36 = (36, Rows.any-gone y11)
+e36 = (36, Rows.any-gone y12)
 
 abbrev e37 : Row.Entry
-e37 = (37, Rows.any-gone y10)
+e37 = (37, Rows.any-gone y13)
 
 abbrev e38 : Row.Entry
-e38 = (38, Rows.any-gone y11)
+e38 = (38, Rows.any-gone y15)
 
 abbrev e39 : Row.Entry
-e39 = (39, Rows.any-gone y12)
+e39 = (39, Rows.any-gone y16)
 
 abbrev e40 : Row.Entry
-e40 = (40, Rows.any-gone y13)
+e40 = (40, Rows.any-gone y15)
 
 abbrev e41 : Row.Entry
-e41 = (41, Rows.any-gone y15)
+e41 = (41, Rows.any-gone y16)
 
 abbrev e42 : Row.Entry
-e42 = (42, Rows.any-gone y16)
+e42 = (42, Rows.any-gone y17)
 
 abbrev e43 : Row.Entry
-e43 = (43, Rows.any-gone y15)
+e43 = (43, Rows.any-gone y18)
 
 abbrev e44 : Row.Entry
-e44 = (44, Rows.any-gone y16)
+e44 = (44, Rows.any-gone y17)
 
 abbrev e45 : Row.Entry
-e45 = (45, Rows.any-gone y8)
+e45 = (45, Rows.any-gone y18)
 
 abbrev e46 : Row.Entry
-e46 = (46, Rows.any-gone y9)
+e46 = (46, Rows.any-gone y17)
 
 abbrev e47 : Row.Entry
-e47 = (47, Rows.any-gone y8)
+e47 = (47, Rows.any-gone y18)
 
 abbrev c4 : List.List Row.Entry
 c4 = e32 ∷ e33 ∷ e34 ∷ e35 ∷ e36 ∷ e37 ∷ e38 ∷ e39 ∷ []
@@ -348,637 +345,472 @@ abbrev c5 : List.List Row.Entry
 c5 = e40 ∷ e41 ∷ e42 ∷ e43 ∷ e44 ∷ e45 ∷ e46 ∷ e47 ∷ []
 
 abbrev e48 : Row.Entry
-e48 = (48, Rows.any-gone y9)
-
-abbrev e49 : Row.Entry
-e49 = (49, Rows.any-gone y8)
-
-abbrev e50 : Row.Entry
-e50 = (50, Rows.any-gone y9)
-
-abbrev e51 : Row.Entry
-e51 = (51, Rows.any-gone y8)
-
-abbrev e52 : Row.Entry
-e52 = (52, Rows.any-gone y9)
-
-abbrev e53 : Row.Entry
-e53 = (53, Rows.any-gone y8)
-
-abbrev e54 : Row.Entry
-e54 = (54, Rows.any-gone y9)
-
-abbrev e55 : Row.Entry
-e55 = (55, Rows.any-gone y8)
-
-abbrev e56 : Row.Entry
-e56 = (56, Rows.any-gone y9)
-
-abbrev e57 : Row.Entry
-e57 = (57, Rows.any-gone y2)
+e48 = (48, Rows.any-gone y2)
 
 abbrev c6 : List.List Row.Entry
-c6 = e48 ∷ e49 ∷ e50 ∷ e51 ∷ e52 ∷ e53 ∷ e54 ∷ e55 ∷ []
+c6 = e48 ∷ []
 
-abbrev c7 : List.List Row.Entry
-c7 = e56 ∷ e57 ∷ []
+abbrev e49 : Row.Entry
+e49 = (0, Rows.sc-here z0)
+
+abbrev e50 : Row.Entry
+e50 = (2, Rows.any-gone y0)
+
+abbrev e51 : Row.Entry
+e51 = (3, Rows.any-gone y0)
+
+abbrev e52 : Row.Entry
+e52 = (4, Rows.any-gone y1)
+
+abbrev e53 : Row.Entry
+e53 = (5, Rows.any-gone y2)
+
+abbrev e54 : Row.Entry
+e54 = (6, Rows.any-gone y1)
+
+abbrev e55 : Row.Entry
+e55 = (7, Rows.any-gone y2)
+
+abbrev e56 : Row.Entry
+e56 = (8, Rows.any-gone y2)
+
+abbrev e57 : Row.Entry
+e57 = (9, Rows.any-gone y3)
 
 abbrev e58 : Row.Entry
-e58 = (0, Rows.sc-here z0)
+e58 = (10, Rows.any-gone y2)
 
 abbrev e59 : Row.Entry
-e59 = (2, Rows.any-gone y0)
+e59 = (11, Rows.any-gone y2)
 
-abbrev e60 : Row.Entry
-e60 = (3, Rows.any-gone y0)
-
-abbrev e61 : Row.Entry
-e61 = (4, Rows.any-gone y1)
-
-abbrev e62 : Row.Entry
-e62 = (5, Rows.any-gone y2)
-
-abbrev e63 : Row.Entry
-e63 = (6, Rows.any-gone y1)
-
-abbrev e64 : Row.Entry
-e64 = (7, Rows.any-gone y2)
-
-abbrev e65 : Row.Entry
-e65 = (8, Rows.any-gone y2)
-
-abbrev e66 : Row.Entry
-e66 = (9, Rows.any-gone y3)
-
-abbrev e67 : Row.Entry
-e67 = (10, Rows.any-gone y2)
-
-abbrev e68 : Row.Entry
-e68 = (11, Rows.any-gone y2)
+abbrev c7 : List.List Row.Entry
+c7 = e49 ∷ e1 ∷ e50 ∷ e51 ∷ e52 ∷ e53 ∷ e54 ∷ e55 ∷ []
 
 abbrev c8 : List.List Row.Entry
-c8 = e58 ∷ e1 ∷ e59 ∷ e60 ∷ e61 ∷ e62 ∷ e63 ∷ e64 ∷ []
+c8 = e56 ∷ e57 ∷ e58 ∷ e59 ∷ e12 ∷ e13 ∷ e14 ∷ e15 ∷ []
+
+abbrev e60 : Row.Entry
+e60 = (24, Rows.whole q4)
 
 abbrev c9 : List.List Row.Entry
-c9 = e65 ∷ e66 ∷ e67 ∷ e68 ∷ e12 ∷ e13 ∷ e14 ∷ e15 ∷ []
+c9 = e60 ∷ e25 ∷ e26 ∷ e27 ∷ e28 ∷ e29 ∷ e30 ∷ e31 ∷ []
 
-abbrev e69 : Row.Entry
-e69 = (27, Rows.whole q4)
+abbrev e61 : Row.Entry
+e61 = (12, Relend.mslice-owed q1 y20 1 13 Row.off)
 
 abbrev c10 : List.List Row.Entry
-c10 = e24 ∷ e25 ∷ e26 ∷ e69 ∷ e28 ∷ e29 ∷ e30 ∷ e31 ∷ []
+c10 = e8 ∷ e9 ∷ e10 ∷ e11 ∷ e61 ∷ e13 ∷ e14 ∷ e15 ∷ []
 
-abbrev e70 : Row.Entry
-e70 = (12, Relend.mslice-owed q1 y18 1 16 Row.off)
+abbrev e62 : Row.Entry
+e62 = (26, Relend.msptr q1 y6 13)
 
 abbrev c11 : List.List Row.Entry
-c11 = e8 ∷ e9 ∷ e10 ∷ e11 ∷ e70 ∷ e13 ∷ e14 ∷ e15 ∷ []
+c11 = e60 ∷ e25 ∷ e62 ∷ e27 ∷ e28 ∷ e29 ∷ e30 ∷ e31 ∷ []
 
-abbrev e71 : Row.Entry
-e71 = (29, Relend.msptr q1 y6 16)
+abbrev e63 : Row.Entry
+e63 = (27, Mut.mslice q1 y6 13)
 
 abbrev c12 : List.List Row.Entry
-c12 = e24 ∷ e25 ∷ e26 ∷ e69 ∷ e28 ∷ e71 ∷ e30 ∷ e31 ∷ []
+c12 = e60 ∷ e25 ∷ e26 ∷ e63 ∷ e28 ∷ e29 ∷ e30 ∷ e31 ∷ []
 
-abbrev e72 : Row.Entry
-e72 = (30, Mut.mslice q1 y6 16)
+abbrev e64 : Row.Entry
+e64 = (13, Relend.mslice-owed q1 y21 2 14 Row.off)
 
 abbrev c13 : List.List Row.Entry
-c13 = e24 ∷ e25 ∷ e26 ∷ e69 ∷ e28 ∷ e29 ∷ e72 ∷ e31 ∷ []
+c13 = e8 ∷ e9 ∷ e10 ∷ e11 ∷ e61 ∷ e64 ∷ e14 ∷ e15 ∷ []
 
-abbrev e73 : Row.Entry
-e73 = (13, Relend.mslice-owed q1 y19 2 17 Row.off)
+abbrev e65 : Row.Entry
+e65 = (28, Relend.msptr q1 y6 14)
 
 abbrev c14 : List.List Row.Entry
-c14 = e8 ∷ e9 ∷ e10 ∷ e11 ∷ e70 ∷ e73 ∷ e14 ∷ e15 ∷ []
+c14 = e60 ∷ e25 ∷ e26 ∷ e63 ∷ e65 ∷ e29 ∷ e30 ∷ e31 ∷ []
 
-abbrev e74 : Row.Entry
-e74 = (31, Relend.msptr q1 y6 17)
+abbrev e66 : Row.Entry
+e66 = (29, Mut.mslice q1 y6 14)
 
 abbrev c15 : List.List Row.Entry
-c15 = e24 ∷ e25 ∷ e26 ∷ e69 ∷ e28 ∷ e29 ∷ e72 ∷ e74 ∷ []
+c15 = e60 ∷ e25 ∷ e26 ∷ e63 ∷ e28 ∷ e66 ∷ e30 ∷ e31 ∷ []
 
-abbrev e75 : Row.Entry
-e75 = (32, Mut.mslice q1 y6 17)
+abbrev e67 : Row.Entry
+e67 = (14, Relend.mslice-owed q2 y22 3 15 Row.off)
 
 abbrev c16 : List.List Row.Entry
-c16 = e75 ∷ e33 ∷ e34 ∷ e35 ∷ e36 ∷ e37 ∷ e38 ∷ e39 ∷ []
+c16 = e8 ∷ e9 ∷ e10 ∷ e11 ∷ e61 ∷ e64 ∷ e67 ∷ e15 ∷ []
 
-abbrev e76 : Row.Entry
-e76 = (14, Relend.mslice-owed q2 y20 3 18 Row.off)
+abbrev e68 : Row.Entry
+e68 = (30, Relend.msptr q2 y8 15)
 
 abbrev c17 : List.List Row.Entry
-c17 = e8 ∷ e9 ∷ e10 ∷ e11 ∷ e70 ∷ e73 ∷ e76 ∷ e15 ∷ []
+c17 = e60 ∷ e25 ∷ e26 ∷ e63 ∷ e28 ∷ e66 ∷ e68 ∷ e31 ∷ []
 
-abbrev e77 : Row.Entry
-e77 = (33, Relend.msptr q2 y8 18)
+abbrev e69 : Row.Entry
+e69 = (31, Mut.mslice q2 y8 15)
 
 abbrev c18 : List.List Row.Entry
-c18 = e75 ∷ e77 ∷ e34 ∷ e35 ∷ e36 ∷ e37 ∷ e38 ∷ e39 ∷ []
+c18 = e60 ∷ e25 ∷ e26 ∷ e63 ∷ e28 ∷ e66 ∷ e30 ∷ e69 ∷ []
 
-abbrev e78 : Row.Entry
-e78 = (34, Mut.mslice q2 y8 18)
+abbrev e70 : Row.Entry
+e70 = (15, Relend.mslice-owed q3 y23 4 16 Row.off)
 
 abbrev c19 : List.List Row.Entry
-c19 = e75 ∷ e33 ∷ e78 ∷ e35 ∷ e36 ∷ e37 ∷ e38 ∷ e39 ∷ []
+c19 = e8 ∷ e9 ∷ e10 ∷ e11 ∷ e61 ∷ e64 ∷ e67 ∷ e70 ∷ []
 
-abbrev e79 : Row.Entry
-e79 = (15, Relend.mslice-owed q3 y21 4 19 Row.off)
+abbrev e71 : Row.Entry
+e71 = (32, Relend.msptr q3 y10 16)
 
 abbrev c20 : List.List Row.Entry
-c20 = e8 ∷ e9 ∷ e10 ∷ e11 ∷ e70 ∷ e73 ∷ e76 ∷ e79 ∷ []
+c20 = e71 ∷ e33 ∷ e34 ∷ e35 ∷ e36 ∷ e37 ∷ e38 ∷ e39 ∷ []
 
-abbrev e80 : Row.Entry
-e80 = (35, Relend.msptr q3 y10 19)
+abbrev e72 : Row.Entry
+e72 = (33, Mut.mslice q3 y10 16)
 
 abbrev c21 : List.List Row.Entry
-c21 = e75 ∷ e33 ∷ e78 ∷ e80 ∷ e36 ∷ e37 ∷ e38 ∷ e39 ∷ []
+c21 = e32 ∷ e72 ∷ e34 ∷ e35 ∷ e36 ∷ e37 ∷ e38 ∷ e39 ∷ []
 
-abbrev e81 : Row.Entry
-e81 = (36, Mut.mslice q3 y10 19)
+abbrev e73 : Row.Entry
+e73 = (16, Relend.mslice-owed q3 y24 5 17 Row.off)
 
 abbrev c22 : List.List Row.Entry
-c22 = e75 ∷ e33 ∷ e78 ∷ e35 ∷ e81 ∷ e37 ∷ e38 ∷ e39 ∷ []
+c22 = e73 ∷ e17 ∷ e18 ∷ e19 ∷ e20 ∷ e21 ∷ e22 ∷ e23 ∷ []
 
-abbrev e82 : Row.Entry
-e82 = (16, Relend.mslice-owed q3 y22 5 20 Row.off)
+abbrev e74 : Row.Entry
+e74 = (34, Relend.msptr q3 y10 17)
 
 abbrev c23 : List.List Row.Entry
-c23 = e82 ∷ e17 ∷ e18 ∷ e19 ∷ e20 ∷ e21 ∷ e22 ∷ e23 ∷ []
+c23 = e32 ∷ e72 ∷ e74 ∷ e35 ∷ e36 ∷ e37 ∷ e38 ∷ e39 ∷ []
 
-abbrev e83 : Row.Entry
-e83 = (37, Relend.msptr q3 y10 20)
+abbrev e75 : Row.Entry
+e75 = (35, Mut.mslice q3 y10 17)
 
 abbrev c24 : List.List Row.Entry
-c24 = e75 ∷ e33 ∷ e78 ∷ e35 ∷ e81 ∷ e83 ∷ e38 ∷ e39 ∷ []
+c24 = e32 ∷ e72 ∷ e34 ∷ e75 ∷ e36 ∷ e37 ∷ e38 ∷ e39 ∷ []
 
-abbrev e84 : Row.Entry
-e84 = (38, Mut.mslice q3 y10 20)
+abbrev e76 : Row.Entry
+e76 = (17, Relend.mslice-owed Rec·type.the-row y25 6 18 Row.off)
 
 abbrev c25 : List.List Row.Entry
-c25 = e75 ∷ e33 ∷ e78 ∷ e35 ∷ e81 ∷ e37 ∷ e84 ∷ e39 ∷ []
+c25 = e73 ∷ e76 ∷ e18 ∷ e19 ∷ e20 ∷ e21 ∷ e22 ∷ e23 ∷ []
 
-abbrev e85 : Row.Entry
-e85 = (17, Relend.mslice-owed Rec·type.the-row y23 6 21 Row.off)
+abbrev e77 : Row.Entry
+e77 = (36, Relend.msptr Rec·type.the-row y12 18)
 
 abbrev c26 : List.List Row.Entry
-c26 = e82 ∷ e85 ∷ e18 ∷ e19 ∷ e20 ∷ e21 ∷ e22 ∷ e23 ∷ []
+c26 = e32 ∷ e72 ∷ e34 ∷ e75 ∷ e77 ∷ e37 ∷ e38 ∷ e39 ∷ []
 
-abbrev e86 : Row.Entry
-e86 = (39, Relend.msptr Rec·type.the-row y12 21)
+abbrev e78 : Row.Entry
+e78 = (37, Mut.mslice Rec·type.the-row y12 18)
 
 abbrev c27 : List.List Row.Entry
-c27 = e75 ∷ e33 ∷ e78 ∷ e35 ∷ e81 ∷ e37 ∷ e84 ∷ e86 ∷ []
+c27 = e32 ∷ e72 ∷ e34 ∷ e75 ∷ e36 ∷ e78 ∷ e38 ∷ e39 ∷ []
 
-abbrev e87 : Row.Entry
-e87 = (40, Mut.mslice Rec·type.the-row y12 21)
+abbrev e79 : Row.Entry
+e79 = (18, Relend.mslice-owed q0 y26 7 19 Row.off)
 
 abbrev c28 : List.List Row.Entry
-c28 = e87 ∷ e41 ∷ e42 ∷ e43 ∷ e44 ∷ e45 ∷ e46 ∷ e47 ∷ []
+c28 = e73 ∷ e76 ∷ e79 ∷ e19 ∷ e20 ∷ e21 ∷ e22 ∷ e23 ∷ []
 
-abbrev e88 : Row.Entry
-e88 = (18, Relend.mslice-owed q0 y24 7 22 Row.off)
+abbrev e80 : Row.Entry
+e80 = (38, Relend.msptr q0 y15 19)
 
 abbrev c29 : List.List Row.Entry
-c29 = e82 ∷ e85 ∷ e88 ∷ e19 ∷ e20 ∷ e21 ∷ e22 ∷ e23 ∷ []
+c29 = e32 ∷ e72 ∷ e34 ∷ e75 ∷ e36 ∷ e78 ∷ e80 ∷ e39 ∷ []
 
-abbrev e89 : Row.Entry
-e89 = (41, Relend.msptr q0 y15 22)
+abbrev e81 : Row.Entry
+e81 = (39, Mut.mslice q0 y15 19)
 
 abbrev c30 : List.List Row.Entry
-c30 = e87 ∷ e89 ∷ e42 ∷ e43 ∷ e44 ∷ e45 ∷ e46 ∷ e47 ∷ []
+c30 = e32 ∷ e72 ∷ e34 ∷ e75 ∷ e36 ∷ e78 ∷ e38 ∷ e81 ∷ []
 
-abbrev e90 : Row.Entry
-e90 = (42, Mut.mslice q0 y15 22)
+abbrev e82 : Row.Entry
+e82 = (19, Relend.mslice-owed q0 y27 8 20 Row.off)
 
 abbrev c31 : List.List Row.Entry
-c31 = e87 ∷ e41 ∷ e90 ∷ e43 ∷ e44 ∷ e45 ∷ e46 ∷ e47 ∷ []
+c31 = e73 ∷ e76 ∷ e79 ∷ e82 ∷ e20 ∷ e21 ∷ e22 ∷ e23 ∷ []
 
-abbrev e91 : Row.Entry
-e91 = (19, Relend.mslice-owed q0 y25 8 23 Row.off)
+abbrev e83 : Row.Entry
+e83 = (40, Relend.msptr q0 y15 20)
 
 abbrev c32 : List.List Row.Entry
-c32 = e82 ∷ e85 ∷ e88 ∷ e91 ∷ e20 ∷ e21 ∷ e22 ∷ e23 ∷ []
+c32 = e83 ∷ e41 ∷ e42 ∷ e43 ∷ e44 ∷ e45 ∷ e46 ∷ e47 ∷ []
 
-abbrev e92 : Row.Entry
-e92 = (43, Relend.msptr q0 y15 23)
+abbrev e84 : Row.Entry
+e84 = (41, Mut.mslice q0 y15 20)
 
 abbrev c33 : List.List Row.Entry
-c33 = e87 ∷ e41 ∷ e90 ∷ e92 ∷ e44 ∷ e45 ∷ e46 ∷ e47 ∷ []
+c33 = e40 ∷ e84 ∷ e42 ∷ e43 ∷ e44 ∷ e45 ∷ e46 ∷ e47 ∷ []
 
-abbrev e93 : Row.Entry
-e93 = (44, Mut.mslice q0 y15 23)
+abbrev e85 : Row.Entry
+e85 = (20, Relend.mslice-owed (Array.Array q2 2) y28 9 21 Row.off)
 
 abbrev c34 : List.List Row.Entry
-c34 = e87 ∷ e41 ∷ e90 ∷ e43 ∷ e93 ∷ e45 ∷ e46 ∷ e47 ∷ []
+c34 = e73 ∷ e76 ∷ e79 ∷ e82 ∷ e85 ∷ e21 ∷ e22 ∷ e23 ∷ []
 
-abbrev e94 : Row.Entry
-e94 = (20, Relend.mslice-owed q2 y26 9 24 Row.off)
+abbrev e86 : Row.Entry
+e86 = (42, Relend.msptr (Array.Array q2 2) y17 21)
 
 abbrev c35 : List.List Row.Entry
-c35 = e82 ∷ e85 ∷ e88 ∷ e91 ∷ e94 ∷ e21 ∷ e22 ∷ e23 ∷ []
+c35 = e40 ∷ e84 ∷ e86 ∷ e43 ∷ e44 ∷ e45 ∷ e46 ∷ e47 ∷ []
 
-abbrev e95 : Row.Entry
-e95 = (45, Relend.msptr q2 y8 24)
+abbrev e87 : Row.Entry
+e87 = (43, Mut.mslice (Array.Array q2 2) y17 21)
 
 abbrev c36 : List.List Row.Entry
-c36 = e87 ∷ e41 ∷ e90 ∷ e43 ∷ e93 ∷ e95 ∷ e46 ∷ e47 ∷ []
+c36 = e40 ∷ e84 ∷ e42 ∷ e87 ∷ e44 ∷ e45 ∷ e46 ∷ e47 ∷ []
 
-abbrev e96 : Row.Entry
-e96 = (46, Mut.mslice q2 y8 24)
+abbrev e88 : Row.Entry
+e88 = (21, Relend.mslice-owed (Array.Array q2 2) y29 10 22 Row.off)
 
 abbrev c37 : List.List Row.Entry
-c37 = e87 ∷ e41 ∷ e90 ∷ e43 ∷ e93 ∷ e45 ∷ e96 ∷ e47 ∷ []
+c37 = e73 ∷ e76 ∷ e79 ∷ e82 ∷ e85 ∷ e88 ∷ e22 ∷ e23 ∷ []
 
-abbrev e97 : Row.Entry
-e97 = (21, Relend.mslice-owed q2 y27 10 25 Row.off)
+abbrev e89 : Row.Entry
+e89 = (44, Relend.msptr (Array.Array q2 2) y17 22)
 
 abbrev c38 : List.List Row.Entry
-c38 = e82 ∷ e85 ∷ e88 ∷ e91 ∷ e94 ∷ e97 ∷ e22 ∷ e23 ∷ []
+c38 = e40 ∷ e84 ∷ e42 ∷ e87 ∷ e89 ∷ e45 ∷ e46 ∷ e47 ∷ []
 
-abbrev e98 : Row.Entry
-e98 = (47, Relend.msptr q2 y8 25)
+abbrev e90 : Row.Entry
+e90 = (45, Mut.mslice (Array.Array q2 2) y17 22)
 
 abbrev c39 : List.List Row.Entry
-c39 = e87 ∷ e41 ∷ e90 ∷ e43 ∷ e93 ∷ e45 ∷ e96 ∷ e98 ∷ []
+c39 = e40 ∷ e84 ∷ e42 ∷ e87 ∷ e44 ∷ e90 ∷ e46 ∷ e47 ∷ []
 
-abbrev e99 : Row.Entry
-e99 = (48, Mut.mslice q2 y8 25)
+abbrev e91 : Row.Entry
+e91 = (22, Relend.mslice-owed (Array.Array q2 2) y30 11 23 Row.off)
 
 abbrev c40 : List.List Row.Entry
-c40 = e99 ∷ e49 ∷ e50 ∷ e51 ∷ e52 ∷ e53 ∷ e54 ∷ e55 ∷ []
+c40 = e73 ∷ e76 ∷ e79 ∷ e82 ∷ e85 ∷ e88 ∷ e91 ∷ e23 ∷ []
 
-abbrev e100 : Row.Entry
-e100 = (22, Relend.mslice-owed q2 y28 11 26 Row.off)
+abbrev e92 : Row.Entry
+e92 = (46, Relend.msptr (Array.Array q2 2) y17 23)
 
 abbrev c41 : List.List Row.Entry
-c41 = e82 ∷ e85 ∷ e88 ∷ e91 ∷ e94 ∷ e97 ∷ e100 ∷ e23 ∷ []
+c41 = e40 ∷ e84 ∷ e42 ∷ e87 ∷ e44 ∷ e90 ∷ e92 ∷ e47 ∷ []
 
-abbrev e101 : Row.Entry
-e101 = (49, Relend.msptr q2 y8 26)
+abbrev e93 : Row.Entry
+e93 = (47, Mut.mslice (Array.Array q2 2) y17 23)
 
 abbrev c42 : List.List Row.Entry
-c42 = e99 ∷ e101 ∷ e50 ∷ e51 ∷ e52 ∷ e53 ∷ e54 ∷ e55 ∷ []
+c42 = e40 ∷ e84 ∷ e42 ∷ e87 ∷ e44 ∷ e90 ∷ e46 ∷ e93 ∷ []
 
-abbrev e102 : Row.Entry
-e102 = (50, Mut.mslice q2 y8 26)
+abbrev e94 : Row.Entry
+e94 = (25, Rows.whole q5)
+
+abbrev e95 : Row.Entry
+e95 = (27, Mut.msleft q1 y6)
+
+abbrev e96 : Row.Entry
+e96 = (29, Mut.msleft q1 y6)
+
+abbrev e97 : Row.Entry
+e97 = (31, Mut.msleft q2 y8)
 
 abbrev c43 : List.List Row.Entry
-c43 = e99 ∷ e49 ∷ e102 ∷ e51 ∷ e52 ∷ e53 ∷ e54 ∷ e55 ∷ []
+c43 = e60 ∷ e94 ∷ e26 ∷ e95 ∷ e28 ∷ e96 ∷ e30 ∷ e97 ∷ []
+
+abbrev e98 : Row.Entry
+e98 = (33, Mut.msleft q3 y10)
+
+abbrev e99 : Row.Entry
+e99 = (35, Mut.msleft q3 y10)
+
+abbrev e100 : Row.Entry
+e100 = (37, Mut.msleft Rec·type.the-row y12)
+
+abbrev e101 : Row.Entry
+e101 = (39, Mut.msleft q0 y15)
+
+abbrev e102 : Row.Entry
+e102 = (41, Mut.msleft q0 y15)
 
 abbrev e103 : Row.Entry
-e103 = (23, Relend.mslice-owed q2 y29 12 27 Row.off)
-
-abbrev c44 : List.List Row.Entry
-c44 = e82 ∷ e85 ∷ e88 ∷ e91 ∷ e94 ∷ e97 ∷ e100 ∷ e103 ∷ []
+e103 = (43, Mut.msleft (Array.Array q2 2) y17)
 
 abbrev e104 : Row.Entry
-e104 = (51, Relend.msptr q2 y8 27)
-
-abbrev c45 : List.List Row.Entry
-c45 = e99 ∷ e49 ∷ e102 ∷ e104 ∷ e52 ∷ e53 ∷ e54 ∷ e55 ∷ []
+e104 = (45, Mut.msleft (Array.Array q2 2) y17)
 
 abbrev e105 : Row.Entry
-e105 = (52, Mut.mslice q2 y8 27)
+e105 = (47, Mut.msleft (Array.Array q2 2) y17)
+
+abbrev c44 : List.List Row.Entry
+c44 = e32 ∷ e98 ∷ e34 ∷ e99 ∷ e36 ∷ e100 ∷ e38 ∷ e101 ∷ []
+
+abbrev c45 : List.List Row.Entry
+c45 = e40 ∷ e102 ∷ e42 ∷ e103 ∷ e44 ∷ e104 ∷ e46 ∷ e105 ∷ []
 
 abbrev c46 : List.List Row.Entry
-c46 = e99 ∷ e49 ∷ e102 ∷ e51 ∷ e105 ∷ e53 ∷ e54 ∷ e55 ∷ []
-
-abbrev e106 : Row.Entry
-e106 = (24, Relend.mslice-owed q2 y30 13 28 Row.off)
+c46 = e24 ∷ e94 ∷ e26 ∷ e95 ∷ e28 ∷ e96 ∷ e30 ∷ e97 ∷ []
 
 abbrev c47 : List.List Row.Entry
-c47 = e106 ∷ e25 ∷ e26 ∷ e69 ∷ e28 ∷ e29 ∷ e72 ∷ e31 ∷ []
-
-abbrev e107 : Row.Entry
-e107 = (53, Relend.msptr q2 y8 28)
+c47 = e8 ∷ e9 ∷ e10 ∷ e11 ∷ e12 ∷ e64 ∷ e67 ∷ e70 ∷ []
 
 abbrev c48 : List.List Row.Entry
-c48 = e99 ∷ e49 ∷ e102 ∷ e51 ∷ e105 ∷ e107 ∷ e54 ∷ e55 ∷ []
-
-abbrev e108 : Row.Entry
-e108 = (54, Mut.mslice q2 y8 28)
+c48 = e24 ∷ e94 ∷ e26 ∷ e27 ∷ e28 ∷ e96 ∷ e30 ∷ e97 ∷ []
 
 abbrev c49 : List.List Row.Entry
-c49 = e99 ∷ e49 ∷ e102 ∷ e51 ∷ e105 ∷ e53 ∷ e108 ∷ e55 ∷ []
-
-abbrev e109 : Row.Entry
-e109 = (25, Relend.mslice-owed q2 y31 14 29 Row.off)
+c49 = e8 ∷ e9 ∷ e10 ∷ e11 ∷ e12 ∷ e13 ∷ e67 ∷ e70 ∷ []
 
 abbrev c50 : List.List Row.Entry
-c50 = e106 ∷ e109 ∷ e26 ∷ e69 ∷ e28 ∷ e29 ∷ e72 ∷ e31 ∷ []
-
-abbrev e110 : Row.Entry
-e110 = (55, Relend.msptr q2 y8 29)
+c50 = e24 ∷ e94 ∷ e26 ∷ e27 ∷ e28 ∷ e29 ∷ e30 ∷ e97 ∷ []
 
 abbrev c51 : List.List Row.Entry
-c51 = e99 ∷ e49 ∷ e102 ∷ e51 ∷ e105 ∷ e53 ∷ e108 ∷ e110 ∷ []
-
-abbrev e111 : Row.Entry
-e111 = (56, Mut.mslice q2 y8 29)
+c51 = e8 ∷ e9 ∷ e10 ∷ e11 ∷ e12 ∷ e13 ∷ e14 ∷ e70 ∷ []
 
 abbrev c52 : List.List Row.Entry
-c52 = e111 ∷ e57 ∷ []
-
-abbrev e112 : Row.Entry
-e112 = (28, Rows.whole q5)
-
-abbrev e113 : Row.Entry
-e113 = (30, Mut.msleft q1 y6)
+c52 = e24 ∷ e94 ∷ e26 ∷ e27 ∷ e28 ∷ e29 ∷ e30 ∷ e31 ∷ []
 
 abbrev c53 : List.List Row.Entry
-c53 = e106 ∷ e109 ∷ e26 ∷ e69 ∷ e112 ∷ e29 ∷ e113 ∷ e31 ∷ []
-
-abbrev e114 : Row.Entry
-e114 = (32, Mut.msleft q1 y6)
-
-abbrev e115 : Row.Entry
-e115 = (34, Mut.msleft q2 y8)
-
-abbrev e116 : Row.Entry
-e116 = (36, Mut.msleft q3 y10)
-
-abbrev e117 : Row.Entry
-e117 = (38, Mut.msleft q3 y10)
-
-abbrev e118 : Row.Entry
-e118 = (40, Mut.msleft Rec·type.the-row y12)
-
-abbrev e119 : Row.Entry
-e119 = (42, Mut.msleft q0 y15)
-
-abbrev e120 : Row.Entry
-e120 = (44, Mut.msleft q0 y15)
-
-abbrev e121 : Row.Entry
-e121 = (46, Mut.msleft q2 y8)
+c53 = e32 ∷ e33 ∷ e34 ∷ e99 ∷ e36 ∷ e100 ∷ e38 ∷ e101 ∷ []
 
 abbrev c54 : List.List Row.Entry
-c54 = e114 ∷ e33 ∷ e115 ∷ e35 ∷ e116 ∷ e37 ∷ e117 ∷ e39 ∷ []
+c54 = e16 ∷ e76 ∷ e79 ∷ e82 ∷ e85 ∷ e88 ∷ e91 ∷ e23 ∷ []
 
 abbrev c55 : List.List Row.Entry
-c55 = e118 ∷ e41 ∷ e119 ∷ e43 ∷ e120 ∷ e45 ∷ e121 ∷ e47 ∷ []
-
-abbrev e122 : Row.Entry
-e122 = (48, Mut.msleft q2 y8)
-
-abbrev e123 : Row.Entry
-e123 = (50, Mut.msleft q2 y8)
-
-abbrev e124 : Row.Entry
-e124 = (52, Mut.msleft q2 y8)
-
-abbrev e125 : Row.Entry
-e125 = (54, Mut.msleft q2 y8)
-
-abbrev e126 : Row.Entry
-e126 = (56, Mut.msleft q2 y8)
+c55 = e32 ∷ e33 ∷ e34 ∷ e35 ∷ e36 ∷ e100 ∷ e38 ∷ e101 ∷ []
 
 abbrev c56 : List.List Row.Entry
-c56 = e122 ∷ e49 ∷ e123 ∷ e51 ∷ e124 ∷ e53 ∷ e125 ∷ e55 ∷ []
+c56 = e16 ∷ e17 ∷ e79 ∷ e82 ∷ e85 ∷ e88 ∷ e91 ∷ e23 ∷ []
 
 abbrev c57 : List.List Row.Entry
-c57 = e126 ∷ e57 ∷ []
+c57 = e32 ∷ e33 ∷ e34 ∷ e35 ∷ e36 ∷ e37 ∷ e38 ∷ e101 ∷ []
 
 abbrev c58 : List.List Row.Entry
-c58 = e106 ∷ e109 ∷ e26 ∷ e27 ∷ e112 ∷ e29 ∷ e113 ∷ e31 ∷ []
+c58 = e16 ∷ e17 ∷ e18 ∷ e82 ∷ e85 ∷ e88 ∷ e91 ∷ e23 ∷ []
 
 abbrev c59 : List.List Row.Entry
-c59 = e8 ∷ e9 ∷ e10 ∷ e11 ∷ e12 ∷ e73 ∷ e76 ∷ e79 ∷ []
+c59 = e16 ∷ e17 ∷ e18 ∷ e19 ∷ e85 ∷ e88 ∷ e91 ∷ e23 ∷ []
 
 abbrev c60 : List.List Row.Entry
-c60 = e106 ∷ e109 ∷ e26 ∷ e27 ∷ e112 ∷ e29 ∷ e30 ∷ e31 ∷ []
+c60 = e40 ∷ e41 ∷ e42 ∷ e103 ∷ e44 ∷ e104 ∷ e46 ∷ e105 ∷ []
 
 abbrev c61 : List.List Row.Entry
-c61 = e8 ∷ e9 ∷ e10 ∷ e11 ∷ e12 ∷ e13 ∷ e76 ∷ e79 ∷ []
+c61 = e16 ∷ e17 ∷ e18 ∷ e19 ∷ e20 ∷ e88 ∷ e91 ∷ e23 ∷ []
 
 abbrev c62 : List.List Row.Entry
-c62 = e32 ∷ e33 ∷ e115 ∷ e35 ∷ e116 ∷ e37 ∷ e117 ∷ e39 ∷ []
+c62 = e40 ∷ e41 ∷ e42 ∷ e43 ∷ e44 ∷ e104 ∷ e46 ∷ e105 ∷ []
 
 abbrev c63 : List.List Row.Entry
-c63 = e8 ∷ e9 ∷ e10 ∷ e11 ∷ e12 ∷ e13 ∷ e14 ∷ e79 ∷ []
+c63 = e16 ∷ e17 ∷ e18 ∷ e19 ∷ e20 ∷ e21 ∷ e91 ∷ e23 ∷ []
 
 abbrev c64 : List.List Row.Entry
-c64 = e32 ∷ e33 ∷ e34 ∷ e35 ∷ e116 ∷ e37 ∷ e117 ∷ e39 ∷ []
+c64 = e40 ∷ e41 ∷ e42 ∷ e43 ∷ e44 ∷ e45 ∷ e46 ∷ e105 ∷ []
+
+abbrev e106 : Row.Entry
+e106 = (48, Rows.sc-here z1)
 
 abbrev c65 : List.List Row.Entry
-c65 = e32 ∷ e33 ∷ e34 ∷ e35 ∷ e36 ∷ e37 ∷ e117 ∷ e39 ∷ []
+c65 = e106 ∷ []
 
 abbrev c66 : List.List Row.Entry
-c66 = e16 ∷ e85 ∷ e88 ∷ e91 ∷ e94 ∷ e97 ∷ e100 ∷ e103 ∷ []
+c66 = e49 ∷ e1 ∷ e2 ∷ e3 ∷ e4 ∷ e5 ∷ e6 ∷ e7 ∷ []
 
 abbrev c67 : List.List Row.Entry
-c67 = e16 ∷ e17 ∷ e88 ∷ e91 ∷ e94 ∷ e97 ∷ e100 ∷ e103 ∷ []
+c67 = e49 ∷ e1 ∷ e50 ∷ e3 ∷ e4 ∷ e5 ∷ e6 ∷ e7 ∷ []
 
 abbrev c68 : List.List Row.Entry
-c68 = e40 ∷ e41 ∷ e119 ∷ e43 ∷ e120 ∷ e45 ∷ e121 ∷ e47 ∷ []
+c68 = e49 ∷ e1 ∷ e50 ∷ e51 ∷ e4 ∷ e5 ∷ e6 ∷ e7 ∷ []
 
 abbrev c69 : List.List Row.Entry
-c69 = e16 ∷ e17 ∷ e18 ∷ e91 ∷ e94 ∷ e97 ∷ e100 ∷ e103 ∷ []
+c69 = e49 ∷ e1 ∷ e50 ∷ e51 ∷ e52 ∷ e5 ∷ e6 ∷ e7 ∷ []
 
 abbrev c70 : List.List Row.Entry
-c70 = e40 ∷ e41 ∷ e42 ∷ e43 ∷ e120 ∷ e45 ∷ e121 ∷ e47 ∷ []
+c70 = e49 ∷ e1 ∷ e50 ∷ e51 ∷ e52 ∷ e53 ∷ e6 ∷ e7 ∷ []
 
 abbrev c71 : List.List Row.Entry
-c71 = e16 ∷ e17 ∷ e18 ∷ e19 ∷ e94 ∷ e97 ∷ e100 ∷ e103 ∷ []
+c71 = e49 ∷ e1 ∷ e50 ∷ e51 ∷ e52 ∷ e53 ∷ e54 ∷ e7 ∷ []
 
 abbrev c72 : List.List Row.Entry
-c72 = e40 ∷ e41 ∷ e42 ∷ e43 ∷ e44 ∷ e45 ∷ e121 ∷ e47 ∷ []
+c72 = e56 ∷ e9 ∷ e10 ∷ e11 ∷ e12 ∷ e13 ∷ e14 ∷ e15 ∷ []
 
 abbrev c73 : List.List Row.Entry
-c73 = e16 ∷ e17 ∷ e18 ∷ e19 ∷ e20 ∷ e97 ∷ e100 ∷ e103 ∷ []
+c73 = e56 ∷ e57 ∷ e10 ∷ e11 ∷ e12 ∷ e13 ∷ e14 ∷ e15 ∷ []
 
 abbrev c74 : List.List Row.Entry
-c74 = e16 ∷ e17 ∷ e18 ∷ e19 ∷ e20 ∷ e21 ∷ e100 ∷ e103 ∷ []
-
-abbrev c75 : List.List Row.Entry
-c75 = e48 ∷ e49 ∷ e123 ∷ e51 ∷ e124 ∷ e53 ∷ e125 ∷ e55 ∷ []
-
-abbrev c76 : List.List Row.Entry
-c76 = e16 ∷ e17 ∷ e18 ∷ e19 ∷ e20 ∷ e21 ∷ e22 ∷ e103 ∷ []
-
-abbrev c77 : List.List Row.Entry
-c77 = e48 ∷ e49 ∷ e50 ∷ e51 ∷ e124 ∷ e53 ∷ e125 ∷ e55 ∷ []
-
-abbrev c78 : List.List Row.Entry
-c78 = e48 ∷ e49 ∷ e50 ∷ e51 ∷ e52 ∷ e53 ∷ e125 ∷ e55 ∷ []
-
-abbrev c79 : List.List Row.Entry
-c79 = e24 ∷ e109 ∷ e26 ∷ e27 ∷ e112 ∷ e29 ∷ e30 ∷ e31 ∷ []
-
-abbrev c80 : List.List Row.Entry
-c80 = e24 ∷ e25 ∷ e26 ∷ e27 ∷ e112 ∷ e29 ∷ e30 ∷ e31 ∷ []
-
-abbrev e127 : Row.Entry
-e127 = (57, Rows.sc-here z1)
-
-abbrev c81 : List.List Row.Entry
-c81 = e56 ∷ e127 ∷ []
-
-abbrev c82 : List.List Row.Entry
-c82 = e58 ∷ e1 ∷ e2 ∷ e3 ∷ e4 ∷ e5 ∷ e6 ∷ e7 ∷ []
-
-abbrev c83 : List.List Row.Entry
-c83 = e58 ∷ e1 ∷ e59 ∷ e3 ∷ e4 ∷ e5 ∷ e6 ∷ e7 ∷ []
-
-abbrev c84 : List.List Row.Entry
-c84 = e58 ∷ e1 ∷ e59 ∷ e60 ∷ e4 ∷ e5 ∷ e6 ∷ e7 ∷ []
-
-abbrev c85 : List.List Row.Entry
-c85 = e58 ∷ e1 ∷ e59 ∷ e60 ∷ e61 ∷ e5 ∷ e6 ∷ e7 ∷ []
-
-abbrev c86 : List.List Row.Entry
-c86 = e58 ∷ e1 ∷ e59 ∷ e60 ∷ e61 ∷ e62 ∷ e6 ∷ e7 ∷ []
-
-abbrev c87 : List.List Row.Entry
-c87 = e58 ∷ e1 ∷ e59 ∷ e60 ∷ e61 ∷ e62 ∷ e63 ∷ e7 ∷ []
-
-abbrev c88 : List.List Row.Entry
-c88 = e65 ∷ e9 ∷ e10 ∷ e11 ∷ e12 ∷ e13 ∷ e14 ∷ e15 ∷ []
-
-abbrev c89 : List.List Row.Entry
-c89 = e65 ∷ e66 ∷ e10 ∷ e11 ∷ e12 ∷ e13 ∷ e14 ∷ e15 ∷ []
-
-abbrev c90 : List.List Row.Entry
-c90 = e65 ∷ e66 ∷ e67 ∷ e11 ∷ e12 ∷ e13 ∷ e14 ∷ e15 ∷ []
+c74 = e56 ∷ e57 ∷ e58 ∷ e11 ∷ e12 ∷ e13 ∷ e14 ∷ e15 ∷ []
 
 abbrev w0 : List.List Row.Life
 w0 = Row.off ∷ Row.off ∷ Row.off ∷ Row.off ∷ Row.off ∷ Row.off ∷ Row.off ∷ Row.off ∷ []
 
 abbrev w1 : List.List Row.Life
-w1 = Row.off ∷ Row.off ∷ Row.off ∷ Row.off ∷ Row.off ∷ Row.off ∷ []
+w1 = Row.alive ∷ Row.off ∷ Row.off ∷ Row.off ∷ Row.off ∷ Row.off ∷ Row.off ∷ Row.off ∷ []
 
 abbrev w2 : List.List Row.Life
-w2 = Row.alive ∷ Row.off ∷ Row.off ∷ Row.off ∷ Row.off ∷ Row.off ∷ Row.off ∷ Row.off ∷ []
+w2 = Row.alive ∷ Row.alive ∷ Row.off ∷ Row.off ∷ Row.off ∷ Row.off ∷ Row.off ∷ Row.off ∷ []
 
 abbrev w3 : List.List Row.Life
-w3 = Row.alive ∷ Row.alive ∷ Row.off ∷ Row.off ∷ Row.off ∷ Row.off ∷ Row.off ∷ Row.off ∷ []
+w3 = Row.alive ∷ Row.alive ∷ Row.alive ∷ Row.off ∷ Row.off ∷ Row.off ∷ Row.off ∷ Row.off ∷ []
 
 abbrev w4 : List.List Row.Life
-w4 = Row.alive ∷ Row.alive ∷ Row.alive ∷ Row.off ∷ Row.off ∷ Row.off ∷ Row.off ∷ Row.off ∷ []
+w4 = Row.alive ∷ Row.alive ∷ Row.alive ∷ Row.alive ∷ Row.off ∷ Row.off ∷ Row.off ∷ Row.off ∷ []
 
 abbrev w5 : List.List Row.Life
-w5 = Row.alive ∷ Row.alive ∷ Row.alive ∷ Row.alive ∷ Row.off ∷ Row.off ∷ Row.off ∷ Row.off ∷ []
+w5 = Row.alive ∷ Row.alive ∷ Row.alive ∷ Row.alive ∷ Row.alive ∷ Row.off ∷ Row.off ∷ Row.off ∷ []
 
 abbrev w6 : List.List Row.Life
-w6 = Row.alive ∷ Row.alive ∷ Row.alive ∷ Row.alive ∷ Row.alive ∷ Row.off ∷ Row.off ∷ Row.off ∷ []
+w6 = Row.alive ∷ Row.alive ∷ Row.alive ∷ Row.alive ∷ Row.alive ∷ Row.alive ∷ Row.off ∷ Row.off ∷ []
 
 abbrev w7 : List.List Row.Life
-w7 = Row.alive ∷ Row.alive ∷ Row.alive ∷ Row.alive ∷ Row.alive ∷ Row.alive ∷ Row.off ∷ Row.off ∷ []
+w7 = Row.alive ∷ Row.alive ∷ Row.alive ∷ Row.alive ∷ Row.alive ∷ Row.alive ∷ Row.alive ∷ Row.off ∷ []
 
 abbrev w8 : List.List Row.Life
-w8 = Row.alive ∷ Row.alive ∷ Row.alive ∷ Row.alive ∷ Row.alive ∷ Row.alive ∷ Row.alive ∷ Row.off ∷ []
+w8 = Row.alive ∷ Row.alive ∷ Row.alive ∷ Row.alive ∷ Row.alive ∷ Row.alive ∷ Row.alive ∷ Row.alive ∷ []
 
 abbrev w9 : List.List Row.Life
-w9 = Row.alive ∷ Row.alive ∷ Row.alive ∷ Row.alive ∷ Row.alive ∷ Row.alive ∷ Row.alive ∷ Row.alive ∷ []
+w9 = Row.dead ∷ Row.alive ∷ Row.alive ∷ Row.alive ∷ Row.alive ∷ Row.alive ∷ Row.alive ∷ Row.alive ∷ []
 
 abbrev w10 : List.List Row.Life
-w10 = Row.alive ∷ Row.off ∷ Row.off ∷ Row.off ∷ Row.off ∷ Row.off ∷ []
+w10 = Row.off ∷ Row.alive ∷ Row.alive ∷ Row.alive ∷ Row.alive ∷ Row.alive ∷ Row.alive ∷ Row.alive ∷ []
 
 abbrev w11 : List.List Row.Life
-w11 = Row.alive ∷ Row.alive ∷ Row.off ∷ Row.off ∷ Row.off ∷ Row.off ∷ []
+w11 = Row.off ∷ Row.dead ∷ Row.alive ∷ Row.alive ∷ Row.alive ∷ Row.alive ∷ Row.alive ∷ Row.alive ∷ []
 
 abbrev w12 : List.List Row.Life
-w12 = Row.alive ∷ Row.alive ∷ Row.alive ∷ Row.off ∷ Row.off ∷ Row.off ∷ []
+w12 = Row.off ∷ Row.off ∷ Row.alive ∷ Row.alive ∷ Row.alive ∷ Row.alive ∷ Row.alive ∷ Row.alive ∷ []
 
 abbrev w13 : List.List Row.Life
-w13 = Row.alive ∷ Row.alive ∷ Row.alive ∷ Row.alive ∷ Row.off ∷ Row.off ∷ []
+w13 = Row.off ∷ Row.off ∷ Row.dead ∷ Row.alive ∷ Row.alive ∷ Row.alive ∷ Row.alive ∷ Row.alive ∷ []
 
 abbrev w14 : List.List Row.Life
-w14 = Row.alive ∷ Row.alive ∷ Row.alive ∷ Row.alive ∷ Row.alive ∷ Row.off ∷ []
+w14 = Row.off ∷ Row.off ∷ Row.off ∷ Row.alive ∷ Row.alive ∷ Row.alive ∷ Row.alive ∷ Row.alive ∷ []
 
 abbrev w15 : List.List Row.Life
-w15 = Row.alive ∷ Row.alive ∷ Row.alive ∷ Row.alive ∷ Row.alive ∷ Row.alive ∷ []
+w15 = Row.off ∷ Row.off ∷ Row.off ∷ Row.dead ∷ Row.alive ∷ Row.alive ∷ Row.alive ∷ Row.alive ∷ []
 
 abbrev w16 : List.List Row.Life
-w16 = Row.dead ∷ Row.alive ∷ Row.alive ∷ Row.alive ∷ Row.alive ∷ Row.alive ∷ Row.alive ∷ Row.alive ∷ []
+w16 = Row.off ∷ Row.off ∷ Row.off ∷ Row.off ∷ Row.alive ∷ Row.alive ∷ Row.alive ∷ Row.alive ∷ []
 
 abbrev w17 : List.List Row.Life
-w17 = Row.off ∷ Row.alive ∷ Row.alive ∷ Row.alive ∷ Row.alive ∷ Row.alive ∷ Row.alive ∷ Row.alive ∷ []
+w17 = Row.off ∷ Row.off ∷ Row.off ∷ Row.off ∷ Row.dead ∷ Row.alive ∷ Row.alive ∷ Row.alive ∷ []
 
 abbrev w18 : List.List Row.Life
-w18 = Row.off ∷ Row.dead ∷ Row.alive ∷ Row.alive ∷ Row.alive ∷ Row.alive ∷ Row.alive ∷ Row.alive ∷ []
+w18 = Row.off ∷ Row.off ∷ Row.off ∷ Row.off ∷ Row.off ∷ Row.alive ∷ Row.alive ∷ Row.alive ∷ []
 
 abbrev w19 : List.List Row.Life
-w19 = Row.off ∷ Row.off ∷ Row.alive ∷ Row.alive ∷ Row.alive ∷ Row.alive ∷ Row.alive ∷ Row.alive ∷ []
+w19 = Row.off ∷ Row.off ∷ Row.off ∷ Row.off ∷ Row.off ∷ Row.dead ∷ Row.alive ∷ Row.alive ∷ []
 
 abbrev w20 : List.List Row.Life
-w20 = Row.off ∷ Row.off ∷ Row.dead ∷ Row.alive ∷ Row.alive ∷ Row.alive ∷ Row.alive ∷ Row.alive ∷ []
+w20 = Row.off ∷ Row.off ∷ Row.off ∷ Row.off ∷ Row.off ∷ Row.off ∷ Row.alive ∷ Row.alive ∷ []
 
 abbrev w21 : List.List Row.Life
-w21 = Row.off ∷ Row.off ∷ Row.off ∷ Row.alive ∷ Row.alive ∷ Row.alive ∷ Row.alive ∷ Row.alive ∷ []
+w21 = Row.off ∷ Row.off ∷ Row.off ∷ Row.off ∷ Row.off ∷ Row.off ∷ Row.dead ∷ Row.alive ∷ []
 
 abbrev w22 : List.List Row.Life
-w22 = Row.off ∷ Row.off ∷ Row.off ∷ Row.dead ∷ Row.alive ∷ Row.alive ∷ Row.alive ∷ Row.alive ∷ []
+w22 = Row.off ∷ Row.off ∷ Row.off ∷ Row.off ∷ Row.off ∷ Row.off ∷ Row.off ∷ Row.alive ∷ []
 
 abbrev w23 : List.List Row.Life
-w23 = Row.off ∷ Row.off ∷ Row.off ∷ Row.off ∷ Row.alive ∷ Row.alive ∷ Row.alive ∷ Row.alive ∷ []
+w23 = Row.off ∷ Row.off ∷ Row.off ∷ Row.off ∷ Row.off ∷ Row.off ∷ Row.off ∷ Row.dead ∷ []
 
-abbrev w24 : List.List Row.Life
-w24 = Row.off ∷ Row.off ∷ Row.off ∷ Row.off ∷ Row.dead ∷ Row.alive ∷ Row.alive ∷ Row.alive ∷ []
+abbrev pub ps : List.List (Kinds.PK 13)
+ps = (ShrSlice.pShrS q0 0 tt) ∷ (Num.pNum Syntax.w64) ∷ (Num.pNum Syntax.w64) ∷ (Float.pFloat Ieee.binary64) ∷ (Num.pNum Syntax.w32) ∷ (Float.pFloat Ieee.binary64) ∷ (Num.pNum Syntax.w32) ∷ (Num.pNum Syntax.w32) ∷ (Num.pNum Syntax.w16) ∷ (Num.pNum Syntax.w32) ∷ (Num.pNum Syntax.w32) ∷ (MutSlice.pMutS q1 1 tt) ∷ (MutSlice.pMutS q1 2 tt) ∷ (MutSlice.pMutS q2 3 tt) ∷ (MutSlice.pMutS q3 4 tt) ∷ (MutSlice.pMutS q3 5 tt) ∷ (MutSlice.pMutS Rec·type.the-row 6 tt) ∷ (MutSlice.pMutS q0 7 tt) ∷ (MutSlice.pMutS q0 8 tt) ∷ (MutSlice.pMutS (Array.Array q2 2) 9 tt) ∷ (MutSlice.pMutS (Array.Array q2 2) 10 tt) ∷ (MutSlice.pMutS (Array.Array q2 2) 11 tt) ∷ (Kinds.pMutF (Referent.fInt Syntax.w32) 12 tt) ∷ []
 
-abbrev w25 : List.List Row.Life
-w25 = Row.off ∷ Row.off ∷ Row.off ∷ Row.off ∷ Row.off ∷ Row.alive ∷ Row.alive ∷ Row.alive ∷ []
-
-abbrev w26 : List.List Row.Life
-w26 = Row.off ∷ Row.off ∷ Row.off ∷ Row.off ∷ Row.off ∷ Row.dead ∷ Row.alive ∷ Row.alive ∷ []
-
-abbrev w27 : List.List Row.Life
-w27 = Row.off ∷ Row.off ∷ Row.off ∷ Row.off ∷ Row.off ∷ Row.off ∷ Row.alive ∷ Row.alive ∷ []
-
-abbrev w28 : List.List Row.Life
-w28 = Row.off ∷ Row.off ∷ Row.off ∷ Row.off ∷ Row.off ∷ Row.off ∷ Row.dead ∷ Row.alive ∷ []
-
-abbrev w29 : List.List Row.Life
-w29 = Row.off ∷ Row.off ∷ Row.off ∷ Row.off ∷ Row.off ∷ Row.off ∷ Row.off ∷ Row.alive ∷ []
-
-abbrev w30 : List.List Row.Life
-w30 = Row.off ∷ Row.off ∷ Row.off ∷ Row.off ∷ Row.off ∷ Row.off ∷ Row.off ∷ Row.dead ∷ []
-
-abbrev w31 : List.List Row.Life
-w31 = Row.dead ∷ Row.alive ∷ Row.alive ∷ Row.alive ∷ Row.alive ∷ Row.alive ∷ []
-
-abbrev w32 : List.List Row.Life
-w32 = Row.off ∷ Row.alive ∷ Row.alive ∷ Row.alive ∷ Row.alive ∷ Row.alive ∷ []
-
-abbrev w33 : List.List Row.Life
-w33 = Row.off ∷ Row.dead ∷ Row.alive ∷ Row.alive ∷ Row.alive ∷ Row.alive ∷ []
-
-abbrev w34 : List.List Row.Life
-w34 = Row.off ∷ Row.off ∷ Row.alive ∷ Row.alive ∷ Row.alive ∷ Row.alive ∷ []
-
-abbrev w35 : List.List Row.Life
-w35 = Row.off ∷ Row.off ∷ Row.dead ∷ Row.alive ∷ Row.alive ∷ Row.alive ∷ []
-
-abbrev w36 : List.List Row.Life
-w36 = Row.off ∷ Row.off ∷ Row.off ∷ Row.alive ∷ Row.alive ∷ Row.alive ∷ []
-
-abbrev w37 : List.List Row.Life
-w37 = Row.off ∷ Row.off ∷ Row.off ∷ Row.dead ∷ Row.alive ∷ Row.alive ∷ []
-
-abbrev w38 : List.List Row.Life
-w38 = Row.off ∷ Row.off ∷ Row.off ∷ Row.off ∷ Row.alive ∷ Row.alive ∷ []
-
-abbrev w39 : List.List Row.Life
-w39 = Row.off ∷ Row.off ∷ Row.off ∷ Row.off ∷ Row.dead ∷ Row.alive ∷ []
-
-abbrev w40 : List.List Row.Life
-w40 = Row.off ∷ Row.off ∷ Row.off ∷ Row.off ∷ Row.off ∷ Row.alive ∷ []
-
-abbrev w41 : List.List Row.Life
-w41 = Row.off ∷ Row.off ∷ Row.off ∷ Row.off ∷ Row.off ∷ Row.dead ∷ []
-
-abbrev pub ps : List.List (Kinds.PK 16)
-ps = (ShrSlice.pShrS q0 0 tt) ∷ (Num.pNum Syntax.w64) ∷ (Num.pNum Syntax.w64) ∷ (Float.pFloat Ieee.binary64) ∷ (Num.pNum Syntax.w32) ∷ (Float.pFloat Ieee.binary64) ∷ (Num.pNum Syntax.w32) ∷ (Num.pNum Syntax.w32) ∷ (Num.pNum Syntax.w16) ∷ (Num.pNum Syntax.w32) ∷ (Num.pNum Syntax.w32) ∷ (MutSlice.pMutS q1 1 tt) ∷ (MutSlice.pMutS q1 2 tt) ∷ (MutSlice.pMutS q2 3 tt) ∷ (MutSlice.pMutS q3 4 tt) ∷ (MutSlice.pMutS q3 5 tt) ∷ (MutSlice.pMutS Rec·type.the-row 6 tt) ∷ (MutSlice.pMutS q0 7 tt) ∷ (MutSlice.pMutS q0 8 tt) ∷ (MutSlice.pMutS q2 9 tt) ∷ (MutSlice.pMutS q2 10 tt) ∷ (MutSlice.pMutS q2 11 tt) ∷ (MutSlice.pMutS q2 12 tt) ∷ (MutSlice.pMutS q2 13 tt) ∷ (MutSlice.pMutS q2 14 tt) ∷ (Kinds.pMutF (Referent.fInt Syntax.w32) 15 tt) ∷ []
-
-abbrev pub r : Kinds.RK 16
+abbrev pub r : Kinds.RK 13
 r = Kinds.rSNum Syntax.w64
 
 abbrev pub xs : List.List Syntax.Ty
-xs = y4 ∷ y5 ∷ y6 ∷ y7 ∷ y6 ∷ y7 ∷ y8 ∷ y9 ∷ y10 ∷ y11 ∷ y10 ∷ y11 ∷ y12 ∷ y13 ∷ y15 ∷ y16 ∷ y15 ∷ y16 ∷ y8 ∷ y9 ∷ y8 ∷ y9 ∷ y8 ∷ y9 ∷ y8 ∷ y9 ∷ y8 ∷ y9 ∷ y8 ∷ y9 ∷ y2 ∷ []
+xs = y4 ∷ y5 ∷ y6 ∷ y7 ∷ y6 ∷ y7 ∷ y8 ∷ y9 ∷ y10 ∷ y11 ∷ y10 ∷ y11 ∷ y12 ∷ y13 ∷ y15 ∷ y16 ∷ y15 ∷ y16 ∷ y17 ∷ y18 ∷ y17 ∷ y18 ∷ y17 ∷ y18 ∷ y2 ∷ []
 
 abbrev pub m : Nat.ℕ
-m = 14
+m = 11
 
 abbrev pub ps·0 : List.List (Kinds.PK 0)
 ps·0 = (Num.pNum Syntax.w64) ∷ (Num.pNum Syntax.w64) ∷ (Float.pFloat Ieee.binary64) ∷ (Num.pNum Syntax.w32) ∷ (Float.pFloat Ieee.binary64) ∷ (Num.pNum Syntax.w32) ∷ (Num.pNum Syntax.w32) ∷ (Num.pNum Syntax.w16) ∷ (Num.pNum Syntax.w32) ∷ (Num.pNum Syntax.w32) ∷ []
@@ -986,10 +818,10 @@ ps·0 = (Num.pNum Syntax.w64) ∷ (Num.pNum Syntax.w64) ∷ (Float.pFloat Ieee.b
 abbrev pub r·0 : Kinds.RK 0
 r·0 = Value.rVal record { ty = q4; one = Path'.refl; val = Laws''.val LongdustOptions.the-type Laws'.the-laws; tells = Laws''.tells LongdustOptions.the-type Laws'.the-laws; still = Laws''.still LongdustOptions.the-type Laws'.the-copy Exit.yes; row = Rows.whole q4; rd = λ x. x; mk = λ x. x } λ M 𝓤 H A W. record { copies = Laws''.copy LongdustOptions.the-type Laws'.the-copy 𝓤 H A W; lawful = Laws''.lawful LongdustOptions.the-type Laws'.the-laws 𝓤 H A W; makes = Laws''.makes LongdustOptions.the-type Laws'.the-plain 𝓤 H A; in-mem = Local.mem-whole 𝓤 H A W q4; of-mem = Local.whole-mem 𝓤 H A W q4 }
 
-abbrev pub ps·1 : List.List (Kinds.PK 15)
-ps·1 = (ShrSlice.pShrS q0 0 tt) ∷ (Value.pVal record { ty = q4; one = Path'.refl; val = Laws''.val LongdustOptions.the-type Laws'.the-laws; tells = Laws''.tells LongdustOptions.the-type Laws'.the-laws; still = Laws''.still LongdustOptions.the-type Laws'.the-copy Exit.yes; row = Rows.whole q4; rd = λ x. x; mk = λ x. x } λ M 𝓤 H A W. record { copies = Laws''.copy LongdustOptions.the-type Laws'.the-copy 𝓤 H A W; lawful = Laws''.lawful LongdustOptions.the-type Laws'.the-laws 𝓤 H A W; makes = Laws''.makes LongdustOptions.the-type Laws'.the-plain 𝓤 H A; in-mem = Local.mem-whole 𝓤 H A W q4; of-mem = Local.whole-mem 𝓤 H A W q4 }) ∷ (MutSlice.pMutS q1 1 tt) ∷ (MutSlice.pMutS q1 2 tt) ∷ (MutSlice.pMutS q2 3 tt) ∷ (MutSlice.pMutS q3 4 tt) ∷ (MutSlice.pMutS q3 5 tt) ∷ (MutSlice.pMutS Rec·type.the-row 6 tt) ∷ (MutSlice.pMutS q0 7 tt) ∷ (MutSlice.pMutS q0 8 tt) ∷ (MutSlice.pMutS q2 9 tt) ∷ (MutSlice.pMutS q2 10 tt) ∷ (MutSlice.pMutS q2 11 tt) ∷ (MutSlice.pMutS q2 12 tt) ∷ (MutSlice.pMutS q2 13 tt) ∷ (MutSlice.pMutS q2 14 tt) ∷ []
+abbrev pub ps·1 : List.List (Kinds.PK 12)
+ps·1 = (ShrSlice.pShrS q0 0 tt) ∷ (Value.pVal record { ty = q4; one = Path'.refl; val = Laws''.val LongdustOptions.the-type Laws'.the-laws; tells = Laws''.tells LongdustOptions.the-type Laws'.the-laws; still = Laws''.still LongdustOptions.the-type Laws'.the-copy Exit.yes; row = Rows.whole q4; rd = λ x. x; mk = λ x. x } λ M 𝓤 H A W. record { copies = Laws''.copy LongdustOptions.the-type Laws'.the-copy 𝓤 H A W; lawful = Laws''.lawful LongdustOptions.the-type Laws'.the-laws 𝓤 H A W; makes = Laws''.makes LongdustOptions.the-type Laws'.the-plain 𝓤 H A; in-mem = Local.mem-whole 𝓤 H A W q4; of-mem = Local.whole-mem 𝓤 H A W q4 }) ∷ (MutSlice.pMutS q1 1 tt) ∷ (MutSlice.pMutS q1 2 tt) ∷ (MutSlice.pMutS q2 3 tt) ∷ (MutSlice.pMutS q3 4 tt) ∷ (MutSlice.pMutS q3 5 tt) ∷ (MutSlice.pMutS Rec·type.the-row 6 tt) ∷ (MutSlice.pMutS q0 7 tt) ∷ (MutSlice.pMutS q0 8 tt) ∷ (MutSlice.pMutS (Array.Array q2 2) 9 tt) ∷ (MutSlice.pMutS (Array.Array q2 2) 10 tt) ∷ (MutSlice.pMutS (Array.Array q2 2) 11 tt) ∷ []
 
-abbrev pub r·1 : Kinds.RK 15
+abbrev pub r·1 : Kinds.RK 12
 r·1 = Value.rVal record { ty = q5; one = Path'.refl; val = Laws''.val Answer.the-type Laws.the-laws; tells = Laws''.tells Answer.the-type Laws.the-laws; still = Laws''.still Answer.the-type Laws.the-copy Exit.yes; row = Rows.whole q5; rd = λ x. x; mk = λ x. x } λ M 𝓤 H A W. record { copies = Laws''.copy Answer.the-type Laws.the-copy 𝓤 H A W; lawful = Laws''.lawful Answer.the-type Laws.the-laws 𝓤 H A W; makes = Laws''.makes Answer.the-type Laws.the-plain 𝓤 H A; in-mem = Local.mem-whole 𝓤 H A W q5; of-mem = Local.whole-mem 𝓤 H A W q5 }
 
 abbrev pub ps·2 : List.List (Kinds.PK 0)
@@ -1005,214 +837,178 @@ abbrev pub r·3 : Kinds.RK 0
 r·3 = Kinds.rSNum Syntax.w64
 
 abbrev pub hs : List.List Syntax.Home
-hs = Syntax.valueLocal ∷ Syntax.valueLocal ∷ Syntax.valueLocal ∷ Syntax.valueLocal ∷ Syntax.valueLocal ∷ Syntax.valueLocal ∷ Syntax.valueLocal ∷ Syntax.valueLocal ∷ Syntax.valueLocal ∷ Syntax.valueLocal ∷ Syntax.valueLocal ∷ Syntax.valueLocal ∷ Syntax.valueLocal ∷ Syntax.valueLocal ∷ Syntax.valueLocal ∷ Syntax.valueLocal ∷ Syntax.valueLocal ∷ Syntax.valueLocal ∷ Syntax.valueLocal ∷ Syntax.valueLocal ∷ Syntax.valueLocal ∷ Syntax.valueLocal ∷ Syntax.valueLocal ∷ Syntax.valueLocal ∷ Syntax.valueLocal ∷ Syntax.valueLocal ∷ Syntax.valueLocal ∷ Syntax.valueLocal ∷ Syntax.valueLocal ∷ Syntax.valueLocal ∷ Syntax.valueLocal ∷ Syntax.valueLocal ∷ Syntax.valueLocal ∷ Syntax.valueLocal ∷ Syntax.valueLocal ∷ Syntax.valueLocal ∷ Syntax.valueLocal ∷ Syntax.valueLocal ∷ Syntax.valueLocal ∷ Syntax.valueLocal ∷ Syntax.valueLocal ∷ Syntax.valueLocal ∷ Syntax.valueLocal ∷ Syntax.valueLocal ∷ Syntax.valueLocal ∷ Syntax.valueLocal ∷ Syntax.valueLocal ∷ Syntax.valueLocal ∷ Syntax.valueLocal ∷ Syntax.valueLocal ∷ Syntax.valueLocal ∷ Syntax.valueLocal ∷ Syntax.valueLocal ∷ Syntax.valueLocal ∷ Syntax.valueLocal ∷ Syntax.valueLocal ∷ Syntax.valueLocal ∷ Syntax.valueLocal ∷ []
+hs = Syntax.valueLocal ∷ Syntax.valueLocal ∷ Syntax.valueLocal ∷ Syntax.valueLocal ∷ Syntax.valueLocal ∷ Syntax.valueLocal ∷ Syntax.valueLocal ∷ Syntax.valueLocal ∷ Syntax.valueLocal ∷ Syntax.valueLocal ∷ Syntax.valueLocal ∷ Syntax.valueLocal ∷ Syntax.valueLocal ∷ Syntax.valueLocal ∷ Syntax.valueLocal ∷ Syntax.valueLocal ∷ Syntax.valueLocal ∷ Syntax.valueLocal ∷ Syntax.valueLocal ∷ Syntax.valueLocal ∷ Syntax.valueLocal ∷ Syntax.valueLocal ∷ Syntax.valueLocal ∷ Syntax.valueLocal ∷ Syntax.valueLocal ∷ Syntax.valueLocal ∷ Syntax.valueLocal ∷ Syntax.valueLocal ∷ Syntax.valueLocal ∷ Syntax.valueLocal ∷ Syntax.valueLocal ∷ Syntax.valueLocal ∷ Syntax.valueLocal ∷ Syntax.valueLocal ∷ Syntax.valueLocal ∷ Syntax.valueLocal ∷ Syntax.valueLocal ∷ Syntax.valueLocal ∷ Syntax.valueLocal ∷ Syntax.valueLocal ∷ Syntax.valueLocal ∷ Syntax.valueLocal ∷ Syntax.valueLocal ∷ Syntax.valueLocal ∷ Syntax.valueLocal ∷ Syntax.valueLocal ∷ Syntax.valueLocal ∷ Syntax.valueLocal ∷ Syntax.valueLocal ∷ []
 
 abbrev b0 : Syntax.Body
-b0 = Syntax.call "longdust_c::options_of" ((Syntax.copy (Syntax.place 2 List.[])) ∷ (Syntax.copy (Syntax.place 3 List.[])) ∷ (Syntax.copy (Syntax.place 4 List.[])) ∷ (Syntax.copy (Syntax.place 5 List.[])) ∷ (Syntax.copy (Syntax.place 6 List.[])) ∷ (Syntax.copy (Syntax.place 7 List.[])) ∷ (Syntax.copy (Syntax.place 8 List.[])) ∷ (Syntax.copy (Syntax.place 9 List.[])) ∷ (Syntax.copy (Syntax.place 10 List.[])) ∷ (Syntax.copy (Syntax.place 11 List.[])) ∷ []) (Syntax.place 27 List.[])
+b0 = Syntax.call "longdust_c::options_of" ((Syntax.copy (Syntax.place 2 List.[])) ∷ (Syntax.copy (Syntax.place 3 List.[])) ∷ (Syntax.copy (Syntax.place 4 List.[])) ∷ (Syntax.copy (Syntax.place 5 List.[])) ∷ (Syntax.copy (Syntax.place 6 List.[])) ∷ (Syntax.copy (Syntax.place 7 List.[])) ∷ (Syntax.copy (Syntax.place 8 List.[])) ∷ (Syntax.copy (Syntax.place 9 List.[])) ∷ (Syntax.copy (Syntax.place 10 List.[])) ∷ (Syntax.copy (Syntax.place 11 List.[])) ∷ []) (Syntax.place 24 List.[])
 
 abbrev b1 : Syntax.Body
-b1 = Syntax.assign (Syntax.place 29 List.[]) (Syntax.addrOf (Syntax.place 12 ((Syntax.field 0) ∷ (Syntax.deref y1) ∷ [])))
+b1 = Syntax.assign (Syntax.place 26 List.[]) (Syntax.addrOf (Syntax.place 12 ((Syntax.field 0) ∷ (Syntax.deref y1) ∷ [])))
 
 abbrev b2 : Syntax.Body
-b2 = Syntax.assign (Syntax.place 30 List.[]) (Syntax.aggregate ((Syntax.copy (Syntax.place 29 List.[])) ∷ (Syntax.copy (Syntax.place 12 ((Syntax.field 1) ∷ []))) ∷ []))
+b2 = Syntax.assign (Syntax.place 27 List.[]) (Syntax.aggregate ((Syntax.copy (Syntax.place 26 List.[])) ∷ (Syntax.copy (Syntax.place 12 ((Syntax.field 1) ∷ []))) ∷ []))
 
 abbrev b3 : Syntax.Body
-b3 = Syntax.assign (Syntax.place 31 List.[]) (Syntax.addrOf (Syntax.place 13 ((Syntax.field 0) ∷ (Syntax.deref y1) ∷ [])))
+b3 = Syntax.assign (Syntax.place 28 List.[]) (Syntax.addrOf (Syntax.place 13 ((Syntax.field 0) ∷ (Syntax.deref y1) ∷ [])))
 
 abbrev b4 : Syntax.Body
-b4 = Syntax.assign (Syntax.place 32 List.[]) (Syntax.aggregate ((Syntax.copy (Syntax.place 31 List.[])) ∷ (Syntax.copy (Syntax.place 13 ((Syntax.field 1) ∷ []))) ∷ []))
+b4 = Syntax.assign (Syntax.place 29 List.[]) (Syntax.aggregate ((Syntax.copy (Syntax.place 28 List.[])) ∷ (Syntax.copy (Syntax.place 13 ((Syntax.field 1) ∷ []))) ∷ []))
 
 abbrev b5 : Syntax.Body
-b5 = Syntax.assign (Syntax.place 33 List.[]) (Syntax.addrOf (Syntax.place 14 ((Syntax.field 0) ∷ (Syntax.deref y2) ∷ [])))
+b5 = Syntax.assign (Syntax.place 30 List.[]) (Syntax.addrOf (Syntax.place 14 ((Syntax.field 0) ∷ (Syntax.deref y2) ∷ [])))
 
 abbrev b6 : Syntax.Body
-b6 = Syntax.assign (Syntax.place 34 List.[]) (Syntax.aggregate ((Syntax.copy (Syntax.place 33 List.[])) ∷ (Syntax.copy (Syntax.place 14 ((Syntax.field 1) ∷ []))) ∷ []))
+b6 = Syntax.assign (Syntax.place 31 List.[]) (Syntax.aggregate ((Syntax.copy (Syntax.place 30 List.[])) ∷ (Syntax.copy (Syntax.place 14 ((Syntax.field 1) ∷ []))) ∷ []))
 
 abbrev b7 : Syntax.Body
-b7 = Syntax.assign (Syntax.place 35 List.[]) (Syntax.addrOf (Syntax.place 15 ((Syntax.field 0) ∷ (Syntax.deref y3) ∷ [])))
+b7 = Syntax.assign (Syntax.place 32 List.[]) (Syntax.addrOf (Syntax.place 15 ((Syntax.field 0) ∷ (Syntax.deref y3) ∷ [])))
 
 abbrev b8 : Syntax.Body
-b8 = Syntax.assign (Syntax.place 36 List.[]) (Syntax.aggregate ((Syntax.copy (Syntax.place 35 List.[])) ∷ (Syntax.copy (Syntax.place 15 ((Syntax.field 1) ∷ []))) ∷ []))
+b8 = Syntax.assign (Syntax.place 33 List.[]) (Syntax.aggregate ((Syntax.copy (Syntax.place 32 List.[])) ∷ (Syntax.copy (Syntax.place 15 ((Syntax.field 1) ∷ []))) ∷ []))
 
 abbrev b9 : Syntax.Body
-b9 = Syntax.assign (Syntax.place 37 List.[]) (Syntax.addrOf (Syntax.place 16 ((Syntax.field 0) ∷ (Syntax.deref y3) ∷ [])))
+b9 = Syntax.assign (Syntax.place 34 List.[]) (Syntax.addrOf (Syntax.place 16 ((Syntax.field 0) ∷ (Syntax.deref y3) ∷ [])))
 
 abbrev b10 : Syntax.Body
-b10 = Syntax.assign (Syntax.place 38 List.[]) (Syntax.aggregate ((Syntax.copy (Syntax.place 37 List.[])) ∷ (Syntax.copy (Syntax.place 16 ((Syntax.field 1) ∷ []))) ∷ []))
+b10 = Syntax.assign (Syntax.place 35 List.[]) (Syntax.aggregate ((Syntax.copy (Syntax.place 34 List.[])) ∷ (Syntax.copy (Syntax.place 16 ((Syntax.field 1) ∷ []))) ∷ []))
 
 abbrev b11 : Syntax.Body
-b11 = Syntax.assign (Syntax.place 39 List.[]) (Syntax.addrOf (Syntax.place 17 ((Syntax.field 0) ∷ (Syntax.deref Rec·laws.mir) ∷ [])))
+b11 = Syntax.assign (Syntax.place 36 List.[]) (Syntax.addrOf (Syntax.place 17 ((Syntax.field 0) ∷ (Syntax.deref Rec·laws.mir) ∷ [])))
 
 abbrev b12 : Syntax.Body
-b12 = Syntax.assign (Syntax.place 40 List.[]) (Syntax.aggregate ((Syntax.copy (Syntax.place 39 List.[])) ∷ (Syntax.copy (Syntax.place 17 ((Syntax.field 1) ∷ []))) ∷ []))
+b12 = Syntax.assign (Syntax.place 37 List.[]) (Syntax.aggregate ((Syntax.copy (Syntax.place 36 List.[])) ∷ (Syntax.copy (Syntax.place 17 ((Syntax.field 1) ∷ []))) ∷ []))
 
 abbrev b13 : Syntax.Body
-b13 = Syntax.assign (Syntax.place 41 List.[]) (Syntax.addrOf (Syntax.place 18 ((Syntax.field 0) ∷ (Syntax.deref y14) ∷ [])))
+b13 = Syntax.assign (Syntax.place 38 List.[]) (Syntax.addrOf (Syntax.place 18 ((Syntax.field 0) ∷ (Syntax.deref y14) ∷ [])))
 
 abbrev b14 : Syntax.Body
-b14 = Syntax.assign (Syntax.place 42 List.[]) (Syntax.aggregate ((Syntax.copy (Syntax.place 41 List.[])) ∷ (Syntax.copy (Syntax.place 18 ((Syntax.field 1) ∷ []))) ∷ []))
+b14 = Syntax.assign (Syntax.place 39 List.[]) (Syntax.aggregate ((Syntax.copy (Syntax.place 38 List.[])) ∷ (Syntax.copy (Syntax.place 18 ((Syntax.field 1) ∷ []))) ∷ []))
 
 abbrev b15 : Syntax.Body
-b15 = Syntax.assign (Syntax.place 43 List.[]) (Syntax.addrOf (Syntax.place 19 ((Syntax.field 0) ∷ (Syntax.deref y14) ∷ [])))
+b15 = Syntax.assign (Syntax.place 40 List.[]) (Syntax.addrOf (Syntax.place 19 ((Syntax.field 0) ∷ (Syntax.deref y14) ∷ [])))
 
 abbrev b16 : Syntax.Body
-b16 = Syntax.assign (Syntax.place 44 List.[]) (Syntax.aggregate ((Syntax.copy (Syntax.place 43 List.[])) ∷ (Syntax.copy (Syntax.place 19 ((Syntax.field 1) ∷ []))) ∷ []))
+b16 = Syntax.assign (Syntax.place 41 List.[]) (Syntax.aggregate ((Syntax.copy (Syntax.place 40 List.[])) ∷ (Syntax.copy (Syntax.place 19 ((Syntax.field 1) ∷ []))) ∷ []))
 
 abbrev b17 : Syntax.Body
-b17 = Syntax.assign (Syntax.place 45 List.[]) (Syntax.addrOf (Syntax.place 20 ((Syntax.field 0) ∷ (Syntax.deref y2) ∷ [])))
+b17 = Syntax.assign (Syntax.place 42 List.[]) (Syntax.addrOf (Syntax.place 20 ((Syntax.field 0) ∷ (Syntax.deref (Syntax.tyArray y2 2)) ∷ [])))
 
 abbrev b18 : Syntax.Body
-b18 = Syntax.assign (Syntax.place 46 List.[]) (Syntax.aggregate ((Syntax.copy (Syntax.place 45 List.[])) ∷ (Syntax.copy (Syntax.place 20 ((Syntax.field 1) ∷ []))) ∷ []))
+b18 = Syntax.assign (Syntax.place 43 List.[]) (Syntax.aggregate ((Syntax.copy (Syntax.place 42 List.[])) ∷ (Syntax.copy (Syntax.place 20 ((Syntax.field 1) ∷ []))) ∷ []))
 
 abbrev b19 : Syntax.Body
-b19 = Syntax.assign (Syntax.place 47 List.[]) (Syntax.addrOf (Syntax.place 21 ((Syntax.field 0) ∷ (Syntax.deref y2) ∷ [])))
+b19 = Syntax.assign (Syntax.place 44 List.[]) (Syntax.addrOf (Syntax.place 21 ((Syntax.field 0) ∷ (Syntax.deref (Syntax.tyArray y2 2)) ∷ [])))
 
 abbrev b20 : Syntax.Body
-b20 = Syntax.assign (Syntax.place 48 List.[]) (Syntax.aggregate ((Syntax.copy (Syntax.place 47 List.[])) ∷ (Syntax.copy (Syntax.place 21 ((Syntax.field 1) ∷ []))) ∷ []))
+b20 = Syntax.assign (Syntax.place 45 List.[]) (Syntax.aggregate ((Syntax.copy (Syntax.place 44 List.[])) ∷ (Syntax.copy (Syntax.place 21 ((Syntax.field 1) ∷ []))) ∷ []))
 
 abbrev b21 : Syntax.Body
-b21 = Syntax.assign (Syntax.place 49 List.[]) (Syntax.addrOf (Syntax.place 22 ((Syntax.field 0) ∷ (Syntax.deref y2) ∷ [])))
+b21 = Syntax.assign (Syntax.place 46 List.[]) (Syntax.addrOf (Syntax.place 22 ((Syntax.field 0) ∷ (Syntax.deref (Syntax.tyArray y2 2)) ∷ [])))
 
 abbrev b22 : Syntax.Body
-b22 = Syntax.assign (Syntax.place 50 List.[]) (Syntax.aggregate ((Syntax.copy (Syntax.place 49 List.[])) ∷ (Syntax.copy (Syntax.place 22 ((Syntax.field 1) ∷ []))) ∷ []))
+b22 = Syntax.assign (Syntax.place 47 List.[]) (Syntax.aggregate ((Syntax.copy (Syntax.place 46 List.[])) ∷ (Syntax.copy (Syntax.place 22 ((Syntax.field 1) ∷ []))) ∷ []))
 
 abbrev b23 : Syntax.Body
-b23 = Syntax.assign (Syntax.place 51 List.[]) (Syntax.addrOf (Syntax.place 23 ((Syntax.field 0) ∷ (Syntax.deref y2) ∷ [])))
+b23 = Syntax.call "longdust::calls::process::process" ((Syntax.copy (Syntax.place 1 List.[])) ∷ (Syntax.copy (Syntax.place 24 List.[])) ∷ (Syntax.copy (Syntax.place 27 List.[])) ∷ (Syntax.copy (Syntax.place 29 List.[])) ∷ (Syntax.copy (Syntax.place 31 List.[])) ∷ (Syntax.copy (Syntax.place 33 List.[])) ∷ (Syntax.copy (Syntax.place 35 List.[])) ∷ (Syntax.copy (Syntax.place 37 List.[])) ∷ (Syntax.copy (Syntax.place 39 List.[])) ∷ (Syntax.copy (Syntax.place 41 List.[])) ∷ (Syntax.copy (Syntax.place 43 List.[])) ∷ (Syntax.copy (Syntax.place 45 List.[])) ∷ (Syntax.copy (Syntax.place 47 List.[])) ∷ []) (Syntax.place 25 List.[])
 
 abbrev b24 : Syntax.Body
-b24 = Syntax.assign (Syntax.place 52 List.[]) (Syntax.aggregate ((Syntax.copy (Syntax.place 51 List.[])) ∷ (Syntax.copy (Syntax.place 23 ((Syntax.field 1) ∷ []))) ∷ []))
+b24 = Syntax.call "longdust_c::flag_of" ((Syntax.copy (Syntax.place 25 ((Syntax.field 2) ∷ []))) ∷ []) (Syntax.place 48 List.[])
 
 abbrev b25 : Syntax.Body
-b25 = Syntax.assign (Syntax.place 53 List.[]) (Syntax.addrOf (Syntax.place 24 ((Syntax.field 0) ∷ (Syntax.deref y2) ∷ [])))
+b25 = Syntax.assign (Syntax.place 23 ((Syntax.deref y2) ∷ [])) (Syntax.rvOpd (Syntax.copy (Syntax.place 48 List.[])))
 
 abbrev b26 : Syntax.Body
-b26 = Syntax.assign (Syntax.place 54 List.[]) (Syntax.aggregate ((Syntax.copy (Syntax.place 53 List.[])) ∷ (Syntax.copy (Syntax.place 24 ((Syntax.field 1) ∷ []))) ∷ []))
+b26 = Syntax.call "longdust_c::count_or_refusal" ((Syntax.copy (Syntax.place 25 ((Syntax.field 0) ∷ []))) ∷ (Syntax.copy (Syntax.place 25 ((Syntax.field 1) ∷ []))) ∷ []) (Syntax.place 0 List.[])
 
 abbrev b27 : Syntax.Body
-b27 = Syntax.assign (Syntax.place 55 List.[]) (Syntax.addrOf (Syntax.place 25 ((Syntax.field 0) ∷ (Syntax.deref y2) ∷ [])))
+b27 = Syntax.return
 
 abbrev b28 : Syntax.Body
-b28 = Syntax.assign (Syntax.place 56 List.[]) (Syntax.aggregate ((Syntax.copy (Syntax.place 55 List.[])) ∷ (Syntax.copy (Syntax.place 25 ((Syntax.field 1) ∷ []))) ∷ []))
+b28 = Syntax.seq b26 b27
 
 abbrev b29 : Syntax.Body
-b29 = Syntax.call "longdust::filled_tables::process" ((Syntax.copy (Syntax.place 1 List.[])) ∷ (Syntax.copy (Syntax.place 27 List.[])) ∷ (Syntax.copy (Syntax.place 30 List.[])) ∷ (Syntax.copy (Syntax.place 32 List.[])) ∷ (Syntax.copy (Syntax.place 34 List.[])) ∷ (Syntax.copy (Syntax.place 36 List.[])) ∷ (Syntax.copy (Syntax.place 38 List.[])) ∷ (Syntax.copy (Syntax.place 40 List.[])) ∷ (Syntax.copy (Syntax.place 42 List.[])) ∷ (Syntax.copy (Syntax.place 44 List.[])) ∷ (Syntax.copy (Syntax.place 46 List.[])) ∷ (Syntax.copy (Syntax.place 48 List.[])) ∷ (Syntax.copy (Syntax.place 50 List.[])) ∷ (Syntax.copy (Syntax.place 52 List.[])) ∷ (Syntax.copy (Syntax.place 54 List.[])) ∷ (Syntax.copy (Syntax.place 56 List.[])) ∷ []) (Syntax.place 28 List.[])
+b29 = Syntax.seq b25 b28
 
 abbrev b30 : Syntax.Body
-b30 = Syntax.call "longdust_c::flag_of" ((Syntax.copy (Syntax.place 28 ((Syntax.field 2) ∷ []))) ∷ []) (Syntax.place 57 List.[])
+b30 = Syntax.seq b24 b29
 
 abbrev b31 : Syntax.Body
-b31 = Syntax.assign (Syntax.place 26 ((Syntax.deref y2) ∷ [])) (Syntax.rvOpd (Syntax.copy (Syntax.place 57 List.[])))
+b31 = Syntax.seq b23 b30
 
 abbrev b32 : Syntax.Body
-b32 = Syntax.call "longdust_c::count_or_refusal" ((Syntax.copy (Syntax.place 28 ((Syntax.field 0) ∷ []))) ∷ (Syntax.copy (Syntax.place 28 ((Syntax.field 1) ∷ []))) ∷ []) (Syntax.place 0 List.[])
+b32 = Syntax.seq b22 b31
 
 abbrev b33 : Syntax.Body
-b33 = Syntax.return
+b33 = Syntax.seq b21 b32
 
 abbrev b34 : Syntax.Body
-b34 = Syntax.seq b32 b33
+b34 = Syntax.seq b20 b33
 
 abbrev b35 : Syntax.Body
-b35 = Syntax.seq b31 b34
+b35 = Syntax.seq b19 b34
 
 abbrev b36 : Syntax.Body
-b36 = Syntax.seq b30 b35
+b36 = Syntax.seq b18 b35
 
 abbrev b37 : Syntax.Body
-b37 = Syntax.seq b29 b36
+b37 = Syntax.seq b17 b36
 
 abbrev b38 : Syntax.Body
-b38 = Syntax.seq b28 b37
+b38 = Syntax.seq b16 b37
 
 abbrev b39 : Syntax.Body
-b39 = Syntax.seq b27 b38
+b39 = Syntax.seq b15 b38
 
 abbrev b40 : Syntax.Body
-b40 = Syntax.seq b26 b39
+b40 = Syntax.seq b14 b39
 
 abbrev b41 : Syntax.Body
-b41 = Syntax.seq b25 b40
+b41 = Syntax.seq b13 b40
 
 abbrev b42 : Syntax.Body
-b42 = Syntax.seq b24 b41
+b42 = Syntax.seq b12 b41
 
 abbrev b43 : Syntax.Body
-b43 = Syntax.seq b23 b42
+b43 = Syntax.seq b11 b42
 
 abbrev b44 : Syntax.Body
-b44 = Syntax.seq b22 b43
+b44 = Syntax.seq b10 b43
 
 abbrev b45 : Syntax.Body
-b45 = Syntax.seq b21 b44
+b45 = Syntax.seq b9 b44
 
 abbrev b46 : Syntax.Body
-b46 = Syntax.seq b20 b45
+b46 = Syntax.seq b8 b45
 
 abbrev b47 : Syntax.Body
-b47 = Syntax.seq b19 b46
+b47 = Syntax.seq b7 b46
 
 abbrev b48 : Syntax.Body
-b48 = Syntax.seq b18 b47
+b48 = Syntax.seq b6 b47
 
 abbrev b49 : Syntax.Body
-b49 = Syntax.seq b17 b48
+b49 = Syntax.seq b5 b48
 
 abbrev b50 : Syntax.Body
-b50 = Syntax.seq b16 b49
+b50 = Syntax.seq b4 b49
 
 abbrev b51 : Syntax.Body
-b51 = Syntax.seq b15 b50
+b51 = Syntax.seq b3 b50
 
 abbrev b52 : Syntax.Body
-b52 = Syntax.seq b14 b51
+b52 = Syntax.seq b2 b51
 
 abbrev b53 : Syntax.Body
-b53 = Syntax.seq b13 b52
+b53 = Syntax.seq b1 b52
 
 abbrev b54 : Syntax.Body
-b54 = Syntax.seq b12 b53
-
-abbrev b55 : Syntax.Body
-b55 = Syntax.seq b11 b54
-
-abbrev b56 : Syntax.Body
-b56 = Syntax.seq b10 b55
-
-abbrev b57 : Syntax.Body
-b57 = Syntax.seq b9 b56
-
-abbrev b58 : Syntax.Body
-b58 = Syntax.seq b8 b57
-
-abbrev b59 : Syntax.Body
-b59 = Syntax.seq b7 b58
-
-abbrev b60 : Syntax.Body
-b60 = Syntax.seq b6 b59
-
-abbrev b61 : Syntax.Body
-b61 = Syntax.seq b5 b60
-
-abbrev b62 : Syntax.Body
-b62 = Syntax.seq b4 b61
-
-abbrev b63 : Syntax.Body
-b63 = Syntax.seq b3 b62
-
-abbrev b64 : Syntax.Body
-b64 = Syntax.seq b2 b63
-
-abbrev b65 : Syntax.Body
-b65 = Syntax.seq b1 b64
-
-abbrev b66 : Syntax.Body
-b66 = Syntax.seq b0 b65
+b54 = Syntax.seq b0 b53
 
 abbrev pub body : Syntax.Body
-body = b66
+body = b54
 
 abbrev pub Claims : Type 1
-Claims = Kinds.In 0 ps·0 × Kinds.Out 0 ps·0 r·0 × Kinds.In 15 ps·1 × Kinds.Out 15 ps·1 r·1 × Kinds.In 0 ps·2 × Kinds.Out 0 ps·2 r·2 × Kinds.In 0 ps·3 × Kinds.Out 0 ps·3 r·3
+Claims = Kinds.In 0 ps·0 × Kinds.Out 0 ps·0 r·0 × Kinds.In 12 ps·1 × Kinds.Out 12 ps·1 r·1 × Kinds.In 0 ps·2 × Kinds.Out 0 ps·2 r·2 × Kinds.In 0 ps·3 × Kinds.Out 0 ps·3 r·3
 
 abbrev pub t0 : List.List Row.Entry
 t0 = c0 ++ c1
@@ -1224,259 +1020,214 @@ abbrev pub t2 : List.List Row.Entry
 t2 = c4 ++ c5
 
 abbrev pub t3 : List.List Row.Entry
-t3 = c6 ++ c7
+t3 = c6
 
 abbrev pub t4 : List.List Row.Entry
-t4 = c8 ++ c9
+t4 = c7 ++ c8
 
 abbrev pub t5 : List.List Row.Entry
-t5 = c2 ++ c10
+t5 = c2 ++ c9
 
 abbrev pub t6 : List.List Row.Entry
-t6 = c0 ++ c11
+t6 = c0 ++ c10
 
 abbrev pub t7 : List.List Row.Entry
-t7 = c2 ++ c12
+t7 = c2 ++ c11
 
 abbrev pub t8 : List.List Row.Entry
-t8 = c2 ++ c13
+t8 = c2 ++ c12
 
 abbrev pub t9 : List.List Row.Entry
-t9 = c0 ++ c14
+t9 = c0 ++ c13
 
 abbrev pub t10 : List.List Row.Entry
-t10 = c2 ++ c15
+t10 = c2 ++ c14
 
 abbrev pub t11 : List.List Row.Entry
-t11 = c16 ++ c5
+t11 = c2 ++ c15
 
 abbrev pub t12 : List.List Row.Entry
-t12 = c0 ++ c17
+t12 = c0 ++ c16
 
 abbrev pub t13 : List.List Row.Entry
-t13 = c18 ++ c5
+t13 = c2 ++ c17
 
 abbrev pub t14 : List.List Row.Entry
-t14 = c19 ++ c5
+t14 = c2 ++ c18
 
 abbrev pub t15 : List.List Row.Entry
-t15 = c0 ++ c20
+t15 = c0 ++ c19
 
 abbrev pub t16 : List.List Row.Entry
-t16 = c21 ++ c5
+t16 = c20 ++ c5
 
 abbrev pub t17 : List.List Row.Entry
-t17 = c22 ++ c5
+t17 = c21 ++ c5
 
 abbrev pub t18 : List.List Row.Entry
-t18 = c23 ++ c13
+t18 = c22 ++ c18
 
 abbrev pub t19 : List.List Row.Entry
-t19 = c24 ++ c5
+t19 = c23 ++ c5
 
 abbrev pub t20 : List.List Row.Entry
-t20 = c25 ++ c5
+t20 = c24 ++ c5
 
 abbrev pub t21 : List.List Row.Entry
-t21 = c26 ++ c13
+t21 = c25 ++ c18
 
 abbrev pub t22 : List.List Row.Entry
-t22 = c27 ++ c5
+t22 = c26 ++ c5
 
 abbrev pub t23 : List.List Row.Entry
-t23 = c25 ++ c28
+t23 = c27 ++ c5
 
 abbrev pub t24 : List.List Row.Entry
-t24 = c29 ++ c13
+t24 = c28 ++ c18
 
 abbrev pub t25 : List.List Row.Entry
-t25 = c25 ++ c30
+t25 = c29 ++ c5
 
 abbrev pub t26 : List.List Row.Entry
-t26 = c25 ++ c31
+t26 = c30 ++ c5
 
 abbrev pub t27 : List.List Row.Entry
-t27 = c32 ++ c13
+t27 = c31 ++ c18
 
 abbrev pub t28 : List.List Row.Entry
-t28 = c25 ++ c33
+t28 = c30 ++ c32
 
 abbrev pub t29 : List.List Row.Entry
-t29 = c25 ++ c34
+t29 = c30 ++ c33
 
 abbrev pub t30 : List.List Row.Entry
-t30 = c35 ++ c13
+t30 = c34 ++ c18
 
 abbrev pub t31 : List.List Row.Entry
-t31 = c25 ++ c36
+t31 = c30 ++ c35
 
 abbrev pub t32 : List.List Row.Entry
-t32 = c25 ++ c37
+t32 = c30 ++ c36
 
 abbrev pub t33 : List.List Row.Entry
-t33 = c38 ++ c13
+t33 = c37 ++ c18
 
 abbrev pub t34 : List.List Row.Entry
-t34 = c25 ++ c39
+t34 = c30 ++ c38
 
 abbrev pub t35 : List.List Row.Entry
-t35 = c40 ++ c7
+t35 = c30 ++ c39
 
 abbrev pub t36 : List.List Row.Entry
-t36 = c41 ++ c13
+t36 = c40 ++ c18
 
 abbrev pub t37 : List.List Row.Entry
-t37 = c42 ++ c7
+t37 = c30 ++ c41
 
 abbrev pub t38 : List.List Row.Entry
-t38 = c43 ++ c7
+t38 = c30 ++ c42
 
 abbrev pub t39 : List.List Row.Entry
-t39 = c44 ++ c13
+t39 = c40 ++ c43
 
 abbrev pub t40 : List.List Row.Entry
-t40 = c45 ++ c7
+t40 = c44 ++ c45
 
 abbrev pub t41 : List.List Row.Entry
-t41 = c46 ++ c7
+t41 = c40 ++ c46
 
 abbrev pub t42 : List.List Row.Entry
-t42 = c44 ++ c47
+t42 = c0 ++ c47
 
 abbrev pub t43 : List.List Row.Entry
-t43 = c48 ++ c7
+t43 = c40 ++ c48
 
 abbrev pub t44 : List.List Row.Entry
-t44 = c49 ++ c7
+t44 = c0 ++ c49
 
 abbrev pub t45 : List.List Row.Entry
-t45 = c44 ++ c50
+t45 = c40 ++ c50
 
 abbrev pub t46 : List.List Row.Entry
-t46 = c51 ++ c7
+t46 = c0 ++ c51
 
 abbrev pub t47 : List.List Row.Entry
-t47 = c49 ++ c52
+t47 = c40 ++ c52
 
 abbrev pub t48 : List.List Row.Entry
-t48 = c44 ++ c53
+t48 = c53 ++ c45
 
 abbrev pub t49 : List.List Row.Entry
-t49 = c54 ++ c55
+t49 = c54 ++ c52
 
 abbrev pub t50 : List.List Row.Entry
-t50 = c56 ++ c57
+t50 = c55 ++ c45
 
 abbrev pub t51 : List.List Row.Entry
-t51 = c44 ++ c58
+t51 = c56 ++ c52
 
 abbrev pub t52 : List.List Row.Entry
-t52 = c0 ++ c59
+t52 = c57 ++ c45
 
 abbrev pub t53 : List.List Row.Entry
-t53 = c44 ++ c60
+t53 = c58 ++ c52
 
 abbrev pub t54 : List.List Row.Entry
-t54 = c0 ++ c61
+t54 = c4 ++ c45
 
 abbrev pub t55 : List.List Row.Entry
-t55 = c62 ++ c55
+t55 = c59 ++ c52
 
 abbrev pub t56 : List.List Row.Entry
-t56 = c0 ++ c63
+t56 = c4 ++ c60
 
 abbrev pub t57 : List.List Row.Entry
-t57 = c64 ++ c55
+t57 = c61 ++ c52
 
 abbrev pub t58 : List.List Row.Entry
-t58 = c65 ++ c55
+t58 = c4 ++ c62
 
 abbrev pub t59 : List.List Row.Entry
-t59 = c66 ++ c60
+t59 = c63 ++ c52
 
 abbrev pub t60 : List.List Row.Entry
-t60 = c4 ++ c55
+t60 = c4 ++ c64
 
 abbrev pub t61 : List.List Row.Entry
-t61 = c67 ++ c60
+t61 = c2 ++ c52
 
 abbrev pub t62 : List.List Row.Entry
-t62 = c4 ++ c68
+t62 = c65
 
 abbrev pub t63 : List.List Row.Entry
-t63 = c69 ++ c60
+t63 = c66 ++ c1
 
 abbrev pub t64 : List.List Row.Entry
-t64 = c4 ++ c70
+t64 = c67 ++ c1
 
 abbrev pub t65 : List.List Row.Entry
-t65 = c71 ++ c60
+t65 = c68 ++ c1
 
 abbrev pub t66 : List.List Row.Entry
-t66 = c4 ++ c72
+t66 = c69 ++ c1
 
 abbrev pub t67 : List.List Row.Entry
-t67 = c73 ++ c60
+t67 = c70 ++ c1
 
 abbrev pub t68 : List.List Row.Entry
-t68 = c74 ++ c60
+t68 = c71 ++ c1
 
 abbrev pub t69 : List.List Row.Entry
-t69 = c75 ++ c57
+t69 = c7 ++ c1
 
 abbrev pub t70 : List.List Row.Entry
-t70 = c76 ++ c60
+t70 = c7 ++ c72
 
 abbrev pub t71 : List.List Row.Entry
-t71 = c77 ++ c57
+t71 = c7 ++ c73
 
 abbrev pub t72 : List.List Row.Entry
-t72 = c2 ++ c60
-
-abbrev pub t73 : List.List Row.Entry
-t73 = c78 ++ c57
-
-abbrev pub t74 : List.List Row.Entry
-t74 = c2 ++ c79
-
-abbrev pub t75 : List.List Row.Entry
-t75 = c6 ++ c57
-
-abbrev pub t76 : List.List Row.Entry
-t76 = c2 ++ c80
-
-abbrev pub t77 : List.List Row.Entry
-t77 = c6 ++ c81
-
-abbrev pub t78 : List.List Row.Entry
-t78 = c82 ++ c1
-
-abbrev pub t79 : List.List Row.Entry
-t79 = c83 ++ c1
-
-abbrev pub t80 : List.List Row.Entry
-t80 = c84 ++ c1
-
-abbrev pub t81 : List.List Row.Entry
-t81 = c85 ++ c1
-
-abbrev pub t82 : List.List Row.Entry
-t82 = c86 ++ c1
-
-abbrev pub t83 : List.List Row.Entry
-t83 = c87 ++ c1
-
-abbrev pub t84 : List.List Row.Entry
-t84 = c8 ++ c1
-
-abbrev pub t85 : List.List Row.Entry
-t85 = c8 ++ c88
-
-abbrev pub t86 : List.List Row.Entry
-t86 = c8 ++ c89
-
-abbrev pub t87 : List.List Row.Entry
-t87 = c8 ++ c90
+t72 = c7 ++ c74
 
 abbrev pub T0 : Row.Cx
 T0 = record { locals = List._++_ t0 (List._++_ t1 (List._++_ t2 t3)); slots = List.[] }
@@ -1509,918 +1260,702 @@ abbrev pub T9 : Row.Cx
 T9 = record { locals = List._++_ t0 (List._++_ t1 (List._++_ t2 t3)); slots = List.[] }
 
 abbrev pub T10 : Row.Cx
-T10 = record { locals = List._++_ t0 (List._++_ t1 (List._++_ t2 t3)); slots = List.[] }
-
-abbrev pub T11 : Row.Cx
-T11 = record { locals = List._++_ t0 (List._++_ t1 (List._++_ t2 t3)); slots = List.[] }
+T10 = record { locals = List._++_ t0 (List._++_ t5 (List._++_ t2 t3)); slots = List.[] }
 
 abbrev pub T12 : Row.Cx
-T12 = record { locals = List._++_ t0 (List._++_ t1 (List._++_ t2 t3)); slots = List.[] }
+T12 = record { locals = List._++_ t6 (List._++_ t7 (List._++_ t2 t3)); slots = List.[] }
 
 abbrev pub T13 : Row.Cx
-T13 = record { locals = List._++_ t0 (List._++_ t1 (List._++_ t2 t3)); slots = List.[] }
-
-abbrev pub T14 : Row.Cx
-T14 = record { locals = List._++_ t0 (List._++_ t1 (List._++_ t2 t3)); slots = List.[] }
+T13 = record { locals = List._++_ t6 (List._++_ t8 (List._++_ t2 t3)); slots = List.[] }
 
 abbrev pub T15 : Row.Cx
-T15 = record { locals = List._++_ t0 (List._++_ t1 (List._++_ t2 t3)); slots = List.[] }
+T15 = record { locals = List._++_ t9 (List._++_ t10 (List._++_ t2 t3)); slots = List.[] }
 
 abbrev pub T16 : Row.Cx
-T16 = record { locals = List._++_ t0 (List._++_ t5 (List._++_ t2 t3)); slots = List.[] }
+T16 = record { locals = List._++_ t9 (List._++_ t11 (List._++_ t2 t3)); slots = List.[] }
 
 abbrev pub T18 : Row.Cx
-T18 = record { locals = List._++_ t6 (List._++_ t7 (List._++_ t2 t3)); slots = List.[] }
+T18 = record { locals = List._++_ t12 (List._++_ t13 (List._++_ t2 t3)); slots = List.[] }
 
 abbrev pub T19 : Row.Cx
-T19 = record { locals = List._++_ t6 (List._++_ t8 (List._++_ t2 t3)); slots = List.[] }
+T19 = record { locals = List._++_ t12 (List._++_ t14 (List._++_ t2 t3)); slots = List.[] }
 
 abbrev pub T21 : Row.Cx
-T21 = record { locals = List._++_ t9 (List._++_ t10 (List._++_ t2 t3)); slots = List.[] }
+T21 = record { locals = List._++_ t15 (List._++_ t14 (List._++_ t16 t3)); slots = List.[] }
 
 abbrev pub T22 : Row.Cx
-T22 = record { locals = List._++_ t9 (List._++_ t8 (List._++_ t11 t3)); slots = List.[] }
+T22 = record { locals = List._++_ t15 (List._++_ t14 (List._++_ t17 t3)); slots = List.[] }
 
 abbrev pub T24 : Row.Cx
-T24 = record { locals = List._++_ t12 (List._++_ t8 (List._++_ t13 t3)); slots = List.[] }
+T24 = record { locals = List._++_ t15 (List._++_ t18 (List._++_ t19 t3)); slots = List.[] }
 
 abbrev pub T25 : Row.Cx
-T25 = record { locals = List._++_ t12 (List._++_ t8 (List._++_ t14 t3)); slots = List.[] }
+T25 = record { locals = List._++_ t15 (List._++_ t18 (List._++_ t20 t3)); slots = List.[] }
 
 abbrev pub T27 : Row.Cx
-T27 = record { locals = List._++_ t15 (List._++_ t8 (List._++_ t16 t3)); slots = List.[] }
+T27 = record { locals = List._++_ t15 (List._++_ t21 (List._++_ t22 t3)); slots = List.[] }
 
 abbrev pub T28 : Row.Cx
-T28 = record { locals = List._++_ t15 (List._++_ t8 (List._++_ t17 t3)); slots = List.[] }
+T28 = record { locals = List._++_ t15 (List._++_ t21 (List._++_ t23 t3)); slots = List.[] }
 
 abbrev pub T30 : Row.Cx
-T30 = record { locals = List._++_ t15 (List._++_ t18 (List._++_ t19 t3)); slots = List.[] }
+T30 = record { locals = List._++_ t15 (List._++_ t24 (List._++_ t25 t3)); slots = List.[] }
 
 abbrev pub T31 : Row.Cx
-T31 = record { locals = List._++_ t15 (List._++_ t18 (List._++_ t20 t3)); slots = List.[] }
+T31 = record { locals = List._++_ t15 (List._++_ t24 (List._++_ t26 t3)); slots = List.[] }
 
 abbrev pub T33 : Row.Cx
-T33 = record { locals = List._++_ t15 (List._++_ t21 (List._++_ t22 t3)); slots = List.[] }
+T33 = record { locals = List._++_ t15 (List._++_ t27 (List._++_ t28 t3)); slots = List.[] }
 
 abbrev pub T34 : Row.Cx
-T34 = record { locals = List._++_ t15 (List._++_ t21 (List._++_ t23 t3)); slots = List.[] }
+T34 = record { locals = List._++_ t15 (List._++_ t27 (List._++_ t29 t3)); slots = List.[] }
 
 abbrev pub T36 : Row.Cx
-T36 = record { locals = List._++_ t15 (List._++_ t24 (List._++_ t25 t3)); slots = List.[] }
+T36 = record { locals = List._++_ t15 (List._++_ t30 (List._++_ t31 t3)); slots = List.[] }
 
 abbrev pub T37 : Row.Cx
-T37 = record { locals = List._++_ t15 (List._++_ t24 (List._++_ t26 t3)); slots = List.[] }
+T37 = record { locals = List._++_ t15 (List._++_ t30 (List._++_ t32 t3)); slots = List.[] }
 
 abbrev pub T39 : Row.Cx
-T39 = record { locals = List._++_ t15 (List._++_ t27 (List._++_ t28 t3)); slots = List.[] }
+T39 = record { locals = List._++_ t15 (List._++_ t33 (List._++_ t34 t3)); slots = List.[] }
 
 abbrev pub T40 : Row.Cx
-T40 = record { locals = List._++_ t15 (List._++_ t27 (List._++_ t29 t3)); slots = List.[] }
+T40 = record { locals = List._++_ t15 (List._++_ t33 (List._++_ t35 t3)); slots = List.[] }
 
 abbrev pub T42 : Row.Cx
-T42 = record { locals = List._++_ t15 (List._++_ t30 (List._++_ t31 t3)); slots = List.[] }
+T42 = record { locals = List._++_ t15 (List._++_ t36 (List._++_ t37 t3)); slots = List.[] }
 
 abbrev pub T43 : Row.Cx
-T43 = record { locals = List._++_ t15 (List._++_ t30 (List._++_ t32 t3)); slots = List.[] }
+T43 = record { locals = List._++_ t15 (List._++_ t36 (List._++_ t38 t3)); slots = List.[] }
+
+abbrev pub T44 : Row.Cx
+T44 = record { locals = List._++_ t15 (List._++_ t39 (List._++_ t40 t3)); slots = List.[] }
 
 abbrev pub T45 : Row.Cx
-T45 = record { locals = List._++_ t15 (List._++_ t33 (List._++_ t34 t3)); slots = List.[] }
+T45 = record { locals = List._++_ t15 (List._++_ t41 (List._++_ t40 t3)); slots = List.[] }
 
-abbrev pub T46 : Row.Cx
-T46 = record { locals = List._++_ t15 (List._++_ t33 (List._++_ t32 t35)); slots = List.[] }
+abbrev pub T47 : Row.Cx
+T47 = record { locals = List._++_ t42 (List._++_ t43 (List._++_ t40 t3)); slots = List.[] }
 
 abbrev pub T48 : Row.Cx
-T48 = record { locals = List._++_ t15 (List._++_ t36 (List._++_ t32 t37)); slots = List.[] }
-
-abbrev pub T49 : Row.Cx
-T49 = record { locals = List._++_ t15 (List._++_ t36 (List._++_ t32 t38)); slots = List.[] }
+T48 = record { locals = List._++_ t42 (List._++_ t43 (List._++_ t40 t3)); slots = List.[] }
 
 abbrev pub T51 : Row.Cx
-T51 = record { locals = List._++_ t15 (List._++_ t39 (List._++_ t32 t40)); slots = List.[] }
+T51 = record { locals = List._++_ t44 (List._++_ t45 (List._++_ t40 t3)); slots = List.[] }
 
 abbrev pub T52 : Row.Cx
-T52 = record { locals = List._++_ t15 (List._++_ t39 (List._++_ t32 t41)); slots = List.[] }
-
-abbrev pub T54 : Row.Cx
-T54 = record { locals = List._++_ t15 (List._++_ t42 (List._++_ t32 t43)); slots = List.[] }
+T52 = record { locals = List._++_ t44 (List._++_ t45 (List._++_ t40 t3)); slots = List.[] }
 
 abbrev pub T55 : Row.Cx
-T55 = record { locals = List._++_ t15 (List._++_ t42 (List._++_ t32 t44)); slots = List.[] }
+T55 = record { locals = List._++_ t46 (List._++_ t47 (List._++_ t40 t3)); slots = List.[] }
 
-abbrev pub T57 : Row.Cx
-T57 = record { locals = List._++_ t15 (List._++_ t45 (List._++_ t32 t46)); slots = List.[] }
-
-abbrev pub T58 : Row.Cx
-T58 = record { locals = List._++_ t15 (List._++_ t45 (List._++_ t32 t47)); slots = List.[] }
+abbrev pub T56 : Row.Cx
+T56 = record { locals = List._++_ t46 (List._++_ t47 (List._++_ t40 t3)); slots = List.[] }
 
 abbrev pub T59 : Row.Cx
-T59 = record { locals = List._++_ t15 (List._++_ t48 (List._++_ t49 t50)); slots = List.[] }
+T59 = record { locals = List._++_ t0 (List._++_ t47 (List._++_ t48 t3)); slots = List.[] }
 
 abbrev pub T60 : Row.Cx
-T60 = record { locals = List._++_ t15 (List._++_ t51 (List._++_ t49 t50)); slots = List.[] }
-
-abbrev pub T62 : Row.Cx
-T62 = record { locals = List._++_ t52 (List._++_ t53 (List._++_ t49 t50)); slots = List.[] }
+T60 = record { locals = List._++_ t0 (List._++_ t47 (List._++_ t48 t3)); slots = List.[] }
 
 abbrev pub T63 : Row.Cx
-T63 = record { locals = List._++_ t52 (List._++_ t53 (List._++_ t49 t50)); slots = List.[] }
+T63 = record { locals = List._++_ t0 (List._++_ t49 (List._++_ t50 t3)); slots = List.[] }
 
-abbrev pub T66 : Row.Cx
-T66 = record { locals = List._++_ t54 (List._++_ t53 (List._++_ t55 t50)); slots = List.[] }
+abbrev pub T64 : Row.Cx
+T64 = record { locals = List._++_ t0 (List._++_ t49 (List._++_ t50 t3)); slots = List.[] }
 
 abbrev pub T67 : Row.Cx
-T67 = record { locals = List._++_ t54 (List._++_ t53 (List._++_ t55 t50)); slots = List.[] }
+T67 = record { locals = List._++_ t0 (List._++_ t51 (List._++_ t52 t3)); slots = List.[] }
 
 abbrev pub T70 : Row.Cx
-T70 = record { locals = List._++_ t56 (List._++_ t53 (List._++_ t57 t50)); slots = List.[] }
+T70 = record { locals = List._++_ t0 (List._++_ t53 (List._++_ t54 t3)); slots = List.[] }
 
 abbrev pub T71 : Row.Cx
-T71 = record { locals = List._++_ t56 (List._++_ t53 (List._++_ t57 t50)); slots = List.[] }
+T71 = record { locals = List._++_ t0 (List._++_ t53 (List._++_ t54 t3)); slots = List.[] }
 
 abbrev pub T74 : Row.Cx
-T74 = record { locals = List._++_ t0 (List._++_ t53 (List._++_ t58 t50)); slots = List.[] }
+T74 = record { locals = List._++_ t0 (List._++_ t55 (List._++_ t56 t3)); slots = List.[] }
 
 abbrev pub T75 : Row.Cx
-T75 = record { locals = List._++_ t0 (List._++_ t53 (List._++_ t58 t50)); slots = List.[] }
+T75 = record { locals = List._++_ t0 (List._++_ t55 (List._++_ t56 t3)); slots = List.[] }
 
 abbrev pub T78 : Row.Cx
-T78 = record { locals = List._++_ t0 (List._++_ t59 (List._++_ t60 t50)); slots = List.[] }
+T78 = record { locals = List._++_ t0 (List._++_ t57 (List._++_ t58 t3)); slots = List.[] }
 
-abbrev pub T79 : Row.Cx
-T79 = record { locals = List._++_ t0 (List._++_ t59 (List._++_ t60 t50)); slots = List.[] }
+abbrev pub T81 : Row.Cx
+T81 = record { locals = List._++_ t0 (List._++_ t59 (List._++_ t60 t3)); slots = List.[] }
 
-abbrev pub T82 : Row.Cx
-T82 = record { locals = List._++_ t0 (List._++_ t61 (List._++_ t62 t50)); slots = List.[] }
-
-abbrev pub T85 : Row.Cx
-T85 = record { locals = List._++_ t0 (List._++_ t63 (List._++_ t64 t50)); slots = List.[] }
+abbrev pub T84 : Row.Cx
+T84 = record { locals = List._++_ t0 (List._++_ t61 (List._++_ t2 t3)); slots = List.[] }
 
 abbrev pub T86 : Row.Cx
-T86 = record { locals = List._++_ t0 (List._++_ t63 (List._++_ t64 t50)); slots = List.[] }
+T86 = record { locals = List._++_ t0 (List._++_ t61 (List._++_ t2 t62)); slots = List.[] }
+
+abbrev pub T87 : Row.Cx
+T87 = record { locals = List._++_ t0 (List._++_ t61 (List._++_ t2 t62)); slots = List.[] }
+
+abbrev pub T88 : Row.Cx
+T88 = record { locals = List._++_ t0 (List._++_ t61 (List._++_ t2 t3)); slots = List.[] }
 
 abbrev pub T89 : Row.Cx
-T89 = record { locals = List._++_ t0 (List._++_ t65 (List._++_ t66 t50)); slots = List.[] }
+T89 = record { locals = List._++_ t63 (List._++_ t61 (List._++_ t2 t3)); slots = List.[] }
 
 abbrev pub T90 : Row.Cx
-T90 = record { locals = List._++_ t0 (List._++_ t65 (List._++_ t66 t50)); slots = List.[] }
+T90 = record { locals = List._++_ t63 (List._++_ t1 (List._++_ t2 t3)); slots = List.[] }
+
+abbrev pub T91 : Row.Cx
+T91 = record { locals = List._++_ t64 (List._++_ t1 (List._++_ t2 t3)); slots = List.[] }
+
+abbrev pub T92 : Row.Cx
+T92 = record { locals = List._++_ t65 (List._++_ t1 (List._++_ t2 t3)); slots = List.[] }
 
 abbrev pub T93 : Row.Cx
-T93 = record { locals = List._++_ t0 (List._++_ t67 (List._++_ t2 t50)); slots = List.[] }
+T93 = record { locals = List._++_ t66 (List._++_ t1 (List._++_ t2 t3)); slots = List.[] }
 
 abbrev pub T94 : Row.Cx
-T94 = record { locals = List._++_ t0 (List._++_ t67 (List._++_ t2 t50)); slots = List.[] }
+T94 = record { locals = List._++_ t67 (List._++_ t1 (List._++_ t2 t3)); slots = List.[] }
+
+abbrev pub T95 : Row.Cx
+T95 = record { locals = List._++_ t68 (List._++_ t1 (List._++_ t2 t3)); slots = List.[] }
+
+abbrev pub T96 : Row.Cx
+T96 = record { locals = List._++_ t69 (List._++_ t1 (List._++_ t2 t3)); slots = List.[] }
 
 abbrev pub T97 : Row.Cx
-T97 = record { locals = List._++_ t0 (List._++_ t68 (List._++_ t2 t69)); slots = List.[] }
+T97 = record { locals = List._++_ t70 (List._++_ t1 (List._++_ t2 t3)); slots = List.[] }
 
 abbrev pub T98 : Row.Cx
-T98 = record { locals = List._++_ t0 (List._++_ t68 (List._++_ t2 t69)); slots = List.[] }
+T98 = record { locals = List._++_ t71 (List._++_ t1 (List._++_ t2 t3)); slots = List.[] }
 
-abbrev pub T101 : Row.Cx
-T101 = record { locals = List._++_ t0 (List._++_ t70 (List._++_ t2 t71)); slots = List.[] }
+abbrev pub T99 : Row.Cx
+T99 = record { locals = List._++_ t72 (List._++_ t1 (List._++_ t2 t3)); slots = List.[] }
 
-abbrev pub T102 : Row.Cx
-T102 = record { locals = List._++_ t0 (List._++_ t70 (List._++_ t2 t71)); slots = List.[] }
-
-abbrev pub T105 : Row.Cx
-T105 = record { locals = List._++_ t0 (List._++_ t72 (List._++_ t2 t73)); slots = List.[] }
-
-abbrev pub T106 : Row.Cx
-T106 = record { locals = List._++_ t0 (List._++_ t72 (List._++_ t2 t73)); slots = List.[] }
-
-abbrev pub T109 : Row.Cx
-T109 = record { locals = List._++_ t0 (List._++_ t74 (List._++_ t2 t75)); slots = List.[] }
-
-abbrev pub T110 : Row.Cx
-T110 = record { locals = List._++_ t0 (List._++_ t74 (List._++_ t2 t75)); slots = List.[] }
-
-abbrev pub T113 : Row.Cx
-T113 = record { locals = List._++_ t0 (List._++_ t76 (List._++_ t2 t3)); slots = List.[] }
-
-abbrev pub T114 : Row.Cx
-T114 = record { locals = List._++_ t0 (List._++_ t76 (List._++_ t2 t3)); slots = List.[] }
-
-abbrev pub T116 : Row.Cx
-T116 = record { locals = List._++_ t0 (List._++_ t76 (List._++_ t2 t77)); slots = List.[] }
-
-abbrev pub T117 : Row.Cx
-T117 = record { locals = List._++_ t0 (List._++_ t76 (List._++_ t2 t77)); slots = List.[] }
-
-abbrev pub T118 : Row.Cx
-T118 = record { locals = List._++_ t0 (List._++_ t76 (List._++_ t2 t3)); slots = List.[] }
-
-abbrev pub T119 : Row.Cx
-T119 = record { locals = List._++_ t78 (List._++_ t76 (List._++_ t2 t3)); slots = List.[] }
-
-abbrev pub T120 : Row.Cx
-T120 = record { locals = List._++_ t78 (List._++_ t1 (List._++_ t2 t3)); slots = List.[] }
-
-abbrev pub T121 : Row.Cx
-T121 = record { locals = List._++_ t79 (List._++_ t1 (List._++_ t2 t3)); slots = List.[] }
-
-abbrev pub T122 : Row.Cx
-T122 = record { locals = List._++_ t80 (List._++_ t1 (List._++_ t2 t3)); slots = List.[] }
-
-abbrev pub T123 : Row.Cx
-T123 = record { locals = List._++_ t81 (List._++_ t1 (List._++_ t2 t3)); slots = List.[] }
-
-abbrev pub T124 : Row.Cx
-T124 = record { locals = List._++_ t82 (List._++_ t1 (List._++_ t2 t3)); slots = List.[] }
-
-abbrev pub T125 : Row.Cx
-T125 = record { locals = List._++_ t83 (List._++_ t1 (List._++_ t2 t3)); slots = List.[] }
-
-abbrev pub T126 : Row.Cx
-T126 = record { locals = List._++_ t84 (List._++_ t1 (List._++_ t2 t3)); slots = List.[] }
-
-abbrev pub T127 : Row.Cx
-T127 = record { locals = List._++_ t85 (List._++_ t1 (List._++_ t2 t3)); slots = List.[] }
-
-abbrev pub T128 : Row.Cx
-T128 = record { locals = List._++_ t86 (List._++_ t1 (List._++_ t2 t3)); slots = List.[] }
-
-abbrev pub T129 : Row.Cx
-T129 = record { locals = List._++_ t87 (List._++_ t1 (List._++_ t2 t3)); slots = List.[] }
-
-abbrev pub T130 : Row.Cx
-T130 = record { locals = List._++_ t4 (List._++_ t1 (List._++_ t2 t3)); slots = List.[] }
+abbrev pub T100 : Row.Cx
+T100 = record { locals = List._++_ t4 (List._++_ t1 (List._++_ t2 t3)); slots = List.[] }
 
 abbrev pub O0 : Typed.Outs
 O0 = record { next = Option.none; exits = List.[]; returns = Option.some T1 }
 
 module _ (claims· : Claims) where
   abbrev s0 : Typed.Gives T0 T2
-  s0 = Know.k-shs-known (Referent.fInt Syntax.w8) T0 1 0 y17 Row.off 0 λ x. x
+  s0 = Know.k-shs-known (Referent.fInt Syntax.w8) T0 1 0 y19 Row.off 0 λ x. x
 
   abbrev s1 : Typed.Gives T2 T3
-  s1 = Know.k-sl-known (Referent.fFloat Ieee.binary64) T2 12 1 y18 Row.off Ieee.nan λ x. x
+  s1 = Know.k-sl-known (Referent.fFloat Ieee.binary64) T2 12 1 y20 Row.off Ieee.nan λ x. x
 
   abbrev s2 : Typed.Gives T3 T4
-  s2 = Know.k-sl-known (Referent.fFloat Ieee.binary64) T3 13 2 y19 Row.off Ieee.nan λ x. x
+  s2 = Know.k-sl-known (Referent.fFloat Ieee.binary64) T3 13 2 y21 Row.off Ieee.nan λ x. x
 
   abbrev s3 : Typed.Gives T4 T5
-  s3 = Know.k-sl-known (Referent.fInt Syntax.w32) T4 14 3 y20 Row.off 0 λ x. x
+  s3 = Know.k-sl-known (Referent.fInt Syntax.w32) T4 14 3 y22 Row.off 0 λ x. x
 
   abbrev s4 : Typed.Gives T5 T6
-  s4 = Know.k-sl-known (Referent.fInt Syntax.w16) T5 15 4 y21 Row.off 0 λ x. x
+  s4 = Know.k-sl-known (Referent.fInt Syntax.w16) T5 15 4 y23 Row.off 0 λ x. x
 
   abbrev s5 : Typed.Gives T6 T7
-  s5 = Know.k-sl-known (Referent.fInt Syntax.w16) T6 16 5 y22 Row.off 0 λ x. x
+  s5 = Know.k-sl-known (Referent.fInt Syntax.w16) T6 16 5 y24 Row.off 0 λ x. x
 
   abbrev s6 : Typed.Gives T7 T8
-  s6 = Know.k-sl-known (Referent.fInt Syntax.w8) T7 18 7 y24 Row.off 0 λ x. x
+  s6 = Know.k-sl-known (Referent.fInt Syntax.w8) T7 18 7 y26 Row.off 0 λ x. x
 
   abbrev s7 : Typed.Gives T8 T9
-  s7 = Know.k-sl-known (Referent.fInt Syntax.w8) T8 19 8 y25 Row.off 0 λ x. x
+  s7 = Know.k-sl-known (Referent.fInt Syntax.w8) T8 19 8 y27 Row.off 0 λ x. x
 
-  abbrev s8 : Typed.Gives T9 T10
-  s8 = Know.k-sl-known (Referent.fInt Syntax.w32) T9 20 9 y26 Row.off 0 λ x. x
+  abbrev s8 : Typed.Both T9 T10
+  s8 = Call.callB ps·0 r·0 (claims· .0) (claims· .1) T9 (Num.vAt 2 λ x. x, (Num.vAt 3 λ x. x, (Float.fAt 4 λ x. x, (Num.vAt 5 λ x. x, (Float.fAt 6 λ x. x, (Num.vAt 7 λ x. x, (Num.vAt 8 λ x. x, (Num.vAt 9 λ x. x, (Num.vAt 10 λ x. x, (Num.vAt 11 λ x. x, tt)))))))))) 24 List.[] y4
 
-  abbrev s9 : Typed.Gives T10 T11
-  s9 = Know.k-sl-known (Referent.fInt Syntax.w32) T10 21 10 y27 Row.off 0 λ x. x
+  abbrev s10 : Typed.Gives T10 T12
+  s10 = Relend.k-sl-relend q1 T10 12 26 1 13 y20 y6 Row.off λ x. x
 
-  abbrev s10 : Typed.Gives T11 T12
-  s10 = Know.k-sl-known (Referent.fInt Syntax.w32) T11 22 11 y28 Row.off 0 λ x. x
+  abbrev s11 : Typed.Asks T12 T13
+  s11 = Relend.k-sl-aggregate q1 (Relend.asMut q1) T12 26 27 13 y6 y6 (λ x. x) (Scalar.oFld 12 ((Syntax.field 1) ∷ []) y0 8 λ v. Shared.lenV (v .0))
 
-  abbrev s11 : Typed.Gives T12 T13
-  s11 = Know.k-sl-known (Referent.fInt Syntax.w32) T12 23 12 y29 Row.off 0 λ x. x
+  abbrev s13 : Typed.Gives T13 T15
+  s13 = Relend.k-sl-relend q1 T13 13 28 2 14 y21 y6 Row.off λ x. x
 
-  abbrev s12 : Typed.Gives T13 T14
-  s12 = Know.k-sl-known (Referent.fInt Syntax.w32) T13 24 13 y30 Row.off 0 λ x. x
-
-  abbrev s13 : Typed.Gives T14 T15
-  s13 = Know.k-sl-known (Referent.fInt Syntax.w32) T14 25 14 y31 Row.off 0 λ x. x
-
-  abbrev s14 : Typed.Both T15 T16
-  s14 = Call.callB ps·0 r·0 (claims· .0) (claims· .1) T15 (Num.vAt 2 λ x. x, (Num.vAt 3 λ x. x, (Float.fAt 4 λ x. x, (Num.vAt 5 λ x. x, (Float.fAt 6 λ x. x, (Num.vAt 7 λ x. x, (Num.vAt 8 λ x. x, (Num.vAt 9 λ x. x, (Num.vAt 10 λ x. x, (Num.vAt 11 λ x. x, tt)))))))))) 27 List.[] y4
+  abbrev s14 : Typed.Asks T15 T16
+  s14 = Relend.k-sl-aggregate q1 (Relend.asMut q1) T15 28 29 14 y6 y6 (λ x. x) (Scalar.oFld 13 ((Syntax.field 1) ∷ []) y0 8 λ v. Shared.lenV (v .0))
 
   abbrev s16 : Typed.Gives T16 T18
-  s16 = Relend.k-sl-relend q1 T16 12 29 1 16 y18 y6 Row.off λ x. x
+  s16 = Relend.k-sl-relend q2 T16 14 30 3 15 y22 y8 Row.off λ x. x
 
   abbrev s17 : Typed.Asks T18 T19
-  s17 = Relend.k-sl-aggregate q1 (Relend.asMut q1) T18 29 30 16 y6 y6 (λ x. x) (Scalar.oFld 12 ((Syntax.field 1) ∷ []) y0 8 λ v. Shared.lenV (v .0))
+  s17 = Relend.k-sl-aggregate q2 (Relend.asMut q2) T18 30 31 15 y8 y8 (λ x. x) (Scalar.oFld 14 ((Syntax.field 1) ∷ []) y0 8 λ v. Shared.lenV (v .0))
 
   abbrev s19 : Typed.Gives T19 T21
-  s19 = Relend.k-sl-relend q1 T19 13 31 2 17 y19 y6 Row.off λ x. x
+  s19 = Relend.k-sl-relend q3 T19 15 32 4 16 y23 y10 Row.off λ x. x
 
   abbrev s20 : Typed.Asks T21 T22
-  s20 = Relend.k-sl-aggregate q1 (Relend.asMut q1) T21 31 32 17 y6 y6 (λ x. x) (Scalar.oFld 13 ((Syntax.field 1) ∷ []) y0 8 λ v. Shared.lenV (v .0))
+  s20 = Relend.k-sl-aggregate q3 (Relend.asMut q3) T21 32 33 16 y10 y10 (λ x. x) (Scalar.oFld 15 ((Syntax.field 1) ∷ []) y0 8 λ v. Shared.lenV (v .0))
 
   abbrev s22 : Typed.Gives T22 T24
-  s22 = Relend.k-sl-relend q2 T22 14 33 3 18 y20 y8 Row.off λ x. x
+  s22 = Relend.k-sl-relend q3 T22 16 34 5 17 y24 y10 Row.off λ x. x
 
   abbrev s23 : Typed.Asks T24 T25
-  s23 = Relend.k-sl-aggregate q2 (Relend.asMut q2) T24 33 34 18 y8 y8 (λ x. x) (Scalar.oFld 14 ((Syntax.field 1) ∷ []) y0 8 λ v. Shared.lenV (v .0))
+  s23 = Relend.k-sl-aggregate q3 (Relend.asMut q3) T24 34 35 17 y10 y10 (λ x. x) (Scalar.oFld 16 ((Syntax.field 1) ∷ []) y0 8 λ v. Shared.lenV (v .0))
 
   abbrev s25 : Typed.Gives T25 T27
-  s25 = Relend.k-sl-relend q3 T25 15 35 4 19 y21 y10 Row.off λ x. x
+  s25 = Relend.k-sl-relend Rec·type.the-row T25 17 36 6 18 y25 y12 Row.off λ x. x
 
   abbrev s26 : Typed.Asks T27 T28
-  s26 = Relend.k-sl-aggregate q3 (Relend.asMut q3) T27 35 36 19 y10 y10 (λ x. x) (Scalar.oFld 15 ((Syntax.field 1) ∷ []) y0 8 λ v. Shared.lenV (v .0))
+  s26 = Relend.k-sl-aggregate Rec·type.the-row (Relend.asMut Rec·type.the-row) T27 36 37 18 y12 y12 (λ x. x) (Scalar.oFld 17 ((Syntax.field 1) ∷ []) y0 8 λ v. Shared.lenV (v .0))
 
   abbrev s28 : Typed.Gives T28 T30
-  s28 = Relend.k-sl-relend q3 T28 16 37 5 20 y22 y10 Row.off λ x. x
+  s28 = Relend.k-sl-relend q0 T28 18 38 7 19 y26 y15 Row.off λ x. x
 
   abbrev s29 : Typed.Asks T30 T31
-  s29 = Relend.k-sl-aggregate q3 (Relend.asMut q3) T30 37 38 20 y10 y10 (λ x. x) (Scalar.oFld 16 ((Syntax.field 1) ∷ []) y0 8 λ v. Shared.lenV (v .0))
+  s29 = Relend.k-sl-aggregate q0 (Relend.asMut q0) T30 38 39 19 y15 y15 (λ x. x) (Scalar.oFld 18 ((Syntax.field 1) ∷ []) y0 8 λ v. Shared.lenV (v .0))
 
   abbrev s31 : Typed.Gives T31 T33
-  s31 = Relend.k-sl-relend Rec·type.the-row T31 17 39 6 21 y23 y12 Row.off λ x. x
+  s31 = Relend.k-sl-relend q0 T31 19 40 8 20 y27 y15 Row.off λ x. x
 
   abbrev s32 : Typed.Asks T33 T34
-  s32 = Relend.k-sl-aggregate Rec·type.the-row (Relend.asMut Rec·type.the-row) T33 39 40 21 y12 y12 (λ x. x) (Scalar.oFld 17 ((Syntax.field 1) ∷ []) y0 8 λ v. Shared.lenV (v .0))
+  s32 = Relend.k-sl-aggregate q0 (Relend.asMut q0) T33 40 41 20 y15 y15 (λ x. x) (Scalar.oFld 19 ((Syntax.field 1) ∷ []) y0 8 λ v. Shared.lenV (v .0))
 
   abbrev s34 : Typed.Gives T34 T36
-  s34 = Relend.k-sl-relend q0 T34 18 41 7 22 y24 y15 Row.off λ x. x
+  s34 = Relend.k-sl-relend (Array.Array q2 2) T34 20 42 9 21 y28 y17 Row.off λ x. x
 
   abbrev s35 : Typed.Asks T36 T37
-  s35 = Relend.k-sl-aggregate q0 (Relend.asMut q0) T36 41 42 22 y15 y15 (λ x. x) (Scalar.oFld 18 ((Syntax.field 1) ∷ []) y0 8 λ v. Shared.lenV (v .0))
+  s35 = Relend.k-sl-aggregate (Array.Array q2 2) (Relend.asMut (Array.Array q2 2)) T36 42 43 21 y17 y17 (λ x. x) (Scalar.oFld 20 ((Syntax.field 1) ∷ []) y0 8 λ v. Shared.lenV (v .0))
 
   abbrev s37 : Typed.Gives T37 T39
-  s37 = Relend.k-sl-relend q0 T37 19 43 8 23 y25 y15 Row.off λ x. x
+  s37 = Relend.k-sl-relend (Array.Array q2 2) T37 21 44 10 22 y29 y17 Row.off λ x. x
 
   abbrev s38 : Typed.Asks T39 T40
-  s38 = Relend.k-sl-aggregate q0 (Relend.asMut q0) T39 43 44 23 y15 y15 (λ x. x) (Scalar.oFld 19 ((Syntax.field 1) ∷ []) y0 8 λ v. Shared.lenV (v .0))
+  s38 = Relend.k-sl-aggregate (Array.Array q2 2) (Relend.asMut (Array.Array q2 2)) T39 44 45 22 y17 y17 (λ x. x) (Scalar.oFld 21 ((Syntax.field 1) ∷ []) y0 8 λ v. Shared.lenV (v .0))
 
   abbrev s40 : Typed.Gives T40 T42
-  s40 = Relend.k-sl-relend q2 T40 20 45 9 24 y26 y8 Row.off λ x. x
+  s40 = Relend.k-sl-relend (Array.Array q2 2) T40 22 46 11 23 y30 y17 Row.off λ x. x
 
   abbrev s41 : Typed.Asks T42 T43
-  s41 = Relend.k-sl-aggregate q2 (Relend.asMut q2) T42 45 46 24 y8 y8 (λ x. x) (Scalar.oFld 20 ((Syntax.field 1) ∷ []) y0 8 λ v. Shared.lenV (v .0))
+  s41 = Relend.k-sl-aggregate (Array.Array q2 2) (Relend.asMut (Array.Array q2 2)) T42 46 47 23 y17 y17 (λ x. x) (Scalar.oFld 22 ((Syntax.field 1) ∷ []) y0 8 λ v. Shared.lenV (v .0))
 
-  abbrev s43 : Typed.Gives T43 T45
-  s43 = Relend.k-sl-relend q2 T43 21 47 10 25 y27 y8 Row.off λ x. x
+  abbrev s42 : Typed.Both T43 T44
+  s42 = Call.callB ps·1 r·1 (claims· .2) (claims· .3) T43 (record { pos = 1; ty = y19; ref = λ x. x }, (record { pos = 24; st = List.[]; d = 0; at = λ x. x }, (record { pos = 27; ty = y6; ref = λ x. x }, (record { pos = 29; ty = y6; ref = λ x. x }, (record { pos = 31; ty = y8; ref = λ x. x }, (record { pos = 33; ty = y10; ref = λ x. x }, (record { pos = 35; ty = y10; ref = λ x. x }, (record { pos = 37; ty = y12; ref = λ x. x }, (record { pos = 39; ty = y15; ref = λ x. x }, (record { pos = 41; ty = y15; ref = λ x. x }, (record { pos = 43; ty = y17; ref = λ x. x }, (record { pos = 45; ty = y17; ref = λ x. x }, (record { pos = 47; ty = y17; ref = λ x. x }, tt))))))))))))) 25 (0 ∷ 13 ∷ 14 ∷ 15 ∷ 16 ∷ 17 ∷ 18 ∷ 19 ∷ 20 ∷ 21 ∷ 22 ∷ 23 ∷ []) y5
 
-  abbrev s44 : Typed.Asks T45 T46
-  s44 = Relend.k-sl-aggregate q2 (Relend.asMut q2) T45 47 48 25 y8 y8 (λ x. x) (Scalar.oFld 21 ((Syntax.field 1) ∷ []) y0 8 λ v. Shared.lenV (v .0))
+  abbrev s43 : Typed.Mo T44 → Typed.Mo T45
+  s43 = Scalar.n-room T44 24 y4
 
-  abbrev s46 : Typed.Gives T46 T48
-  s46 = Relend.k-sl-relend q2 T46 22 49 11 26 y28 y8 Row.off λ x. x
+  abbrev s45 : Typed.Both T45 T47
+  s45 = Relend.k-back-sl q1 T45 27 12 1 13 y20 y6 Row.off (λ x. x) λ x. x
 
-  abbrev s47 : Typed.Asks T48 T49
-  s47 = Relend.k-sl-aggregate q2 (Relend.asMut q2) T48 49 50 26 y8 y8 (λ x. x) (Scalar.oFld 22 ((Syntax.field 1) ∷ []) y0 8 λ v. Shared.lenV (v .0))
+  abbrev s46 : Typed.Gives T47 T48
+  s46 = Know.k-sl-known (Referent.fFloat Ieee.binary64) T47 12 1 y20 Row.off Ieee.nan λ x. x
 
-  abbrev s49 : Typed.Gives T49 T51
-  s49 = Relend.k-sl-relend q2 T49 23 51 12 27 y29 y8 Row.off λ x. x
+  abbrev s49 : Typed.Both T48 T51
+  s49 = Relend.k-back-sl q1 T48 29 13 2 14 y21 y6 Row.off (λ x. x) λ x. x
 
-  abbrev s50 : Typed.Asks T51 T52
-  s50 = Relend.k-sl-aggregate q2 (Relend.asMut q2) T51 51 52 27 y8 y8 (λ x. x) (Scalar.oFld 23 ((Syntax.field 1) ∷ []) y0 8 λ v. Shared.lenV (v .0))
+  abbrev s50 : Typed.Gives T51 T52
+  s50 = Know.k-sl-known (Referent.fFloat Ieee.binary64) T51 13 2 y21 Row.off Ieee.nan λ x. x
 
-  abbrev s52 : Typed.Gives T52 T54
-  s52 = Relend.k-sl-relend q2 T52 24 53 13 28 y30 y8 Row.off λ x. x
+  abbrev s53 : Typed.Both T52 T55
+  s53 = Relend.k-back-sl q2 T52 31 14 3 15 y22 y8 Row.off (λ x. x) λ x. x
 
-  abbrev s53 : Typed.Asks T54 T55
-  s53 = Relend.k-sl-aggregate q2 (Relend.asMut q2) T54 53 54 28 y8 y8 (λ x. x) (Scalar.oFld 24 ((Syntax.field 1) ∷ []) y0 8 λ v. Shared.lenV (v .0))
+  abbrev s54 : Typed.Gives T55 T56
+  s54 = Know.k-sl-known (Referent.fInt Syntax.w32) T55 14 3 y22 Row.off 0 λ x. x
 
-  abbrev s55 : Typed.Gives T55 T57
-  s55 = Relend.k-sl-relend q2 T55 25 55 14 29 y31 y8 Row.off λ x. x
+  abbrev s57 : Typed.Both T56 T59
+  s57 = Relend.k-back-sl q3 T56 33 15 4 16 y23 y10 Row.off (λ x. x) λ x. x
 
-  abbrev s56 : Typed.Asks T57 T58
-  s56 = Relend.k-sl-aggregate q2 (Relend.asMut q2) T57 55 56 29 y8 y8 (λ x. x) (Scalar.oFld 25 ((Syntax.field 1) ∷ []) y0 8 λ v. Shared.lenV (v .0))
+  abbrev s58 : Typed.Gives T59 T60
+  s58 = Know.k-sl-known (Referent.fInt Syntax.w16) T59 15 4 y23 Row.off 0 λ x. x
 
-  abbrev s57 : Typed.Both T58 T59
-  s57 = Call.callB ps·1 r·1 (claims· .2) (claims· .3) T58 (record { pos = 1; ty = y17; ref = λ x. x }, (record { pos = 27; st = List.[]; d = 0; at = λ x. x }, (record { pos = 30; ty = y6; ref = λ x. x }, (record { pos = 32; ty = y6; ref = λ x. x }, (record { pos = 34; ty = y8; ref = λ x. x }, (record { pos = 36; ty = y10; ref = λ x. x }, (record { pos = 38; ty = y10; ref = λ x. x }, (record { pos = 40; ty = y12; ref = λ x. x }, (record { pos = 42; ty = y15; ref = λ x. x }, (record { pos = 44; ty = y15; ref = λ x. x }, (record { pos = 46; ty = y8; ref = λ x. x }, (record { pos = 48; ty = y8; ref = λ x. x }, (record { pos = 50; ty = y8; ref = λ x. x }, (record { pos = 52; ty = y8; ref = λ x. x }, (record { pos = 54; ty = y8; ref = λ x. x }, (record { pos = 56; ty = y8; ref = λ x. x }, tt)))))))))))))))) 28 (0 ∷ 16 ∷ 17 ∷ 18 ∷ 19 ∷ 20 ∷ 21 ∷ 22 ∷ 23 ∷ 24 ∷ 25 ∷ 26 ∷ 27 ∷ 28 ∷ 29 ∷ []) y5
+  abbrev s61 : Typed.Both T60 T63
+  s61 = Relend.k-back-sl q3 T60 35 16 5 17 y24 y10 Row.off (λ x. x) λ x. x
 
-  abbrev s58 : Typed.Mo T59 → Typed.Mo T60
-  s58 = Scalar.n-room T59 27 y4
+  abbrev s62 : Typed.Gives T63 T64
+  s62 = Know.k-sl-known (Referent.fInt Syntax.w16) T63 16 5 y24 Row.off 0 λ x. x
 
-  abbrev s60 : Typed.Both T60 T62
-  s60 = Relend.k-back-sl q1 T60 30 12 1 16 y18 y6 Row.off (λ x. x) λ x. x
-
-  abbrev s61 : Typed.Gives T62 T63
-  s61 = Know.k-sl-known (Referent.fFloat Ieee.binary64) T62 12 1 y18 Row.off Ieee.nan λ x. x
-
-  abbrev s64 : Typed.Both T63 T66
-  s64 = Relend.k-back-sl q1 T63 32 13 2 17 y19 y6 Row.off (λ x. x) λ x. x
-
-  abbrev s65 : Typed.Gives T66 T67
-  s65 = Know.k-sl-known (Referent.fFloat Ieee.binary64) T66 13 2 y19 Row.off Ieee.nan λ x. x
+  abbrev s65 : Typed.Both T64 T67
+  s65 = Relend.k-back-sl Rec·type.the-row T64 37 17 6 18 y25 y12 Row.off (λ x. x) λ x. x
 
   abbrev s68 : Typed.Both T67 T70
-  s68 = Relend.k-back-sl q2 T67 34 14 3 18 y20 y8 Row.off (λ x. x) λ x. x
+  s68 = Relend.k-back-sl q0 T67 39 18 7 19 y26 y15 Row.off (λ x. x) λ x. x
 
   abbrev s69 : Typed.Gives T70 T71
-  s69 = Know.k-sl-known (Referent.fInt Syntax.w32) T70 14 3 y20 Row.off 0 λ x. x
+  s69 = Know.k-sl-known (Referent.fInt Syntax.w8) T70 18 7 y26 Row.off 0 λ x. x
 
   abbrev s72 : Typed.Both T71 T74
-  s72 = Relend.k-back-sl q3 T71 36 15 4 19 y21 y10 Row.off (λ x. x) λ x. x
+  s72 = Relend.k-back-sl q0 T71 41 19 8 20 y27 y15 Row.off (λ x. x) λ x. x
 
   abbrev s73 : Typed.Gives T74 T75
-  s73 = Know.k-sl-known (Referent.fInt Syntax.w16) T74 15 4 y21 Row.off 0 λ x. x
+  s73 = Know.k-sl-known (Referent.fInt Syntax.w8) T74 19 8 y27 Row.off 0 λ x. x
 
   abbrev s76 : Typed.Both T75 T78
-  s76 = Relend.k-back-sl q3 T75 38 16 5 20 y22 y10 Row.off (λ x. x) λ x. x
+  s76 = Relend.k-back-sl (Array.Array q2 2) T75 43 20 9 21 y28 y17 Row.off (λ x. x) λ x. x
 
-  abbrev s77 : Typed.Gives T78 T79
-  s77 = Know.k-sl-known (Referent.fInt Syntax.w16) T78 16 5 y22 Row.off 0 λ x. x
+  abbrev s79 : Typed.Both T78 T81
+  s79 = Relend.k-back-sl (Array.Array q2 2) T78 45 21 10 22 y29 y17 Row.off (λ x. x) λ x. x
 
-  abbrev s80 : Typed.Both T79 T82
-  s80 = Relend.k-back-sl Rec·type.the-row T79 40 17 6 21 y23 y12 Row.off (λ x. x) λ x. x
+  abbrev s82 : Typed.Both T81 T84
+  s82 = Relend.k-back-sl (Array.Array q2 2) T81 47 22 11 23 y30 y17 Row.off (λ x. x) λ x. x
 
-  abbrev s83 : Typed.Both T82 T85
-  s83 = Relend.k-back-sl q0 T82 42 18 7 22 y24 y15 Row.off (λ x. x) λ x. x
+  abbrev s84 : Typed.Both T84 T86
+  s84 = Call.callB ps·2 r·2 (claims· .4) (claims· .5) T84 (Bool.bFld 25 ((Syntax.field 2) ∷ []) 16 λ x. Answer.struct .as-values x .1 .1 .0, tt) 48 List.[] y2
 
-  abbrev s84 : Typed.Gives T85 T86
-  s84 = Know.k-sl-known (Referent.fInt Syntax.w8) T85 18 7 y24 Row.off 0 λ x. x
+  abbrev s85 : Typed.Mo T86 → Typed.Mo T87
+  s85 = Deref.n-ref-write T86 23 12 (Referent.fInt Syntax.w32) y31 Row.off (λ x. x) (Scalar.oAt 48 y2 (Row.valS z1))
 
-  abbrev s87 : Typed.Both T86 T89
-  s87 = Relend.k-back-sl q0 T86 44 19 8 23 y25 y15 Row.off (λ x. x) λ x. x
+  abbrev s86 : Typed.Mo T87 → Typed.Mo T88
+  s86 = Scalar.n-room T87 48 y2
 
-  abbrev s88 : Typed.Gives T89 T90
-  s88 = Know.k-sl-known (Referent.fInt Syntax.w8) T89 19 8 y25 Row.off 0 λ x. x
+  abbrev s87 : Typed.Both T88 T89
+  s87 = Call.callB ps·3 r·3 (claims· .6) (claims· .7) T88 (Num.vFld 25 ((Syntax.field 0) ∷ []) 0 λ x. Answer.struct .as-values x .0, (Num.vFld 25 ((Syntax.field 1) ∷ []) 8 λ x. Answer.struct .as-values x .1 .0, tt)) 0 List.[] y0
 
-  abbrev s91 : Typed.Both T90 T93
-  s91 = Relend.k-back-sl q2 T90 46 20 9 24 y26 y8 Row.off (λ x. x) λ x. x
+  abbrev s88 : Typed.Mo T89 → Typed.Mo T90
+  s88 = Scalar.n-room T89 25 y5
 
-  abbrev s92 : Typed.Gives T93 T94
-  s92 = Know.k-sl-known (Referent.fInt Syntax.w32) T93 20 9 y26 Row.off 0 λ x. x
+  abbrev s89 : Typed.Mo T90 → Typed.Mo T91
+  s89 = Scalar.n-room T90 2 y0
 
-  abbrev s95 : Typed.Both T94 T97
-  s95 = Relend.k-back-sl q2 T94 48 21 10 25 y27 y8 Row.off (λ x. x) λ x. x
+  abbrev s90 : Typed.Mo T91 → Typed.Mo T92
+  s90 = Scalar.n-room T91 3 y0
 
-  abbrev s96 : Typed.Gives T97 T98
-  s96 = Know.k-sl-known (Referent.fInt Syntax.w32) T97 21 10 y27 Row.off 0 λ x. x
+  abbrev s91 : Typed.Mo T92 → Typed.Mo T93
+  s91 = Scalar.n-room T92 4 y1
 
-  abbrev s99 : Typed.Both T98 T101
-  s99 = Relend.k-back-sl q2 T98 50 22 11 26 y28 y8 Row.off (λ x. x) λ x. x
+  abbrev s92 : Typed.Mo T93 → Typed.Mo T94
+  s92 = Scalar.n-room T93 5 y2
 
-  abbrev s100 : Typed.Gives T101 T102
-  s100 = Know.k-sl-known (Referent.fInt Syntax.w32) T101 22 11 y28 Row.off 0 λ x. x
+  abbrev s93 : Typed.Mo T94 → Typed.Mo T95
+  s93 = Scalar.n-room T94 6 y1
 
-  abbrev s103 : Typed.Both T102 T105
-  s103 = Relend.k-back-sl q2 T102 52 23 12 27 y29 y8 Row.off (λ x. x) λ x. x
+  abbrev s94 : Typed.Mo T95 → Typed.Mo T96
+  s94 = Scalar.n-room T95 7 y2
 
-  abbrev s104 : Typed.Gives T105 T106
-  s104 = Know.k-sl-known (Referent.fInt Syntax.w32) T105 23 12 y29 Row.off 0 λ x. x
+  abbrev s95 : Typed.Mo T96 → Typed.Mo T97
+  s95 = Scalar.n-room T96 8 y2
 
-  abbrev s107 : Typed.Both T106 T109
-  s107 = Relend.k-back-sl q2 T106 54 24 13 28 y30 y8 Row.off (λ x. x) λ x. x
+  abbrev s96 : Typed.Mo T97 → Typed.Mo T98
+  s96 = Scalar.n-room T97 9 y3
 
-  abbrev s108 : Typed.Gives T109 T110
-  s108 = Know.k-sl-known (Referent.fInt Syntax.w32) T109 24 13 y30 Row.off 0 λ x. x
+  abbrev s97 : Typed.Mo T98 → Typed.Mo T99
+  s97 = Scalar.n-room T98 10 y2
 
-  abbrev s111 : Typed.Both T110 T113
-  s111 = Relend.k-back-sl q2 T110 56 25 14 29 y31 y8 Row.off (λ x. x) λ x. x
+  abbrev s98 : Typed.Mo T99 → Typed.Mo T100
+  s98 = Scalar.n-room T99 11 y2
 
-  abbrev s112 : Typed.Gives T113 T114
-  s112 = Know.k-sl-known (Referent.fInt Syntax.w32) T113 25 14 y31 Row.off 0 λ x. x
-
-  abbrev s114 : Typed.Both T114 T116
-  s114 = Call.callB ps·2 r·2 (claims· .4) (claims· .5) T114 (Bool.bFld 28 ((Syntax.field 2) ∷ []) 16 λ x. Answer.struct .as-values x .1 .1 .0, tt) 57 List.[] y2
-
-  abbrev s115 : Typed.Mo T116 → Typed.Mo T117
-  s115 = Deref.n-ref-write T116 26 15 (Referent.fInt Syntax.w32) y32 Row.off (λ x. x) (Scalar.oAt 57 y2 (Row.valS z1))
-
-  abbrev s116 : Typed.Mo T117 → Typed.Mo T118
-  s116 = Scalar.n-room T117 57 y2
-
-  abbrev s117 : Typed.Both T118 T119
-  s117 = Call.callB ps·3 r·3 (claims· .6) (claims· .7) T118 (Num.vFld 28 ((Syntax.field 0) ∷ []) 0 λ x. Answer.struct .as-values x .0, (Num.vFld 28 ((Syntax.field 1) ∷ []) 8 λ x. Answer.struct .as-values x .1 .0, tt)) 0 List.[] y0
-
-  abbrev s118 : Typed.Mo T119 → Typed.Mo T120
-  s118 = Scalar.n-room T119 28 y5
-
-  abbrev s119 : Typed.Mo T120 → Typed.Mo T121
-  s119 = Scalar.n-room T120 2 y0
-
-  abbrev s120 : Typed.Mo T121 → Typed.Mo T122
-  s120 = Scalar.n-room T121 3 y0
-
-  abbrev s121 : Typed.Mo T122 → Typed.Mo T123
-  s121 = Scalar.n-room T122 4 y1
-
-  abbrev s122 : Typed.Mo T123 → Typed.Mo T124
-  s122 = Scalar.n-room T123 5 y2
-
-  abbrev s123 : Typed.Mo T124 → Typed.Mo T125
-  s123 = Scalar.n-room T124 6 y1
-
-  abbrev s124 : Typed.Mo T125 → Typed.Mo T126
-  s124 = Scalar.n-room T125 7 y2
-
-  abbrev s125 : Typed.Mo T126 → Typed.Mo T127
-  s125 = Scalar.n-room T126 8 y2
-
-  abbrev s126 : Typed.Mo T127 → Typed.Mo T128
-  s126 = Scalar.n-room T127 9 y3
-
-  abbrev s127 : Typed.Mo T128 → Typed.Mo T129
-  s127 = Scalar.n-room T128 10 y2
-
-  abbrev s128 : Typed.Mo T129 → Typed.Mo T130
-  s128 = Scalar.n-room T129 11 y2
-
-  module _ (Pre· : (κs : Lifetimes.Lfts 16) → Kinds.Dens κs ps → Type 0)
-      (Post· : (κs : Lifetimes.Lfts 16) → (a : Kinds.Dens κs ps) → Kinds.Plain 16 ps r κs) where
+  module _ (Pre· : (κs : Lifetimes.Lfts 13) → Kinds.Dens κs ps → Type 0)
+      (Post· : (κs : Lifetimes.Lfts 13) → (a : Kinds.Dens κs ps) → Kinds.Plain 13 ps r κs) where
     module _ (M : Type 1) where
       abbrev pub Closed : Type 2
-      Closed = (𝓤 : URA.URA M) (H : Wp.Heap 𝓤) (A : Atoms.Atoms 𝓤) (W : Kit.Given 𝓤 H A) (𝓣 : Wp.Tables 𝓤 H) (known0 : Plain.Known 𝓤 H A W 𝓣 0 ps·0 r·0 (claims· .0) (claims· .1) "longdust_c::options_of") (known1 : Plain.Known 𝓤 H A W 𝓣 15 ps·1 r·1 (claims· .2) (claims· .3) "longdust::filled_tables::process") (known2 : Plain.Known 𝓤 H A W 𝓣 0 ps·2 r·2 (claims· .4) (claims· .5) "longdust_c::flag_of") (known3 : Plain.Known 𝓤 H A W 𝓣 0 ps·3 r·3 (claims· .6) (claims· .7) "longdust_c::count_or_refusal") → Statement.Triple 𝓤 (Wp.WpFn 𝓤 H (𝓣 .C) (𝓣 .Λ) (Function.fnOf 16 ps r xs m hs body)) (Function.plainOf 𝓤 H A 16 ps r Pre· Post·)
+      Closed = (𝓤 : URA.URA M) (H : Wp.Heap 𝓤) (A : Atoms.Atoms 𝓤) (W : Kit.Given 𝓤 H A) (𝓣 : Wp.Tables 𝓤 H) (known0 : Plain.Known 𝓤 H A W 𝓣 0 ps·0 r·0 (claims· .0) (claims· .1) "longdust_c::options_of") (known1 : Plain.Known 𝓤 H A W 𝓣 12 ps·1 r·1 (claims· .2) (claims· .3) "longdust::calls::process::process") (known2 : Plain.Known 𝓤 H A W 𝓣 0 ps·2 r·2 (claims· .4) (claims· .5) "longdust_c::flag_of") (known3 : Plain.Known 𝓤 H A W 𝓣 0 ps·3 r·3 (claims· .6) (claims· .7) "longdust_c::count_or_refusal") → Statement.Triple 𝓤 (Wp.WpFn 𝓤 H (𝓣 .C) (𝓣 .Λ) (Function.fnOf 13 ps r xs m hs body)) (Function.plainOf 𝓤 H A 13 ps r Pre· Post·)
 
     module _ where
-      abbrev at0 : Typed.TF T130 O0
+      abbrev at0 : Typed.TF T100 O0
       at0 = Typed.atRet O0
 
-      abbrev at1 : Typed.TF T129 O0
-      at1 = λ Ψ. Typed.pass T129 T130 s128 (at0 Ψ)
+      abbrev at1 : Typed.TF T99 O0
+      at1 = λ Ψ. Typed.pass T99 T100 s98 (at0 Ψ)
 
-      abbrev at2 : Typed.TF T128 O0
-      at2 = λ Ψ. Typed.pass T128 T129 s127 (at1 Ψ)
+      abbrev at2 : Typed.TF T98 O0
+      at2 = λ Ψ. Typed.pass T98 T99 s97 (at1 Ψ)
 
-      abbrev at3 : Typed.TF T127 O0
-      at3 = λ Ψ. Typed.pass T127 T128 s126 (at2 Ψ)
+      abbrev at3 : Typed.TF T97 O0
+      at3 = λ Ψ. Typed.pass T97 T98 s96 (at2 Ψ)
 
-      abbrev at4 : Typed.TF T126 O0
-      at4 = λ Ψ. Typed.pass T126 T127 s125 (at3 Ψ)
+      abbrev at4 : Typed.TF T96 O0
+      at4 = λ Ψ. Typed.pass T96 T97 s95 (at3 Ψ)
 
-      abbrev at5 : Typed.TF T125 O0
-      at5 = λ Ψ. Typed.pass T125 T126 s124 (at4 Ψ)
+      abbrev at5 : Typed.TF T95 O0
+      at5 = λ Ψ. Typed.pass T95 T96 s94 (at4 Ψ)
 
-      abbrev at6 : Typed.TF T124 O0
-      at6 = λ Ψ. Typed.pass T124 T125 s123 (at5 Ψ)
+      abbrev at6 : Typed.TF T94 O0
+      at6 = λ Ψ. Typed.pass T94 T95 s93 (at5 Ψ)
 
-      abbrev at7 : Typed.TF T123 O0
-      at7 = λ Ψ. Typed.pass T123 T124 s122 (at6 Ψ)
+      abbrev at7 : Typed.TF T93 O0
+      at7 = λ Ψ. Typed.pass T93 T94 s92 (at6 Ψ)
 
-      abbrev at8 : Typed.TF T122 O0
-      at8 = λ Ψ. Typed.pass T122 T123 s121 (at7 Ψ)
+      abbrev at8 : Typed.TF T92 O0
+      at8 = λ Ψ. Typed.pass T92 T93 s91 (at7 Ψ)
 
-      abbrev at9 : Typed.TF T121 O0
-      at9 = λ Ψ. Typed.pass T121 T122 s120 (at8 Ψ)
+      abbrev at9 : Typed.TF T91 O0
+      at9 = λ Ψ. Typed.pass T91 T92 s90 (at8 Ψ)
 
-      abbrev at10 : Typed.TF T120 O0
-      at10 = λ Ψ. Typed.pass T120 T121 s119 (at9 Ψ)
+      abbrev at10 : Typed.TF T90 O0
+      at10 = λ Ψ. Typed.pass T90 T91 s89 (at9 Ψ)
 
-      abbrev at11 : Typed.TF T119 O0
-      at11 = λ Ψ. Typed.pass T119 T120 s118 (at10 Ψ)
+      abbrev at11 : Typed.TF T89 O0
+      at11 = λ Ψ. Typed.pass T89 T90 s88 (at10 Ψ)
 
-      abbrev at12 : Typed.TF T118 O0
-      at12 = λ Ψ. Typed.both s117 (at11 Ψ)
+      abbrev at12 : Typed.TF T88 O0
+      at12 = λ Ψ. Typed.both s87 (at11 Ψ)
 
-      abbrev at13 : Typed.TF T117 O0
-      at13 = λ Ψ. Typed.pass T117 T118 s116 (at12 Ψ)
+      abbrev at13 : Typed.TF T87 O0
+      at13 = λ Ψ. Typed.pass T87 T88 s86 (at12 Ψ)
 
-      abbrev at14 : Typed.TF T116 O0
-      at14 = λ Ψ. Typed.pass T116 T117 s115 (at13 Ψ)
+      abbrev at14 : Typed.TF T86 O0
+      at14 = λ Ψ. Typed.pass T86 T87 s85 (at13 Ψ)
 
-      abbrev at15 : Typed.TF T114 O0
-      at15 = λ Ψ. Typed.both s114 (at14 Ψ)
+      abbrev at15 : Typed.TF T84 O0
+      at15 = λ Ψ. Typed.both s84 (at14 Ψ)
 
-      abbrev at16 : Typed.TF T114 O0
+      abbrev at16 : Typed.TF T84 O0
       at16 = λ Ψ. at15 Ψ
 
-      abbrev at17 : Typed.TF T113 O0
-      at17 = λ Ψ. Typed.give s112 (at16 Ψ)
+      abbrev at17 : Typed.TF T81 O0
+      at17 = λ Ψ. Typed.both s82 (at16 Ψ)
 
-      abbrev at18 : Typed.TF T110 O0
-      at18 = λ Ψ. Typed.both s111 (at17 Ψ)
+      abbrev at18 : Typed.TF T81 O0
+      at18 = λ Ψ. at17 Ψ
 
-      abbrev at19 : Typed.TF T110 O0
+      abbrev at19 : Typed.TF T81 O0
       at19 = λ Ψ. at18 Ψ
 
-      abbrev at20 : Typed.TF T110 O0
-      at20 = λ Ψ. at19 Ψ
+      abbrev at20 : Typed.TF T78 O0
+      at20 = λ Ψ. Typed.both s79 (at19 Ψ)
 
-      abbrev at21 : Typed.TF T109 O0
-      at21 = λ Ψ. Typed.give s108 (at20 Ψ)
+      abbrev at21 : Typed.TF T78 O0
+      at21 = λ Ψ. at20 Ψ
 
-      abbrev at22 : Typed.TF T106 O0
-      at22 = λ Ψ. Typed.both s107 (at21 Ψ)
+      abbrev at22 : Typed.TF T78 O0
+      at22 = λ Ψ. at21 Ψ
 
-      abbrev at23 : Typed.TF T106 O0
-      at23 = λ Ψ. at22 Ψ
+      abbrev at23 : Typed.TF T75 O0
+      at23 = λ Ψ. Typed.both s76 (at22 Ψ)
 
-      abbrev at24 : Typed.TF T106 O0
+      abbrev at24 : Typed.TF T75 O0
       at24 = λ Ψ. at23 Ψ
 
-      abbrev at25 : Typed.TF T105 O0
-      at25 = λ Ψ. Typed.give s104 (at24 Ψ)
+      abbrev at25 : Typed.TF T75 O0
+      at25 = λ Ψ. at24 Ψ
 
-      abbrev at26 : Typed.TF T102 O0
-      at26 = λ Ψ. Typed.both s103 (at25 Ψ)
+      abbrev at26 : Typed.TF T74 O0
+      at26 = λ Ψ. Typed.give s73 (at25 Ψ)
 
-      abbrev at27 : Typed.TF T102 O0
-      at27 = λ Ψ. at26 Ψ
+      abbrev at27 : Typed.TF T71 O0
+      at27 = λ Ψ. Typed.both s72 (at26 Ψ)
 
-      abbrev at28 : Typed.TF T102 O0
+      abbrev at28 : Typed.TF T71 O0
       at28 = λ Ψ. at27 Ψ
 
-      abbrev at29 : Typed.TF T101 O0
-      at29 = λ Ψ. Typed.give s100 (at28 Ψ)
+      abbrev at29 : Typed.TF T71 O0
+      at29 = λ Ψ. at28 Ψ
 
-      abbrev at30 : Typed.TF T98 O0
-      at30 = λ Ψ. Typed.both s99 (at29 Ψ)
+      abbrev at30 : Typed.TF T70 O0
+      at30 = λ Ψ. Typed.give s69 (at29 Ψ)
 
-      abbrev at31 : Typed.TF T98 O0
-      at31 = λ Ψ. at30 Ψ
+      abbrev at31 : Typed.TF T67 O0
+      at31 = λ Ψ. Typed.both s68 (at30 Ψ)
 
-      abbrev at32 : Typed.TF T98 O0
+      abbrev at32 : Typed.TF T67 O0
       at32 = λ Ψ. at31 Ψ
 
-      abbrev at33 : Typed.TF T97 O0
-      at33 = λ Ψ. Typed.give s96 (at32 Ψ)
+      abbrev at33 : Typed.TF T67 O0
+      at33 = λ Ψ. at32 Ψ
 
-      abbrev at34 : Typed.TF T94 O0
-      at34 = λ Ψ. Typed.both s95 (at33 Ψ)
+      abbrev at34 : Typed.TF T64 O0
+      at34 = λ Ψ. Typed.both s65 (at33 Ψ)
 
-      abbrev at35 : Typed.TF T94 O0
+      abbrev at35 : Typed.TF T64 O0
       at35 = λ Ψ. at34 Ψ
 
-      abbrev at36 : Typed.TF T94 O0
+      abbrev at36 : Typed.TF T64 O0
       at36 = λ Ψ. at35 Ψ
 
-      abbrev at37 : Typed.TF T93 O0
-      at37 = λ Ψ. Typed.give s92 (at36 Ψ)
+      abbrev at37 : Typed.TF T63 O0
+      at37 = λ Ψ. Typed.give s62 (at36 Ψ)
 
-      abbrev at38 : Typed.TF T90 O0
-      at38 = λ Ψ. Typed.both s91 (at37 Ψ)
+      abbrev at38 : Typed.TF T60 O0
+      at38 = λ Ψ. Typed.both s61 (at37 Ψ)
 
-      abbrev at39 : Typed.TF T90 O0
+      abbrev at39 : Typed.TF T60 O0
       at39 = λ Ψ. at38 Ψ
 
-      abbrev at40 : Typed.TF T90 O0
+      abbrev at40 : Typed.TF T60 O0
       at40 = λ Ψ. at39 Ψ
 
-      abbrev at41 : Typed.TF T89 O0
-      at41 = λ Ψ. Typed.give s88 (at40 Ψ)
+      abbrev at41 : Typed.TF T59 O0
+      at41 = λ Ψ. Typed.give s58 (at40 Ψ)
 
-      abbrev at42 : Typed.TF T86 O0
-      at42 = λ Ψ. Typed.both s87 (at41 Ψ)
+      abbrev at42 : Typed.TF T56 O0
+      at42 = λ Ψ. Typed.both s57 (at41 Ψ)
 
-      abbrev at43 : Typed.TF T86 O0
+      abbrev at43 : Typed.TF T56 O0
       at43 = λ Ψ. at42 Ψ
 
-      abbrev at44 : Typed.TF T86 O0
+      abbrev at44 : Typed.TF T56 O0
       at44 = λ Ψ. at43 Ψ
 
-      abbrev at45 : Typed.TF T85 O0
-      at45 = λ Ψ. Typed.give s84 (at44 Ψ)
+      abbrev at45 : Typed.TF T55 O0
+      at45 = λ Ψ. Typed.give s54 (at44 Ψ)
 
-      abbrev at46 : Typed.TF T82 O0
-      at46 = λ Ψ. Typed.both s83 (at45 Ψ)
+      abbrev at46 : Typed.TF T52 O0
+      at46 = λ Ψ. Typed.both s53 (at45 Ψ)
 
-      abbrev at47 : Typed.TF T82 O0
+      abbrev at47 : Typed.TF T52 O0
       at47 = λ Ψ. at46 Ψ
 
-      abbrev at48 : Typed.TF T82 O0
+      abbrev at48 : Typed.TF T52 O0
       at48 = λ Ψ. at47 Ψ
 
-      abbrev at49 : Typed.TF T79 O0
-      at49 = λ Ψ. Typed.both s80 (at48 Ψ)
+      abbrev at49 : Typed.TF T51 O0
+      at49 = λ Ψ. Typed.give s50 (at48 Ψ)
 
-      abbrev at50 : Typed.TF T79 O0
-      at50 = λ Ψ. at49 Ψ
+      abbrev at50 : Typed.TF T48 O0
+      at50 = λ Ψ. Typed.both s49 (at49 Ψ)
 
-      abbrev at51 : Typed.TF T79 O0
+      abbrev at51 : Typed.TF T48 O0
       at51 = λ Ψ. at50 Ψ
 
-      abbrev at52 : Typed.TF T78 O0
-      at52 = λ Ψ. Typed.give s77 (at51 Ψ)
+      abbrev at52 : Typed.TF T48 O0
+      at52 = λ Ψ. at51 Ψ
 
-      abbrev at53 : Typed.TF T75 O0
-      at53 = λ Ψ. Typed.both s76 (at52 Ψ)
+      abbrev at53 : Typed.TF T47 O0
+      at53 = λ Ψ. Typed.give s46 (at52 Ψ)
 
-      abbrev at54 : Typed.TF T75 O0
-      at54 = λ Ψ. at53 Ψ
+      abbrev at54 : Typed.TF T45 O0
+      at54 = λ Ψ. Typed.both s45 (at53 Ψ)
 
-      abbrev at55 : Typed.TF T75 O0
+      abbrev at55 : Typed.TF T45 O0
       at55 = λ Ψ. at54 Ψ
 
-      abbrev at56 : Typed.TF T74 O0
-      at56 = λ Ψ. Typed.give s73 (at55 Ψ)
+      abbrev at56 : Typed.TF T44 O0
+      at56 = λ Ψ. Typed.pass T44 T45 s43 (at55 Ψ)
 
-      abbrev at57 : Typed.TF T71 O0
-      at57 = λ Ψ. Typed.both s72 (at56 Ψ)
+      abbrev at57 : Typed.TF T43 O0
+      at57 = λ Ψ. Typed.both s42 (at56 Ψ)
 
-      abbrev at58 : Typed.TF T71 O0
-      at58 = λ Ψ. at57 Ψ
+      abbrev at58 : Typed.TF T42 O0
+      at58 = λ Ψ. Typed.ask s41 (at57 Ψ)
 
-      abbrev at59 : Typed.TF T71 O0
-      at59 = λ Ψ. at58 Ψ
+      abbrev at59 : Typed.TF T40 O0
+      at59 = λ Ψ. Typed.give s40 (at58 Ψ)
 
-      abbrev at60 : Typed.TF T70 O0
-      at60 = λ Ψ. Typed.give s69 (at59 Ψ)
+      abbrev at60 : Typed.TF T40 O0
+      at60 = λ Ψ. at59 Ψ
 
-      abbrev at61 : Typed.TF T67 O0
-      at61 = λ Ψ. Typed.both s68 (at60 Ψ)
+      abbrev at61 : Typed.TF T39 O0
+      at61 = λ Ψ. Typed.ask s38 (at60 Ψ)
 
-      abbrev at62 : Typed.TF T67 O0
-      at62 = λ Ψ. at61 Ψ
+      abbrev at62 : Typed.TF T37 O0
+      at62 = λ Ψ. Typed.give s37 (at61 Ψ)
 
-      abbrev at63 : Typed.TF T67 O0
+      abbrev at63 : Typed.TF T37 O0
       at63 = λ Ψ. at62 Ψ
 
-      abbrev at64 : Typed.TF T66 O0
-      at64 = λ Ψ. Typed.give s65 (at63 Ψ)
+      abbrev at64 : Typed.TF T36 O0
+      at64 = λ Ψ. Typed.ask s35 (at63 Ψ)
 
-      abbrev at65 : Typed.TF T63 O0
-      at65 = λ Ψ. Typed.both s64 (at64 Ψ)
+      abbrev at65 : Typed.TF T34 O0
+      at65 = λ Ψ. Typed.give s34 (at64 Ψ)
 
-      abbrev at66 : Typed.TF T63 O0
+      abbrev at66 : Typed.TF T34 O0
       at66 = λ Ψ. at65 Ψ
 
-      abbrev at67 : Typed.TF T63 O0
-      at67 = λ Ψ. at66 Ψ
+      abbrev at67 : Typed.TF T33 O0
+      at67 = λ Ψ. Typed.ask s32 (at66 Ψ)
 
-      abbrev at68 : Typed.TF T62 O0
-      at68 = λ Ψ. Typed.give s61 (at67 Ψ)
+      abbrev at68 : Typed.TF T31 O0
+      at68 = λ Ψ. Typed.give s31 (at67 Ψ)
 
-      abbrev at69 : Typed.TF T60 O0
-      at69 = λ Ψ. Typed.both s60 (at68 Ψ)
+      abbrev at69 : Typed.TF T31 O0
+      at69 = λ Ψ. at68 Ψ
 
-      abbrev at70 : Typed.TF T60 O0
-      at70 = λ Ψ. at69 Ψ
+      abbrev at70 : Typed.TF T30 O0
+      at70 = λ Ψ. Typed.ask s29 (at69 Ψ)
 
-      abbrev at71 : Typed.TF T59 O0
-      at71 = λ Ψ. Typed.pass T59 T60 s58 (at70 Ψ)
+      abbrev at71 : Typed.TF T28 O0
+      at71 = λ Ψ. Typed.give s28 (at70 Ψ)
 
-      abbrev at72 : Typed.TF T58 O0
-      at72 = λ Ψ. Typed.both s57 (at71 Ψ)
+      abbrev at72 : Typed.TF T28 O0
+      at72 = λ Ψ. at71 Ψ
 
-      abbrev at73 : Typed.TF T57 O0
-      at73 = λ Ψ. Typed.ask s56 (at72 Ψ)
+      abbrev at73 : Typed.TF T27 O0
+      at73 = λ Ψ. Typed.ask s26 (at72 Ψ)
 
-      abbrev at74 : Typed.TF T55 O0
-      at74 = λ Ψ. Typed.give s55 (at73 Ψ)
+      abbrev at74 : Typed.TF T25 O0
+      at74 = λ Ψ. Typed.give s25 (at73 Ψ)
 
-      abbrev at75 : Typed.TF T55 O0
+      abbrev at75 : Typed.TF T25 O0
       at75 = λ Ψ. at74 Ψ
 
-      abbrev at76 : Typed.TF T54 O0
-      at76 = λ Ψ. Typed.ask s53 (at75 Ψ)
+      abbrev at76 : Typed.TF T24 O0
+      at76 = λ Ψ. Typed.ask s23 (at75 Ψ)
 
-      abbrev at77 : Typed.TF T52 O0
-      at77 = λ Ψ. Typed.give s52 (at76 Ψ)
+      abbrev at77 : Typed.TF T22 O0
+      at77 = λ Ψ. Typed.give s22 (at76 Ψ)
 
-      abbrev at78 : Typed.TF T52 O0
+      abbrev at78 : Typed.TF T22 O0
       at78 = λ Ψ. at77 Ψ
 
-      abbrev at79 : Typed.TF T51 O0
-      at79 = λ Ψ. Typed.ask s50 (at78 Ψ)
+      abbrev at79 : Typed.TF T21 O0
+      at79 = λ Ψ. Typed.ask s20 (at78 Ψ)
 
-      abbrev at80 : Typed.TF T49 O0
-      at80 = λ Ψ. Typed.give s49 (at79 Ψ)
+      abbrev at80 : Typed.TF T19 O0
+      at80 = λ Ψ. Typed.give s19 (at79 Ψ)
 
-      abbrev at81 : Typed.TF T49 O0
+      abbrev at81 : Typed.TF T19 O0
       at81 = λ Ψ. at80 Ψ
 
-      abbrev at82 : Typed.TF T48 O0
-      at82 = λ Ψ. Typed.ask s47 (at81 Ψ)
+      abbrev at82 : Typed.TF T18 O0
+      at82 = λ Ψ. Typed.ask s17 (at81 Ψ)
 
-      abbrev at83 : Typed.TF T46 O0
-      at83 = λ Ψ. Typed.give s46 (at82 Ψ)
+      abbrev at83 : Typed.TF T16 O0
+      at83 = λ Ψ. Typed.give s16 (at82 Ψ)
 
-      abbrev at84 : Typed.TF T46 O0
+      abbrev at84 : Typed.TF T16 O0
       at84 = λ Ψ. at83 Ψ
 
-      abbrev at85 : Typed.TF T45 O0
-      at85 = λ Ψ. Typed.ask s44 (at84 Ψ)
+      abbrev at85 : Typed.TF T15 O0
+      at85 = λ Ψ. Typed.ask s14 (at84 Ψ)
 
-      abbrev at86 : Typed.TF T43 O0
-      at86 = λ Ψ. Typed.give s43 (at85 Ψ)
+      abbrev at86 : Typed.TF T13 O0
+      at86 = λ Ψ. Typed.give s13 (at85 Ψ)
 
-      abbrev at87 : Typed.TF T43 O0
+      abbrev at87 : Typed.TF T13 O0
       at87 = λ Ψ. at86 Ψ
 
-      abbrev at88 : Typed.TF T42 O0
-      at88 = λ Ψ. Typed.ask s41 (at87 Ψ)
+      abbrev at88 : Typed.TF T12 O0
+      at88 = λ Ψ. Typed.ask s11 (at87 Ψ)
 
-      abbrev at89 : Typed.TF T40 O0
-      at89 = λ Ψ. Typed.give s40 (at88 Ψ)
+      abbrev at89 : Typed.TF T10 O0
+      at89 = λ Ψ. Typed.give s10 (at88 Ψ)
 
-      abbrev at90 : Typed.TF T40 O0
+      abbrev at90 : Typed.TF T10 O0
       at90 = λ Ψ. at89 Ψ
 
-      abbrev at91 : Typed.TF T39 O0
-      at91 = λ Ψ. Typed.ask s38 (at90 Ψ)
+      abbrev at91 : Typed.TF T9 O0
+      at91 = λ Ψ. Typed.both s8 (at90 Ψ)
 
-      abbrev at92 : Typed.TF T37 O0
-      at92 = λ Ψ. Typed.give s37 (at91 Ψ)
+      abbrev at92 : Typed.TF T8 O0
+      at92 = λ Ψ. Typed.give s7 (at91 Ψ)
 
-      abbrev at93 : Typed.TF T37 O0
-      at93 = λ Ψ. at92 Ψ
+      abbrev at93 : Typed.TF T7 O0
+      at93 = λ Ψ. Typed.give s6 (at92 Ψ)
 
-      abbrev at94 : Typed.TF T36 O0
-      at94 = λ Ψ. Typed.ask s35 (at93 Ψ)
+      abbrev at94 : Typed.TF T6 O0
+      at94 = λ Ψ. Typed.give s5 (at93 Ψ)
 
-      abbrev at95 : Typed.TF T34 O0
-      at95 = λ Ψ. Typed.give s34 (at94 Ψ)
+      abbrev at95 : Typed.TF T5 O0
+      at95 = λ Ψ. Typed.give s4 (at94 Ψ)
 
-      abbrev at96 : Typed.TF T34 O0
-      at96 = λ Ψ. at95 Ψ
+      abbrev at96 : Typed.TF T4 O0
+      at96 = λ Ψ. Typed.give s3 (at95 Ψ)
 
-      abbrev at97 : Typed.TF T33 O0
-      at97 = λ Ψ. Typed.ask s32 (at96 Ψ)
+      abbrev at97 : Typed.TF T3 O0
+      at97 = λ Ψ. Typed.give s2 (at96 Ψ)
 
-      abbrev at98 : Typed.TF T31 O0
-      at98 = λ Ψ. Typed.give s31 (at97 Ψ)
+      abbrev at98 : Typed.TF T2 O0
+      at98 = λ Ψ. Typed.give s1 (at97 Ψ)
 
-      abbrev at99 : Typed.TF T31 O0
-      at99 = λ Ψ. at98 Ψ
-
-      abbrev at100 : Typed.TF T30 O0
-      at100 = λ Ψ. Typed.ask s29 (at99 Ψ)
-
-      abbrev at101 : Typed.TF T28 O0
-      at101 = λ Ψ. Typed.give s28 (at100 Ψ)
-
-      abbrev at102 : Typed.TF T28 O0
-      at102 = λ Ψ. at101 Ψ
-
-      abbrev at103 : Typed.TF T27 O0
-      at103 = λ Ψ. Typed.ask s26 (at102 Ψ)
-
-      abbrev at104 : Typed.TF T25 O0
-      at104 = λ Ψ. Typed.give s25 (at103 Ψ)
-
-      abbrev at105 : Typed.TF T25 O0
-      at105 = λ Ψ. at104 Ψ
-
-      abbrev at106 : Typed.TF T24 O0
-      at106 = λ Ψ. Typed.ask s23 (at105 Ψ)
-
-      abbrev at107 : Typed.TF T22 O0
-      at107 = λ Ψ. Typed.give s22 (at106 Ψ)
-
-      abbrev at108 : Typed.TF T22 O0
-      at108 = λ Ψ. at107 Ψ
-
-      abbrev at109 : Typed.TF T21 O0
-      at109 = λ Ψ. Typed.ask s20 (at108 Ψ)
-
-      abbrev at110 : Typed.TF T19 O0
-      at110 = λ Ψ. Typed.give s19 (at109 Ψ)
-
-      abbrev at111 : Typed.TF T19 O0
-      at111 = λ Ψ. at110 Ψ
-
-      abbrev at112 : Typed.TF T18 O0
-      at112 = λ Ψ. Typed.ask s17 (at111 Ψ)
-
-      abbrev at113 : Typed.TF T16 O0
-      at113 = λ Ψ. Typed.give s16 (at112 Ψ)
-
-      abbrev at114 : Typed.TF T16 O0
-      at114 = λ Ψ. at113 Ψ
-
-      abbrev at115 : Typed.TF T15 O0
-      at115 = λ Ψ. Typed.both s14 (at114 Ψ)
-
-      abbrev at116 : Typed.TF T14 O0
-      at116 = λ Ψ. Typed.give s13 (at115 Ψ)
-
-      abbrev at117 : Typed.TF T13 O0
-      at117 = λ Ψ. Typed.give s12 (at116 Ψ)
-
-      abbrev at118 : Typed.TF T12 O0
-      at118 = λ Ψ. Typed.give s11 (at117 Ψ)
-
-      abbrev at119 : Typed.TF T11 O0
-      at119 = λ Ψ. Typed.give s10 (at118 Ψ)
-
-      abbrev at120 : Typed.TF T10 O0
-      at120 = λ Ψ. Typed.give s9 (at119 Ψ)
-
-      abbrev at121 : Typed.TF T9 O0
-      at121 = λ Ψ. Typed.give s8 (at120 Ψ)
-
-      abbrev at122 : Typed.TF T8 O0
-      at122 = λ Ψ. Typed.give s7 (at121 Ψ)
-
-      abbrev at123 : Typed.TF T7 O0
-      at123 = λ Ψ. Typed.give s6 (at122 Ψ)
-
-      abbrev at124 : Typed.TF T6 O0
-      at124 = λ Ψ. Typed.give s5 (at123 Ψ)
-
-      abbrev at125 : Typed.TF T5 O0
-      at125 = λ Ψ. Typed.give s4 (at124 Ψ)
-
-      abbrev at126 : Typed.TF T4 O0
-      at126 = λ Ψ. Typed.give s3 (at125 Ψ)
-
-      abbrev at127 : Typed.TF T3 O0
-      at127 = λ Ψ. Typed.give s2 (at126 Ψ)
-
-      abbrev at128 : Typed.TF T2 O0
-      at128 = λ Ψ. Typed.give s1 (at127 Ψ)
-
-      abbrev at129 : Typed.TF T0 O0
-      at129 = λ Ψ. Typed.give s0 (at128 Ψ)
+      abbrev at99 : Typed.TF T0 O0
+      at99 = λ Ψ. Typed.give s0 (at98 Ψ)
 
       abbrev pub Φ : Typed.TF T0 O0
-      Φ = at129
+      Φ = at99
 
       module _ {M : Type 1} (𝓤 : URA.URA M) (H : Wp.Heap 𝓤) (A : Atoms.Atoms 𝓤)
           (W : Kit.Given 𝓤 H A) (𝓣 : Wp.Tables 𝓤 H) where
         abbrev Knowns : Type 1
-        Knowns = Plain.Known 𝓤 H A W 𝓣 0 ps·0 r·0 (claims· .0) (claims· .1) "longdust_c::options_of" × Plain.Known 𝓤 H A W 𝓣 15 ps·1 r·1 (claims· .2) (claims· .3) "longdust::filled_tables::process" × Plain.Known 𝓤 H A W 𝓣 0 ps·2 r·2 (claims· .4) (claims· .5) "longdust_c::flag_of" × Plain.Known 𝓤 H A W 𝓣 0 ps·3 r·3 (claims· .6) (claims· .7) "longdust_c::count_or_refusal"
+        Knowns = Plain.Known 𝓤 H A W 𝓣 0 ps·0 r·0 (claims· .0) (claims· .1) "longdust_c::options_of" × Plain.Known 𝓤 H A W 𝓣 12 ps·1 r·1 (claims· .2) (claims· .3) "longdust::calls::process::process" × Plain.Known 𝓤 H A W 𝓣 0 ps·2 r·2 (claims· .4) (claims· .5) "longdust_c::flag_of" × Plain.Known 𝓤 H A W 𝓣 0 ps·3 r·3 (claims· .6) (claims· .7) "longdust_c::count_or_refusal"
 
-      module _ (κs : Lifetimes.Lfts 16) (qs : Lifetimes.Shares 16) where
+      module _ (κs : Lifetimes.Lfts 13) (qs : Lifetimes.Shares 13) where
         abbrev li0 : Row.Life
         li0 = Row.lease (κs .1 .0) (qs .1 .0)
 
         abbrev ei0 : Row.Entry
-        ei0 = (12, Relend.mslice-owed q1 y18 1 16 li0)
+        ei0 = (12, Relend.mslice-owed q1 y20 1 13 li0)
 
         abbrev ci0 : List.List Row.Entry
         ci0 = e8 ∷ e9 ∷ e10 ∷ e11 ∷ ei0 ∷ e13 ∷ e14 ∷ e15 ∷ []
@@ -2429,7 +1964,7 @@ module _ (claims· : Claims) where
         li1 = Row.lease (κs .1 .1 .0) (qs .1 .1 .0)
 
         abbrev ei1 : Row.Entry
-        ei1 = (13, Relend.mslice-owed q1 y19 2 17 li1)
+        ei1 = (13, Relend.mslice-owed q1 y21 2 14 li1)
 
         abbrev ci1 : List.List Row.Entry
         ci1 = e8 ∷ e9 ∷ e10 ∷ e11 ∷ ei0 ∷ ei1 ∷ e14 ∷ e15 ∷ []
@@ -2438,7 +1973,7 @@ module _ (claims· : Claims) where
         li2 = Row.lease (κs .1 .1 .1 .0) (qs .1 .1 .1 .0)
 
         abbrev ei2 : Row.Entry
-        ei2 = (14, Relend.mslice-owed q2 y20 3 18 li2)
+        ei2 = (14, Relend.mslice-owed q2 y22 3 15 li2)
 
         abbrev ci2 : List.List Row.Entry
         ci2 = e8 ∷ e9 ∷ e10 ∷ e11 ∷ ei0 ∷ ei1 ∷ ei2 ∷ e15 ∷ []
@@ -2447,7 +1982,7 @@ module _ (claims· : Claims) where
         li3 = Row.lease (κs .1 .1 .1 .1 .0) (qs .1 .1 .1 .1 .0)
 
         abbrev ei3 : Row.Entry
-        ei3 = (15, Relend.mslice-owed q3 y21 4 19 li3)
+        ei3 = (15, Relend.mslice-owed q3 y23 4 16 li3)
 
         abbrev ci3 : List.List Row.Entry
         ci3 = e8 ∷ e9 ∷ e10 ∷ e11 ∷ ei0 ∷ ei1 ∷ ei2 ∷ ei3 ∷ []
@@ -2456,7 +1991,7 @@ module _ (claims· : Claims) where
         li4 = Row.lease (κs .1 .1 .1 .1 .1 .0) (qs .1 .1 .1 .1 .1 .0)
 
         abbrev ei4 : Row.Entry
-        ei4 = (16, Relend.mslice-owed q3 y22 5 20 li4)
+        ei4 = (16, Relend.mslice-owed q3 y24 5 17 li4)
 
         abbrev ci4 : List.List Row.Entry
         ci4 = ei4 ∷ e17 ∷ e18 ∷ e19 ∷ e20 ∷ e21 ∷ e22 ∷ e23 ∷ []
@@ -2465,7 +2000,7 @@ module _ (claims· : Claims) where
         li5 = Row.lease (κs .1 .1 .1 .1 .1 .1 .0) (qs .1 .1 .1 .1 .1 .1 .0)
 
         abbrev ei5 : Row.Entry
-        ei5 = (17, Relend.mslice-owed Rec·type.the-row y23 6 21 li5)
+        ei5 = (17, Relend.mslice-owed Rec·type.the-row y25 6 18 li5)
 
         abbrev ci5 : List.List Row.Entry
         ci5 = ei4 ∷ ei5 ∷ e18 ∷ e19 ∷ e20 ∷ e21 ∷ e22 ∷ e23 ∷ []
@@ -2474,7 +2009,7 @@ module _ (claims· : Claims) where
         li6 = Row.lease (κs .1 .1 .1 .1 .1 .1 .1 .0) (qs .1 .1 .1 .1 .1 .1 .1 .0)
 
         abbrev ei6 : Row.Entry
-        ei6 = (18, Relend.mslice-owed q0 y24 7 22 li6)
+        ei6 = (18, Relend.mslice-owed q0 y26 7 19 li6)
 
         abbrev ci6 : List.List Row.Entry
         ci6 = ei4 ∷ ei5 ∷ ei6 ∷ e19 ∷ e20 ∷ e21 ∷ e22 ∷ e23 ∷ []
@@ -2483,7 +2018,7 @@ module _ (claims· : Claims) where
         li7 = Row.lease (κs .1 .1 .1 .1 .1 .1 .1 .1 .0) (qs .1 .1 .1 .1 .1 .1 .1 .1 .0)
 
         abbrev ei7 : Row.Entry
-        ei7 = (19, Relend.mslice-owed q0 y25 8 23 li7)
+        ei7 = (19, Relend.mslice-owed q0 y27 8 20 li7)
 
         abbrev ci7 : List.List Row.Entry
         ci7 = ei4 ∷ ei5 ∷ ei6 ∷ ei7 ∷ e20 ∷ e21 ∷ e22 ∷ e23 ∷ []
@@ -2492,7 +2027,7 @@ module _ (claims· : Claims) where
         li8 = Row.lease (κs .1 .1 .1 .1 .1 .1 .1 .1 .1 .0) (qs .1 .1 .1 .1 .1 .1 .1 .1 .1 .0)
 
         abbrev ei8 : Row.Entry
-        ei8 = (20, Relend.mslice-owed q2 y26 9 24 li8)
+        ei8 = (20, Relend.mslice-owed (Array.Array q2 2) y28 9 21 li8)
 
         abbrev ci8 : List.List Row.Entry
         ci8 = ei4 ∷ ei5 ∷ ei6 ∷ ei7 ∷ ei8 ∷ e21 ∷ e22 ∷ e23 ∷ []
@@ -2501,7 +2036,7 @@ module _ (claims· : Claims) where
         li9 = Row.lease (κs .1 .1 .1 .1 .1 .1 .1 .1 .1 .1 .0) (qs .1 .1 .1 .1 .1 .1 .1 .1 .1 .1 .0)
 
         abbrev ei9 : Row.Entry
-        ei9 = (21, Relend.mslice-owed q2 y27 10 25 li9)
+        ei9 = (21, Relend.mslice-owed (Array.Array q2 2) y29 10 22 li9)
 
         abbrev ci9 : List.List Row.Entry
         ci9 = ei4 ∷ ei5 ∷ ei6 ∷ ei7 ∷ ei8 ∷ ei9 ∷ e22 ∷ e23 ∷ []
@@ -2510,169 +2045,136 @@ module _ (claims· : Claims) where
         li10 = Row.lease (κs .1 .1 .1 .1 .1 .1 .1 .1 .1 .1 .1 .0) (qs .1 .1 .1 .1 .1 .1 .1 .1 .1 .1 .1 .0)
 
         abbrev ei10 : Row.Entry
-        ei10 = (22, Relend.mslice-owed q2 y28 11 26 li10)
+        ei10 = (22, Relend.mslice-owed (Array.Array q2 2) y30 11 23 li10)
 
         abbrev ci10 : List.List Row.Entry
         ci10 = ei4 ∷ ei5 ∷ ei6 ∷ ei7 ∷ ei8 ∷ ei9 ∷ ei10 ∷ e23 ∷ []
 
-        abbrev li11 : Row.Life
-        li11 = Row.lease (κs .1 .1 .1 .1 .1 .1 .1 .1 .1 .1 .1 .1 .0) (qs .1 .1 .1 .1 .1 .1 .1 .1 .1 .1 .1 .1 .0)
-
-        abbrev ei11 : Row.Entry
-        ei11 = (23, Relend.mslice-owed q2 y29 12 27 li11)
-
         abbrev ci11 : List.List Row.Entry
-        ci11 = ei4 ∷ ei5 ∷ ei6 ∷ ei7 ∷ ei8 ∷ ei9 ∷ ei10 ∷ ei11 ∷ []
-
-        abbrev li12 : Row.Life
-        li12 = Row.lease (κs .1 .1 .1 .1 .1 .1 .1 .1 .1 .1 .1 .1 .1 .0) (qs .1 .1 .1 .1 .1 .1 .1 .1 .1 .1 .1 .1 .1 .0)
-
-        abbrev ei12 : Row.Entry
-        ei12 = (24, Relend.mslice-owed q2 y30 13 28 li12)
+        ci11 = e8 ∷ e9 ∷ e10 ∷ e11 ∷ e12 ∷ ei1 ∷ ei2 ∷ ei3 ∷ []
 
         abbrev ci12 : List.List Row.Entry
-        ci12 = ei12 ∷ e25 ∷ e26 ∷ e69 ∷ e28 ∷ e29 ∷ e72 ∷ e31 ∷ []
-
-        abbrev li13 : Row.Life
-        li13 = Row.lease (κs .1 .1 .1 .1 .1 .1 .1 .1 .1 .1 .1 .1 .1 .1 .0) (qs .1 .1 .1 .1 .1 .1 .1 .1 .1 .1 .1 .1 .1 .1 .0)
-
-        abbrev ei13 : Row.Entry
-        ei13 = (25, Relend.mslice-owed q2 y31 14 29 li13)
+        ci12 = e8 ∷ e9 ∷ e10 ∷ e11 ∷ e12 ∷ e13 ∷ ei2 ∷ ei3 ∷ []
 
         abbrev ci13 : List.List Row.Entry
-        ci13 = ei12 ∷ ei13 ∷ e26 ∷ e69 ∷ e28 ∷ e29 ∷ e72 ∷ e31 ∷ []
+        ci13 = e8 ∷ e9 ∷ e10 ∷ e11 ∷ e12 ∷ e13 ∷ e14 ∷ ei3 ∷ []
 
         abbrev ci14 : List.List Row.Entry
-        ci14 = ei12 ∷ ei13 ∷ e26 ∷ e69 ∷ e112 ∷ e29 ∷ e113 ∷ e31 ∷ []
+        ci14 = e16 ∷ ei5 ∷ ei6 ∷ ei7 ∷ ei8 ∷ ei9 ∷ ei10 ∷ e23 ∷ []
 
         abbrev ci15 : List.List Row.Entry
-        ci15 = ei12 ∷ ei13 ∷ e26 ∷ e27 ∷ e112 ∷ e29 ∷ e113 ∷ e31 ∷ []
+        ci15 = e16 ∷ e17 ∷ ei6 ∷ ei7 ∷ ei8 ∷ ei9 ∷ ei10 ∷ e23 ∷ []
 
         abbrev ci16 : List.List Row.Entry
-        ci16 = e8 ∷ e9 ∷ e10 ∷ e11 ∷ e12 ∷ ei1 ∷ ei2 ∷ ei3 ∷ []
+        ci16 = e16 ∷ e17 ∷ e18 ∷ ei7 ∷ ei8 ∷ ei9 ∷ ei10 ∷ e23 ∷ []
 
         abbrev ci17 : List.List Row.Entry
-        ci17 = ei12 ∷ ei13 ∷ e26 ∷ e27 ∷ e112 ∷ e29 ∷ e30 ∷ e31 ∷ []
+        ci17 = e16 ∷ e17 ∷ e18 ∷ e19 ∷ ei8 ∷ ei9 ∷ ei10 ∷ e23 ∷ []
 
         abbrev ci18 : List.List Row.Entry
-        ci18 = e8 ∷ e9 ∷ e10 ∷ e11 ∷ e12 ∷ e13 ∷ ei2 ∷ ei3 ∷ []
+        ci18 = e16 ∷ e17 ∷ e18 ∷ e19 ∷ e20 ∷ ei9 ∷ ei10 ∷ e23 ∷ []
 
         abbrev ci19 : List.List Row.Entry
-        ci19 = e8 ∷ e9 ∷ e10 ∷ e11 ∷ e12 ∷ e13 ∷ e14 ∷ ei3 ∷ []
+        ci19 = e16 ∷ e17 ∷ e18 ∷ e19 ∷ e20 ∷ e21 ∷ ei10 ∷ e23 ∷ []
 
-        abbrev ci20 : List.List Row.Entry
-        ci20 = e16 ∷ ei5 ∷ ei6 ∷ ei7 ∷ ei8 ∷ ei9 ∷ ei10 ∷ ei11 ∷ []
+        abbrev li11 : Row.Life
+        li11 = Row.lease (κs .0) (qs .0)
 
-        abbrev ci21 : List.List Row.Entry
-        ci21 = e16 ∷ e17 ∷ ei6 ∷ ei7 ∷ ei8 ∷ ei9 ∷ ei10 ∷ ei11 ∷ []
-
-        abbrev ci22 : List.List Row.Entry
-        ci22 = e16 ∷ e17 ∷ e18 ∷ ei7 ∷ ei8 ∷ ei9 ∷ ei10 ∷ ei11 ∷ []
-
-        abbrev ci23 : List.List Row.Entry
-        ci23 = e16 ∷ e17 ∷ e18 ∷ e19 ∷ ei8 ∷ ei9 ∷ ei10 ∷ ei11 ∷ []
-
-        abbrev ci24 : List.List Row.Entry
-        ci24 = e16 ∷ e17 ∷ e18 ∷ e19 ∷ e20 ∷ ei9 ∷ ei10 ∷ ei11 ∷ []
-
-        abbrev ci25 : List.List Row.Entry
-        ci25 = e16 ∷ e17 ∷ e18 ∷ e19 ∷ e20 ∷ e21 ∷ ei10 ∷ ei11 ∷ []
-
-        abbrev ci26 : List.List Row.Entry
-        ci26 = e16 ∷ e17 ∷ e18 ∷ e19 ∷ e20 ∷ e21 ∷ e22 ∷ ei11 ∷ []
-
-        abbrev ci27 : List.List Row.Entry
-        ci27 = e24 ∷ ei13 ∷ e26 ∷ e27 ∷ e112 ∷ e29 ∷ e30 ∷ e31 ∷ []
-
-        abbrev li14 : Row.Life
-        li14 = Row.lease (κs .0) (qs .0)
-
-        abbrev li15 : Row.Life
-        li15 = Row.lease (κs .1 .1 .1 .1 .1 .1 .1 .1 .1 .1 .1 .1 .1 .1 .1 .0) (qs .1 .1 .1 .1 .1 .1 .1 .1 .1 .1 .1 .1 .1 .1 .1 .0)
+        abbrev li12 : Row.Life
+        li12 = Row.lease (κs .1 .1 .1 .1 .1 .1 .1 .1 .1 .1 .1 .1 .0) (qs .1 .1 .1 .1 .1 .1 .1 .1 .1 .1 .1 .1 .0)
 
         abbrev wi0 : List.List Row.Life
-        wi0 = li14 ∷ li0 ∷ li1 ∷ li2 ∷ li3 ∷ li4 ∷ li5 ∷ li6 ∷ []
+        wi0 = li11 ∷ li0 ∷ li1 ∷ li2 ∷ li3 ∷ li4 ∷ li5 ∷ li6 ∷ []
 
         abbrev wi1 : List.List Row.Life
-        wi1 = li7 ∷ li8 ∷ li9 ∷ li10 ∷ li11 ∷ li12 ∷ li13 ∷ li15 ∷ []
+        wi1 = li7 ∷ li8 ∷ li9 ∷ li10 ∷ li12 ∷ Row.off ∷ Row.off ∷ Row.off ∷ []
 
         abbrev wi2 : List.List Row.Life
-        wi2 = li14 ∷ Row.off ∷ li1 ∷ li2 ∷ li3 ∷ li4 ∷ li5 ∷ li6 ∷ []
+        wi2 = li7 ∷ li8 ∷ li9 ∷ li10 ∷ li12 ∷ Row.alive ∷ Row.off ∷ Row.off ∷ []
 
         abbrev wi3 : List.List Row.Life
-        wi3 = li14 ∷ Row.off ∷ Row.off ∷ li2 ∷ li3 ∷ li4 ∷ li5 ∷ li6 ∷ []
+        wi3 = li11 ∷ Row.off ∷ li1 ∷ li2 ∷ li3 ∷ li4 ∷ li5 ∷ li6 ∷ []
 
         abbrev wi4 : List.List Row.Life
-        wi4 = li14 ∷ Row.off ∷ Row.off ∷ Row.off ∷ li3 ∷ li4 ∷ li5 ∷ li6 ∷ []
+        wi4 = li7 ∷ li8 ∷ li9 ∷ li10 ∷ li12 ∷ Row.alive ∷ Row.alive ∷ Row.off ∷ []
 
         abbrev wi5 : List.List Row.Life
-        wi5 = li14 ∷ Row.off ∷ Row.off ∷ Row.off ∷ Row.off ∷ li4 ∷ li5 ∷ li6 ∷ []
+        wi5 = li11 ∷ Row.off ∷ Row.off ∷ li2 ∷ li3 ∷ li4 ∷ li5 ∷ li6 ∷ []
 
         abbrev wi6 : List.List Row.Life
-        wi6 = li14 ∷ Row.off ∷ Row.off ∷ Row.off ∷ Row.off ∷ Row.off ∷ li5 ∷ li6 ∷ []
+        wi6 = li7 ∷ li8 ∷ li9 ∷ li10 ∷ li12 ∷ Row.alive ∷ Row.alive ∷ Row.alive ∷ []
 
         abbrev wi7 : List.List Row.Life
-        wi7 = li14 ∷ Row.off ∷ Row.off ∷ Row.off ∷ Row.off ∷ Row.off ∷ Row.off ∷ li6 ∷ []
+        wi7 = li11 ∷ Row.off ∷ Row.off ∷ Row.off ∷ li3 ∷ li4 ∷ li5 ∷ li6 ∷ []
 
         abbrev wi8 : List.List Row.Life
-        wi8 = li14 ∷ Row.off ∷ Row.off ∷ Row.off ∷ Row.off ∷ Row.off ∷ Row.off ∷ Row.off ∷ []
+        wi8 = li11 ∷ Row.off ∷ Row.off ∷ Row.off ∷ Row.off ∷ li4 ∷ li5 ∷ li6 ∷ []
 
         abbrev wi9 : List.List Row.Life
-        wi9 = Row.off ∷ li8 ∷ li9 ∷ li10 ∷ li11 ∷ li12 ∷ li13 ∷ li15 ∷ []
+        wi9 = li11 ∷ Row.off ∷ Row.off ∷ Row.off ∷ Row.off ∷ Row.off ∷ li5 ∷ li6 ∷ []
 
         abbrev wi10 : List.List Row.Life
-        wi10 = Row.off ∷ Row.off ∷ li9 ∷ li10 ∷ li11 ∷ li12 ∷ li13 ∷ li15 ∷ []
+        wi10 = li11 ∷ Row.off ∷ Row.off ∷ Row.off ∷ Row.off ∷ Row.off ∷ Row.off ∷ li6 ∷ []
 
         abbrev wi11 : List.List Row.Life
-        wi11 = Row.off ∷ Row.off ∷ Row.off ∷ li10 ∷ li11 ∷ li12 ∷ li13 ∷ li15 ∷ []
+        wi11 = li11 ∷ Row.off ∷ Row.off ∷ Row.off ∷ Row.off ∷ Row.off ∷ Row.off ∷ Row.off ∷ []
 
         abbrev wi12 : List.List Row.Life
-        wi12 = Row.off ∷ Row.off ∷ Row.off ∷ Row.off ∷ li11 ∷ li12 ∷ li13 ∷ li15 ∷ []
+        wi12 = Row.off ∷ li8 ∷ li9 ∷ li10 ∷ li12 ∷ Row.alive ∷ Row.alive ∷ Row.alive ∷ []
 
         abbrev wi13 : List.List Row.Life
-        wi13 = Row.off ∷ Row.off ∷ Row.off ∷ Row.off ∷ Row.off ∷ li12 ∷ li13 ∷ li15 ∷ []
+        wi13 = Row.off ∷ Row.off ∷ li9 ∷ li10 ∷ li12 ∷ Row.alive ∷ Row.alive ∷ Row.alive ∷ []
 
         abbrev wi14 : List.List Row.Life
-        wi14 = Row.off ∷ Row.off ∷ Row.off ∷ Row.off ∷ Row.off ∷ Row.off ∷ li13 ∷ li15 ∷ []
+        wi14 = Row.off ∷ Row.off ∷ Row.off ∷ li10 ∷ li12 ∷ Row.alive ∷ Row.alive ∷ Row.alive ∷ []
 
         abbrev wi15 : List.List Row.Life
-        wi15 = Row.off ∷ Row.off ∷ Row.off ∷ Row.off ∷ Row.off ∷ Row.off ∷ Row.off ∷ li15 ∷ []
+        wi15 = Row.off ∷ Row.off ∷ Row.off ∷ Row.off ∷ li12 ∷ Row.alive ∷ Row.alive ∷ Row.alive ∷ []
 
         abbrev wi16 : List.List Row.Life
-        wi16 = li14 ∷ li0 ∷ Row.off ∷ Row.off ∷ Row.off ∷ Row.off ∷ Row.off ∷ Row.off ∷ []
+        wi16 = Row.off ∷ Row.off ∷ Row.off ∷ Row.off ∷ li12 ∷ Row.dead ∷ Row.alive ∷ Row.alive ∷ []
 
         abbrev wi17 : List.List Row.Life
-        wi17 = li14 ∷ li0 ∷ li1 ∷ Row.off ∷ Row.off ∷ Row.off ∷ Row.off ∷ Row.off ∷ []
+        wi17 = li11 ∷ li0 ∷ Row.off ∷ Row.off ∷ Row.off ∷ Row.off ∷ Row.off ∷ Row.off ∷ []
 
         abbrev wi18 : List.List Row.Life
-        wi18 = li14 ∷ li0 ∷ li1 ∷ li2 ∷ Row.off ∷ Row.off ∷ Row.off ∷ Row.off ∷ []
+        wi18 = Row.off ∷ Row.off ∷ Row.off ∷ Row.off ∷ li12 ∷ Row.off ∷ Row.alive ∷ Row.alive ∷ []
 
         abbrev wi19 : List.List Row.Life
-        wi19 = li14 ∷ li0 ∷ li1 ∷ li2 ∷ li3 ∷ Row.off ∷ Row.off ∷ Row.off ∷ []
+        wi19 = Row.off ∷ Row.off ∷ Row.off ∷ Row.off ∷ li12 ∷ Row.off ∷ Row.dead ∷ Row.alive ∷ []
 
         abbrev wi20 : List.List Row.Life
-        wi20 = li14 ∷ li0 ∷ li1 ∷ li2 ∷ li3 ∷ li4 ∷ Row.off ∷ Row.off ∷ []
+        wi20 = li11 ∷ li0 ∷ li1 ∷ Row.off ∷ Row.off ∷ Row.off ∷ Row.off ∷ Row.off ∷ []
 
         abbrev wi21 : List.List Row.Life
-        wi21 = li14 ∷ li0 ∷ li1 ∷ li2 ∷ li3 ∷ li4 ∷ li5 ∷ Row.off ∷ []
+        wi21 = Row.off ∷ Row.off ∷ Row.off ∷ Row.off ∷ li12 ∷ Row.off ∷ Row.off ∷ Row.alive ∷ []
 
         abbrev wi22 : List.List Row.Life
-        wi22 = li7 ∷ Row.off ∷ Row.off ∷ Row.off ∷ Row.off ∷ Row.off ∷ Row.off ∷ li15 ∷ []
+        wi22 = Row.off ∷ Row.off ∷ Row.off ∷ Row.off ∷ li12 ∷ Row.off ∷ Row.off ∷ Row.dead ∷ []
 
         abbrev wi23 : List.List Row.Life
-        wi23 = li7 ∷ li8 ∷ Row.off ∷ Row.off ∷ Row.off ∷ Row.off ∷ Row.off ∷ li15 ∷ []
+        wi23 = li11 ∷ li0 ∷ li1 ∷ li2 ∷ Row.off ∷ Row.off ∷ Row.off ∷ Row.off ∷ []
 
         abbrev wi24 : List.List Row.Life
-        wi24 = li7 ∷ li8 ∷ li9 ∷ Row.off ∷ Row.off ∷ Row.off ∷ Row.off ∷ li15 ∷ []
+        wi24 = Row.off ∷ Row.off ∷ Row.off ∷ Row.off ∷ li12 ∷ Row.off ∷ Row.off ∷ Row.off ∷ []
 
         abbrev wi25 : List.List Row.Life
-        wi25 = li7 ∷ li8 ∷ li9 ∷ li10 ∷ Row.off ∷ Row.off ∷ Row.off ∷ li15 ∷ []
+        wi25 = li11 ∷ li0 ∷ li1 ∷ li2 ∷ li3 ∷ Row.off ∷ Row.off ∷ Row.off ∷ []
 
         abbrev wi26 : List.List Row.Life
-        wi26 = li7 ∷ li8 ∷ li9 ∷ li10 ∷ li11 ∷ Row.off ∷ Row.off ∷ li15 ∷ []
+        wi26 = li11 ∷ li0 ∷ li1 ∷ li2 ∷ li3 ∷ li4 ∷ Row.off ∷ Row.off ∷ []
 
         abbrev wi27 : List.List Row.Life
-        wi27 = li7 ∷ li8 ∷ li9 ∷ li10 ∷ li11 ∷ li12 ∷ Row.off ∷ li15 ∷ []
+        wi27 = li11 ∷ li0 ∷ li1 ∷ li2 ∷ li3 ∷ li4 ∷ li5 ∷ Row.off ∷ []
+
+        abbrev wi28 : List.List Row.Life
+        wi28 = li7 ∷ Row.off ∷ Row.off ∷ Row.off ∷ li12 ∷ Row.off ∷ Row.off ∷ Row.off ∷ []
+
+        abbrev wi29 : List.List Row.Life
+        wi29 = li7 ∷ li8 ∷ Row.off ∷ Row.off ∷ li12 ∷ Row.off ∷ Row.off ∷ Row.off ∷ []
+
+        abbrev wi30 : List.List Row.Life
+        wi30 = li7 ∷ li8 ∷ li9 ∷ Row.off ∷ li12 ∷ Row.off ∷ Row.off ∷ Row.off ∷ []
 
         abbrev g6 : List.List Row.Entry
         g6 = c0 ++ ci0
@@ -2687,871 +2189,679 @@ module _ (claims· : Claims) where
         g15 = c0 ++ ci3
 
         abbrev g18 : List.List Row.Entry
-        g18 = ci4 ++ c13
+        g18 = ci4 ++ c18
 
         abbrev g21 : List.List Row.Entry
-        g21 = ci5 ++ c13
+        g21 = ci5 ++ c18
 
         abbrev g24 : List.List Row.Entry
-        g24 = ci6 ++ c13
+        g24 = ci6 ++ c18
 
         abbrev g27 : List.List Row.Entry
-        g27 = ci7 ++ c13
+        g27 = ci7 ++ c18
 
         abbrev g30 : List.List Row.Entry
-        g30 = ci8 ++ c13
+        g30 = ci8 ++ c18
 
         abbrev g33 : List.List Row.Entry
-        g33 = ci9 ++ c13
+        g33 = ci9 ++ c18
 
         abbrev g36 : List.List Row.Entry
-        g36 = ci10 ++ c13
+        g36 = ci10 ++ c18
 
         abbrev g39 : List.List Row.Entry
-        g39 = ci11 ++ c13
+        g39 = ci10 ++ c43
+
+        abbrev g41 : List.List Row.Entry
+        g41 = ci10 ++ c46
 
         abbrev g42 : List.List Row.Entry
-        g42 = ci11 ++ ci12
+        g42 = c0 ++ ci11
+
+        abbrev g43 : List.List Row.Entry
+        g43 = ci10 ++ c48
+
+        abbrev g44 : List.List Row.Entry
+        g44 = c0 ++ ci12
 
         abbrev g45 : List.List Row.Entry
-        g45 = ci11 ++ ci13
+        g45 = ci10 ++ c50
 
-        abbrev g48 : List.List Row.Entry
-        g48 = ci11 ++ ci14
+        abbrev g46 : List.List Row.Entry
+        g46 = c0 ++ ci13
+
+        abbrev g47 : List.List Row.Entry
+        g47 = ci10 ++ c52
+
+        abbrev g49 : List.List Row.Entry
+        g49 = ci14 ++ c52
 
         abbrev g51 : List.List Row.Entry
-        g51 = ci11 ++ ci15
-
-        abbrev g52 : List.List Row.Entry
-        g52 = c0 ++ ci16
+        g51 = ci15 ++ c52
 
         abbrev g53 : List.List Row.Entry
-        g53 = ci11 ++ ci17
+        g53 = ci16 ++ c52
 
-        abbrev g54 : List.List Row.Entry
-        g54 = c0 ++ ci18
+        abbrev g55 : List.List Row.Entry
+        g55 = ci17 ++ c52
 
-        abbrev g56 : List.List Row.Entry
-        g56 = c0 ++ ci19
+        abbrev g57 : List.List Row.Entry
+        g57 = ci18 ++ c52
 
         abbrev g59 : List.List Row.Entry
-        g59 = ci20 ++ ci17
-
-        abbrev g61 : List.List Row.Entry
-        g61 = ci21 ++ ci17
-
-        abbrev g63 : List.List Row.Entry
-        g63 = ci22 ++ ci17
-
-        abbrev g65 : List.List Row.Entry
-        g65 = ci23 ++ ci17
-
-        abbrev g67 : List.List Row.Entry
-        g67 = ci24 ++ ci17
-
-        abbrev g68 : List.List Row.Entry
-        g68 = ci25 ++ ci17
-
-        abbrev g70 : List.List Row.Entry
-        g70 = ci26 ++ ci17
-
-        abbrev g72 : List.List Row.Entry
-        g72 = c2 ++ ci17
-
-        abbrev g74 : List.List Row.Entry
-        g74 = c2 ++ ci27
+        g59 = ci19 ++ c52
 
         abbrev G0 : Row.Cx
-        G0 = record { locals = List._++_ t0 (List._++_ t1 (List._++_ t2 t3)); slots = wi0 ++ wi1 ++ w0 ++ w1 }
+        G0 = record { locals = List._++_ t0 (List._++_ t1 (List._++_ t2 t3)); slots = wi0 ++ wi1 ++ w0 }
 
         abbrev G1 : Row.Cx
-        G1 = record { locals = List._++_ t4 (List._++_ t1 (List._++_ t2 t3)); slots = wi0 ++ wi1 ++ w0 ++ w1 }
+        G1 = record { locals = List._++_ t4 (List._++_ t1 (List._++_ t2 t3)); slots = wi0 ++ wi1 ++ w0 }
 
         abbrev G2 : Row.Cx
-        G2 = record { locals = List._++_ t0 (List._++_ t1 (List._++_ t2 t3)); slots = wi0 ++ wi1 ++ w0 ++ w1 }
+        G2 = record { locals = List._++_ t0 (List._++_ t1 (List._++_ t2 t3)); slots = wi0 ++ wi1 ++ w0 }
 
         abbrev G3 : Row.Cx
-        G3 = record { locals = List._++_ t0 (List._++_ t1 (List._++_ t2 t3)); slots = wi0 ++ wi1 ++ w0 ++ w1 }
+        G3 = record { locals = List._++_ t0 (List._++_ t1 (List._++_ t2 t3)); slots = wi0 ++ wi1 ++ w0 }
 
         abbrev G4 : Row.Cx
-        G4 = record { locals = List._++_ t0 (List._++_ t1 (List._++_ t2 t3)); slots = wi0 ++ wi1 ++ w0 ++ w1 }
+        G4 = record { locals = List._++_ t0 (List._++_ t1 (List._++_ t2 t3)); slots = wi0 ++ wi1 ++ w0 }
 
         abbrev G5 : Row.Cx
-        G5 = record { locals = List._++_ t0 (List._++_ t1 (List._++_ t2 t3)); slots = wi0 ++ wi1 ++ w0 ++ w1 }
+        G5 = record { locals = List._++_ t0 (List._++_ t1 (List._++_ t2 t3)); slots = wi0 ++ wi1 ++ w0 }
 
         abbrev G6 : Row.Cx
-        G6 = record { locals = List._++_ t0 (List._++_ t1 (List._++_ t2 t3)); slots = wi0 ++ wi1 ++ w0 ++ w1 }
+        G6 = record { locals = List._++_ t0 (List._++_ t1 (List._++_ t2 t3)); slots = wi0 ++ wi1 ++ w0 }
 
         abbrev G7 : Row.Cx
-        G7 = record { locals = List._++_ t0 (List._++_ t1 (List._++_ t2 t3)); slots = wi0 ++ wi1 ++ w0 ++ w1 }
+        G7 = record { locals = List._++_ t0 (List._++_ t1 (List._++_ t2 t3)); slots = wi0 ++ wi1 ++ w0 }
 
         abbrev G8 : Row.Cx
-        G8 = record { locals = List._++_ t0 (List._++_ t1 (List._++_ t2 t3)); slots = wi0 ++ wi1 ++ w0 ++ w1 }
+        G8 = record { locals = List._++_ t0 (List._++_ t1 (List._++_ t2 t3)); slots = wi0 ++ wi1 ++ w0 }
 
         abbrev G9 : Row.Cx
-        G9 = record { locals = List._++_ t0 (List._++_ t1 (List._++_ t2 t3)); slots = wi0 ++ wi1 ++ w0 ++ w1 }
+        G9 = record { locals = List._++_ t0 (List._++_ t1 (List._++_ t2 t3)); slots = wi0 ++ wi1 ++ w0 }
 
         abbrev G10 : Row.Cx
-        G10 = record { locals = List._++_ t0 (List._++_ t1 (List._++_ t2 t3)); slots = wi0 ++ wi1 ++ w0 ++ w1 }
+        G10 = record { locals = List._++_ t0 (List._++_ t5 (List._++_ t2 t3)); slots = wi0 ++ wi1 ++ w0 }
 
         abbrev G11 : Row.Cx
-        G11 = record { locals = List._++_ t0 (List._++_ t1 (List._++_ t2 t3)); slots = wi0 ++ wi1 ++ w0 ++ w1 }
+        G11 = record { locals = List._++_ t0 (List._++_ t5 (List._++_ t2 t3)); slots = wi0 ++ wi2 ++ w0 }
 
         abbrev G12 : Row.Cx
-        G12 = record { locals = List._++_ t0 (List._++_ t1 (List._++_ t2 t3)); slots = wi0 ++ wi1 ++ w0 ++ w1 }
+        G12 = record { locals = List._++_ g6 (List._++_ t7 (List._++_ t2 t3)); slots = wi3 ++ wi2 ++ w0 }
 
         abbrev G13 : Row.Cx
-        G13 = record { locals = List._++_ t0 (List._++_ t1 (List._++_ t2 t3)); slots = wi0 ++ wi1 ++ w0 ++ w1 }
+        G13 = record { locals = List._++_ g6 (List._++_ t8 (List._++_ t2 t3)); slots = wi3 ++ wi2 ++ w0 }
 
         abbrev G14 : Row.Cx
-        G14 = record { locals = List._++_ t0 (List._++_ t1 (List._++_ t2 t3)); slots = wi0 ++ wi1 ++ w0 ++ w1 }
+        G14 = record { locals = List._++_ g6 (List._++_ t8 (List._++_ t2 t3)); slots = wi3 ++ wi4 ++ w0 }
 
         abbrev G15 : Row.Cx
-        G15 = record { locals = List._++_ t0 (List._++_ t1 (List._++_ t2 t3)); slots = wi0 ++ wi1 ++ w0 ++ w1 }
+        G15 = record { locals = List._++_ g9 (List._++_ t10 (List._++_ t2 t3)); slots = wi5 ++ wi4 ++ w0 }
 
         abbrev G16 : Row.Cx
-        G16 = record { locals = List._++_ t0 (List._++_ t5 (List._++_ t2 t3)); slots = wi0 ++ wi1 ++ w0 ++ w1 }
+        G16 = record { locals = List._++_ g9 (List._++_ t11 (List._++_ t2 t3)); slots = wi5 ++ wi4 ++ w0 }
 
         abbrev G17 : Row.Cx
-        G17 = record { locals = List._++_ t0 (List._++_ t5 (List._++_ t2 t3)); slots = wi0 ++ wi1 ++ w2 ++ w1 }
+        G17 = record { locals = List._++_ g9 (List._++_ t11 (List._++_ t2 t3)); slots = wi5 ++ wi6 ++ w0 }
 
         abbrev G18 : Row.Cx
-        G18 = record { locals = List._++_ g6 (List._++_ t7 (List._++_ t2 t3)); slots = wi2 ++ wi1 ++ w2 ++ w1 }
+        G18 = record { locals = List._++_ g12 (List._++_ t13 (List._++_ t2 t3)); slots = wi7 ++ wi6 ++ w0 }
 
         abbrev G19 : Row.Cx
-        G19 = record { locals = List._++_ g6 (List._++_ t8 (List._++_ t2 t3)); slots = wi2 ++ wi1 ++ w2 ++ w1 }
+        G19 = record { locals = List._++_ g12 (List._++_ t14 (List._++_ t2 t3)); slots = wi7 ++ wi6 ++ w0 }
 
         abbrev G20 : Row.Cx
-        G20 = record { locals = List._++_ g6 (List._++_ t8 (List._++_ t2 t3)); slots = wi2 ++ wi1 ++ w3 ++ w1 }
+        G20 = record { locals = List._++_ g12 (List._++_ t14 (List._++_ t2 t3)); slots = wi7 ++ wi6 ++ w1 }
 
         abbrev G21 : Row.Cx
-        G21 = record { locals = List._++_ g9 (List._++_ t10 (List._++_ t2 t3)); slots = wi3 ++ wi1 ++ w3 ++ w1 }
+        G21 = record { locals = List._++_ g15 (List._++_ t14 (List._++_ t16 t3)); slots = wi8 ++ wi6 ++ w1 }
 
         abbrev G22 : Row.Cx
-        G22 = record { locals = List._++_ g9 (List._++_ t8 (List._++_ t11 t3)); slots = wi3 ++ wi1 ++ w3 ++ w1 }
+        G22 = record { locals = List._++_ g15 (List._++_ t14 (List._++_ t17 t3)); slots = wi8 ++ wi6 ++ w1 }
 
         abbrev G23 : Row.Cx
-        G23 = record { locals = List._++_ g9 (List._++_ t8 (List._++_ t11 t3)); slots = wi3 ++ wi1 ++ w4 ++ w1 }
+        G23 = record { locals = List._++_ g15 (List._++_ t14 (List._++_ t17 t3)); slots = wi8 ++ wi6 ++ w2 }
 
         abbrev G24 : Row.Cx
-        G24 = record { locals = List._++_ g12 (List._++_ t8 (List._++_ t13 t3)); slots = wi4 ++ wi1 ++ w4 ++ w1 }
+        G24 = record { locals = List._++_ g15 (List._++_ g18 (List._++_ t19 t3)); slots = wi9 ++ wi6 ++ w2 }
 
         abbrev G25 : Row.Cx
-        G25 = record { locals = List._++_ g12 (List._++_ t8 (List._++_ t14 t3)); slots = wi4 ++ wi1 ++ w4 ++ w1 }
+        G25 = record { locals = List._++_ g15 (List._++_ g18 (List._++_ t20 t3)); slots = wi9 ++ wi6 ++ w2 }
 
         abbrev G26 : Row.Cx
-        G26 = record { locals = List._++_ g12 (List._++_ t8 (List._++_ t14 t3)); slots = wi4 ++ wi1 ++ w5 ++ w1 }
+        G26 = record { locals = List._++_ g15 (List._++_ g18 (List._++_ t20 t3)); slots = wi9 ++ wi6 ++ w3 }
 
         abbrev G27 : Row.Cx
-        G27 = record { locals = List._++_ g15 (List._++_ t8 (List._++_ t16 t3)); slots = wi5 ++ wi1 ++ w5 ++ w1 }
+        G27 = record { locals = List._++_ g15 (List._++_ g21 (List._++_ t22 t3)); slots = wi10 ++ wi6 ++ w3 }
 
         abbrev G28 : Row.Cx
-        G28 = record { locals = List._++_ g15 (List._++_ t8 (List._++_ t17 t3)); slots = wi5 ++ wi1 ++ w5 ++ w1 }
+        G28 = record { locals = List._++_ g15 (List._++_ g21 (List._++_ t23 t3)); slots = wi10 ++ wi6 ++ w3 }
 
         abbrev G29 : Row.Cx
-        G29 = record { locals = List._++_ g15 (List._++_ t8 (List._++_ t17 t3)); slots = wi5 ++ wi1 ++ w6 ++ w1 }
+        G29 = record { locals = List._++_ g15 (List._++_ g21 (List._++_ t23 t3)); slots = wi10 ++ wi6 ++ w4 }
 
         abbrev G30 : Row.Cx
-        G30 = record { locals = List._++_ g15 (List._++_ g18 (List._++_ t19 t3)); slots = wi6 ++ wi1 ++ w6 ++ w1 }
+        G30 = record { locals = List._++_ g15 (List._++_ g24 (List._++_ t25 t3)); slots = wi11 ++ wi6 ++ w4 }
 
         abbrev G31 : Row.Cx
-        G31 = record { locals = List._++_ g15 (List._++_ g18 (List._++_ t20 t3)); slots = wi6 ++ wi1 ++ w6 ++ w1 }
+        G31 = record { locals = List._++_ g15 (List._++_ g24 (List._++_ t26 t3)); slots = wi11 ++ wi6 ++ w4 }
 
         abbrev G32 : Row.Cx
-        G32 = record { locals = List._++_ g15 (List._++_ g18 (List._++_ t20 t3)); slots = wi6 ++ wi1 ++ w7 ++ w1 }
+        G32 = record { locals = List._++_ g15 (List._++_ g24 (List._++_ t26 t3)); slots = wi11 ++ wi6 ++ w5 }
 
         abbrev G33 : Row.Cx
-        G33 = record { locals = List._++_ g15 (List._++_ g21 (List._++_ t22 t3)); slots = wi7 ++ wi1 ++ w7 ++ w1 }
+        G33 = record { locals = List._++_ g15 (List._++_ g27 (List._++_ t28 t3)); slots = wi11 ++ wi12 ++ w5 }
 
         abbrev G34 : Row.Cx
-        G34 = record { locals = List._++_ g15 (List._++_ g21 (List._++_ t23 t3)); slots = wi7 ++ wi1 ++ w7 ++ w1 }
+        G34 = record { locals = List._++_ g15 (List._++_ g27 (List._++_ t29 t3)); slots = wi11 ++ wi12 ++ w5 }
 
         abbrev G35 : Row.Cx
-        G35 = record { locals = List._++_ g15 (List._++_ g21 (List._++_ t23 t3)); slots = wi7 ++ wi1 ++ w8 ++ w1 }
+        G35 = record { locals = List._++_ g15 (List._++_ g27 (List._++_ t29 t3)); slots = wi11 ++ wi12 ++ w6 }
 
         abbrev G36 : Row.Cx
-        G36 = record { locals = List._++_ g15 (List._++_ g24 (List._++_ t25 t3)); slots = wi8 ++ wi1 ++ w8 ++ w1 }
+        G36 = record { locals = List._++_ g15 (List._++_ g30 (List._++_ t31 t3)); slots = wi11 ++ wi13 ++ w6 }
 
         abbrev G37 : Row.Cx
-        G37 = record { locals = List._++_ g15 (List._++_ g24 (List._++_ t26 t3)); slots = wi8 ++ wi1 ++ w8 ++ w1 }
+        G37 = record { locals = List._++_ g15 (List._++_ g30 (List._++_ t32 t3)); slots = wi11 ++ wi13 ++ w6 }
 
         abbrev G38 : Row.Cx
-        G38 = record { locals = List._++_ g15 (List._++_ g24 (List._++_ t26 t3)); slots = wi8 ++ wi1 ++ w9 ++ w1 }
+        G38 = record { locals = List._++_ g15 (List._++_ g30 (List._++_ t32 t3)); slots = wi11 ++ wi13 ++ w7 }
 
         abbrev G39 : Row.Cx
-        G39 = record { locals = List._++_ g15 (List._++_ g27 (List._++_ t28 t3)); slots = wi8 ++ wi9 ++ w9 ++ w1 }
+        G39 = record { locals = List._++_ g15 (List._++_ g33 (List._++_ t34 t3)); slots = wi11 ++ wi14 ++ w7 }
 
         abbrev G40 : Row.Cx
-        G40 = record { locals = List._++_ g15 (List._++_ g27 (List._++_ t29 t3)); slots = wi8 ++ wi9 ++ w9 ++ w1 }
+        G40 = record { locals = List._++_ g15 (List._++_ g33 (List._++_ t35 t3)); slots = wi11 ++ wi14 ++ w7 }
 
         abbrev G41 : Row.Cx
-        G41 = record { locals = List._++_ g15 (List._++_ g27 (List._++_ t29 t3)); slots = wi8 ++ wi9 ++ w9 ++ w10 }
+        G41 = record { locals = List._++_ g15 (List._++_ g33 (List._++_ t35 t3)); slots = wi11 ++ wi14 ++ w8 }
 
         abbrev G42 : Row.Cx
-        G42 = record { locals = List._++_ g15 (List._++_ g30 (List._++_ t31 t3)); slots = wi8 ++ wi10 ++ w9 ++ w10 }
+        G42 = record { locals = List._++_ g15 (List._++_ g36 (List._++_ t37 t3)); slots = wi11 ++ wi15 ++ w8 }
 
         abbrev G43 : Row.Cx
-        G43 = record { locals = List._++_ g15 (List._++_ g30 (List._++_ t32 t3)); slots = wi8 ++ wi10 ++ w9 ++ w10 }
+        G43 = record { locals = List._++_ g15 (List._++_ g36 (List._++_ t38 t3)); slots = wi11 ++ wi15 ++ w8 }
 
         abbrev G44 : Row.Cx
-        G44 = record { locals = List._++_ g15 (List._++_ g30 (List._++_ t32 t3)); slots = wi8 ++ wi10 ++ w9 ++ w11 }
+        G44 = record { locals = List._++_ g15 (List._++_ g39 (List._++_ t40 t3)); slots = wi11 ++ wi15 ++ w8 }
 
         abbrev G45 : Row.Cx
-        G45 = record { locals = List._++_ g15 (List._++_ g33 (List._++_ t34 t3)); slots = wi8 ++ wi11 ++ w9 ++ w11 }
+        G45 = record { locals = List._++_ g15 (List._++_ g41 (List._++_ t40 t3)); slots = wi11 ++ wi15 ++ w8 }
 
         abbrev G46 : Row.Cx
-        G46 = record { locals = List._++_ g15 (List._++_ g33 (List._++_ t32 t35)); slots = wi8 ++ wi11 ++ w9 ++ w11 }
+        G46 = record { locals = List._++_ g15 (List._++_ g41 (List._++_ t40 t3)); slots = wi11 ++ wi16 ++ w8 }
 
         abbrev G47 : Row.Cx
-        G47 = record { locals = List._++_ g15 (List._++_ g33 (List._++_ t32 t35)); slots = wi8 ++ wi11 ++ w9 ++ w12 }
+        G47 = record { locals = List._++_ g42 (List._++_ g43 (List._++_ t40 t3)); slots = wi17 ++ wi16 ++ w8 }
 
         abbrev G48 : Row.Cx
-        G48 = record { locals = List._++_ g15 (List._++_ g36 (List._++_ t32 t37)); slots = wi8 ++ wi12 ++ w9 ++ w12 }
+        G48 = record { locals = List._++_ g42 (List._++_ g43 (List._++_ t40 t3)); slots = wi17 ++ wi16 ++ w8 }
 
         abbrev G49 : Row.Cx
-        G49 = record { locals = List._++_ g15 (List._++_ g36 (List._++_ t32 t38)); slots = wi8 ++ wi12 ++ w9 ++ w12 }
+        G49 = record { locals = List._++_ g42 (List._++_ g43 (List._++_ t40 t3)); slots = wi17 ++ wi18 ++ w8 }
 
         abbrev G50 : Row.Cx
-        G50 = record { locals = List._++_ g15 (List._++_ g36 (List._++_ t32 t38)); slots = wi8 ++ wi12 ++ w9 ++ w13 }
+        G50 = record { locals = List._++_ g42 (List._++_ g43 (List._++_ t40 t3)); slots = wi17 ++ wi19 ++ w8 }
 
         abbrev G51 : Row.Cx
-        G51 = record { locals = List._++_ g15 (List._++_ g39 (List._++_ t32 t40)); slots = wi8 ++ wi13 ++ w9 ++ w13 }
+        G51 = record { locals = List._++_ g44 (List._++_ g45 (List._++_ t40 t3)); slots = wi20 ++ wi19 ++ w8 }
 
         abbrev G52 : Row.Cx
-        G52 = record { locals = List._++_ g15 (List._++_ g39 (List._++_ t32 t41)); slots = wi8 ++ wi13 ++ w9 ++ w13 }
+        G52 = record { locals = List._++_ g44 (List._++_ g45 (List._++_ t40 t3)); slots = wi20 ++ wi19 ++ w8 }
 
         abbrev G53 : Row.Cx
-        G53 = record { locals = List._++_ g15 (List._++_ g39 (List._++_ t32 t41)); slots = wi8 ++ wi13 ++ w9 ++ w14 }
+        G53 = record { locals = List._++_ g44 (List._++_ g45 (List._++_ t40 t3)); slots = wi20 ++ wi21 ++ w8 }
 
         abbrev G54 : Row.Cx
-        G54 = record { locals = List._++_ g15 (List._++_ g42 (List._++_ t32 t43)); slots = wi8 ++ wi14 ++ w9 ++ w14 }
+        G54 = record { locals = List._++_ g44 (List._++_ g45 (List._++_ t40 t3)); slots = wi20 ++ wi22 ++ w8 }
 
         abbrev G55 : Row.Cx
-        G55 = record { locals = List._++_ g15 (List._++_ g42 (List._++_ t32 t44)); slots = wi8 ++ wi14 ++ w9 ++ w14 }
+        G55 = record { locals = List._++_ g46 (List._++_ g47 (List._++_ t40 t3)); slots = wi23 ++ wi22 ++ w8 }
 
         abbrev G56 : Row.Cx
-        G56 = record { locals = List._++_ g15 (List._++_ g42 (List._++_ t32 t44)); slots = wi8 ++ wi14 ++ w9 ++ w15 }
+        G56 = record { locals = List._++_ g46 (List._++_ g47 (List._++_ t40 t3)); slots = wi23 ++ wi22 ++ w8 }
 
         abbrev G57 : Row.Cx
-        G57 = record { locals = List._++_ g15 (List._++_ g45 (List._++_ t32 t46)); slots = wi8 ++ wi15 ++ w9 ++ w15 }
+        G57 = record { locals = List._++_ g46 (List._++_ g47 (List._++_ t40 t3)); slots = wi23 ++ wi24 ++ w8 }
 
         abbrev G58 : Row.Cx
-        G58 = record { locals = List._++_ g15 (List._++_ g45 (List._++_ t32 t47)); slots = wi8 ++ wi15 ++ w9 ++ w15 }
+        G58 = record { locals = List._++_ g46 (List._++_ g47 (List._++_ t40 t3)); slots = wi23 ++ wi24 ++ w9 }
 
         abbrev G59 : Row.Cx
-        G59 = record { locals = List._++_ g15 (List._++_ g48 (List._++_ t49 t50)); slots = wi8 ++ wi15 ++ w9 ++ w15 }
+        G59 = record { locals = List._++_ t0 (List._++_ g47 (List._++_ t48 t3)); slots = wi25 ++ wi24 ++ w9 }
 
         abbrev G60 : Row.Cx
-        G60 = record { locals = List._++_ g15 (List._++_ g51 (List._++_ t49 t50)); slots = wi8 ++ wi15 ++ w9 ++ w15 }
+        G60 = record { locals = List._++_ t0 (List._++_ g47 (List._++_ t48 t3)); slots = wi25 ++ wi24 ++ w9 }
 
         abbrev G61 : Row.Cx
-        G61 = record { locals = List._++_ g15 (List._++_ g51 (List._++_ t49 t50)); slots = wi8 ++ wi15 ++ w16 ++ w15 }
+        G61 = record { locals = List._++_ t0 (List._++_ g47 (List._++_ t48 t3)); slots = wi25 ++ wi24 ++ w10 }
 
         abbrev G62 : Row.Cx
-        G62 = record { locals = List._++_ g52 (List._++_ g53 (List._++_ t49 t50)); slots = wi16 ++ wi15 ++ w16 ++ w15 }
+        G62 = record { locals = List._++_ t0 (List._++_ g47 (List._++_ t48 t3)); slots = wi25 ++ wi24 ++ w11 }
 
         abbrev G63 : Row.Cx
-        G63 = record { locals = List._++_ g52 (List._++_ g53 (List._++_ t49 t50)); slots = wi16 ++ wi15 ++ w16 ++ w15 }
+        G63 = record { locals = List._++_ t0 (List._++_ g49 (List._++_ t50 t3)); slots = wi26 ++ wi24 ++ w11 }
 
         abbrev G64 : Row.Cx
-        G64 = record { locals = List._++_ g52 (List._++_ g53 (List._++_ t49 t50)); slots = wi16 ++ wi15 ++ w17 ++ w15 }
+        G64 = record { locals = List._++_ t0 (List._++_ g49 (List._++_ t50 t3)); slots = wi26 ++ wi24 ++ w11 }
 
         abbrev G65 : Row.Cx
-        G65 = record { locals = List._++_ g52 (List._++_ g53 (List._++_ t49 t50)); slots = wi16 ++ wi15 ++ w18 ++ w15 }
+        G65 = record { locals = List._++_ t0 (List._++_ g49 (List._++_ t50 t3)); slots = wi26 ++ wi24 ++ w12 }
 
         abbrev G66 : Row.Cx
-        G66 = record { locals = List._++_ g54 (List._++_ g53 (List._++_ t55 t50)); slots = wi17 ++ wi15 ++ w18 ++ w15 }
+        G66 = record { locals = List._++_ t0 (List._++_ g49 (List._++_ t50 t3)); slots = wi26 ++ wi24 ++ w13 }
 
         abbrev G67 : Row.Cx
-        G67 = record { locals = List._++_ g54 (List._++_ g53 (List._++_ t55 t50)); slots = wi17 ++ wi15 ++ w18 ++ w15 }
+        G67 = record { locals = List._++_ t0 (List._++_ g51 (List._++_ t52 t3)); slots = wi27 ++ wi24 ++ w13 }
 
         abbrev G68 : Row.Cx
-        G68 = record { locals = List._++_ g54 (List._++_ g53 (List._++_ t55 t50)); slots = wi17 ++ wi15 ++ w19 ++ w15 }
+        G68 = record { locals = List._++_ t0 (List._++_ g51 (List._++_ t52 t3)); slots = wi27 ++ wi24 ++ w14 }
 
         abbrev G69 : Row.Cx
-        G69 = record { locals = List._++_ g54 (List._++_ g53 (List._++_ t55 t50)); slots = wi17 ++ wi15 ++ w20 ++ w15 }
+        G69 = record { locals = List._++_ t0 (List._++_ g51 (List._++_ t52 t3)); slots = wi27 ++ wi24 ++ w15 }
 
         abbrev G70 : Row.Cx
-        G70 = record { locals = List._++_ g56 (List._++_ g53 (List._++_ t57 t50)); slots = wi18 ++ wi15 ++ w20 ++ w15 }
+        G70 = record { locals = List._++_ t0 (List._++_ g53 (List._++_ t54 t3)); slots = wi0 ++ wi24 ++ w15 }
 
         abbrev G71 : Row.Cx
-        G71 = record { locals = List._++_ g56 (List._++_ g53 (List._++_ t57 t50)); slots = wi18 ++ wi15 ++ w20 ++ w15 }
+        G71 = record { locals = List._++_ t0 (List._++_ g53 (List._++_ t54 t3)); slots = wi0 ++ wi24 ++ w15 }
 
         abbrev G72 : Row.Cx
-        G72 = record { locals = List._++_ g56 (List._++_ g53 (List._++_ t57 t50)); slots = wi18 ++ wi15 ++ w21 ++ w15 }
+        G72 = record { locals = List._++_ t0 (List._++_ g53 (List._++_ t54 t3)); slots = wi0 ++ wi24 ++ w16 }
 
         abbrev G73 : Row.Cx
-        G73 = record { locals = List._++_ g56 (List._++_ g53 (List._++_ t57 t50)); slots = wi18 ++ wi15 ++ w22 ++ w15 }
+        G73 = record { locals = List._++_ t0 (List._++_ g53 (List._++_ t54 t3)); slots = wi0 ++ wi24 ++ w17 }
 
         abbrev G74 : Row.Cx
-        G74 = record { locals = List._++_ t0 (List._++_ g53 (List._++_ t58 t50)); slots = wi19 ++ wi15 ++ w22 ++ w15 }
+        G74 = record { locals = List._++_ t0 (List._++_ g55 (List._++_ t56 t3)); slots = wi0 ++ wi28 ++ w17 }
 
         abbrev G75 : Row.Cx
-        G75 = record { locals = List._++_ t0 (List._++_ g53 (List._++_ t58 t50)); slots = wi19 ++ wi15 ++ w22 ++ w15 }
+        G75 = record { locals = List._++_ t0 (List._++_ g55 (List._++_ t56 t3)); slots = wi0 ++ wi28 ++ w17 }
 
         abbrev G76 : Row.Cx
-        G76 = record { locals = List._++_ t0 (List._++_ g53 (List._++_ t58 t50)); slots = wi19 ++ wi15 ++ w23 ++ w15 }
+        G76 = record { locals = List._++_ t0 (List._++_ g55 (List._++_ t56 t3)); slots = wi0 ++ wi28 ++ w18 }
 
         abbrev G77 : Row.Cx
-        G77 = record { locals = List._++_ t0 (List._++_ g53 (List._++_ t58 t50)); slots = wi19 ++ wi15 ++ w24 ++ w15 }
+        G77 = record { locals = List._++_ t0 (List._++_ g55 (List._++_ t56 t3)); slots = wi0 ++ wi28 ++ w19 }
 
         abbrev G78 : Row.Cx
-        G78 = record { locals = List._++_ t0 (List._++_ g59 (List._++_ t60 t50)); slots = wi20 ++ wi15 ++ w24 ++ w15 }
+        G78 = record { locals = List._++_ t0 (List._++_ g57 (List._++_ t58 t3)); slots = wi0 ++ wi29 ++ w19 }
 
         abbrev G79 : Row.Cx
-        G79 = record { locals = List._++_ t0 (List._++_ g59 (List._++_ t60 t50)); slots = wi20 ++ wi15 ++ w24 ++ w15 }
+        G79 = record { locals = List._++_ t0 (List._++_ g57 (List._++_ t58 t3)); slots = wi0 ++ wi29 ++ w20 }
 
         abbrev G80 : Row.Cx
-        G80 = record { locals = List._++_ t0 (List._++_ g59 (List._++_ t60 t50)); slots = wi20 ++ wi15 ++ w25 ++ w15 }
+        G80 = record { locals = List._++_ t0 (List._++_ g57 (List._++_ t58 t3)); slots = wi0 ++ wi29 ++ w21 }
 
         abbrev G81 : Row.Cx
-        G81 = record { locals = List._++_ t0 (List._++_ g59 (List._++_ t60 t50)); slots = wi20 ++ wi15 ++ w26 ++ w15 }
+        G81 = record { locals = List._++_ t0 (List._++_ g59 (List._++_ t60 t3)); slots = wi0 ++ wi30 ++ w21 }
 
         abbrev G82 : Row.Cx
-        G82 = record { locals = List._++_ t0 (List._++_ g61 (List._++_ t62 t50)); slots = wi21 ++ wi15 ++ w26 ++ w15 }
+        G82 = record { locals = List._++_ t0 (List._++_ g59 (List._++_ t60 t3)); slots = wi0 ++ wi30 ++ w22 }
 
         abbrev G83 : Row.Cx
-        G83 = record { locals = List._++_ t0 (List._++_ g61 (List._++_ t62 t50)); slots = wi21 ++ wi15 ++ w27 ++ w15 }
+        G83 = record { locals = List._++_ t0 (List._++_ g59 (List._++_ t60 t3)); slots = wi0 ++ wi30 ++ w23 }
 
         abbrev G84 : Row.Cx
-        G84 = record { locals = List._++_ t0 (List._++_ g61 (List._++_ t62 t50)); slots = wi21 ++ wi15 ++ w28 ++ w15 }
+        G84 = record { locals = List._++_ t0 (List._++_ t61 (List._++_ t2 t3)); slots = wi0 ++ wi1 ++ w23 }
 
         abbrev G85 : Row.Cx
-        G85 = record { locals = List._++_ t0 (List._++_ g63 (List._++_ t64 t50)); slots = wi0 ++ wi15 ++ w28 ++ w15 }
+        G85 = record { locals = List._++_ t0 (List._++_ t61 (List._++_ t2 t3)); slots = wi0 ++ wi1 ++ w0 }
 
         abbrev G86 : Row.Cx
-        G86 = record { locals = List._++_ t0 (List._++_ g63 (List._++_ t64 t50)); slots = wi0 ++ wi15 ++ w28 ++ w15 }
+        G86 = record { locals = List._++_ t0 (List._++_ t61 (List._++_ t2 t62)); slots = wi0 ++ wi1 ++ w0 }
 
         abbrev G87 : Row.Cx
-        G87 = record { locals = List._++_ t0 (List._++_ g63 (List._++_ t64 t50)); slots = wi0 ++ wi15 ++ w29 ++ w15 }
+        G87 = record { locals = List._++_ t0 (List._++_ t61 (List._++_ t2 t62)); slots = wi0 ++ wi1 ++ w0 }
 
         abbrev G88 : Row.Cx
-        G88 = record { locals = List._++_ t0 (List._++_ g63 (List._++_ t64 t50)); slots = wi0 ++ wi15 ++ w30 ++ w15 }
+        G88 = record { locals = List._++_ t0 (List._++_ t61 (List._++_ t2 t3)); slots = wi0 ++ wi1 ++ w0 }
 
         abbrev G89 : Row.Cx
-        G89 = record { locals = List._++_ t0 (List._++_ g65 (List._++_ t66 t50)); slots = wi0 ++ wi22 ++ w30 ++ w15 }
+        G89 = record { locals = List._++_ t63 (List._++_ t61 (List._++_ t2 t3)); slots = wi0 ++ wi1 ++ w0 }
 
         abbrev G90 : Row.Cx
-        G90 = record { locals = List._++_ t0 (List._++_ g65 (List._++_ t66 t50)); slots = wi0 ++ wi22 ++ w30 ++ w15 }
+        G90 = record { locals = List._++_ t63 (List._++_ t1 (List._++_ t2 t3)); slots = wi0 ++ wi1 ++ w0 }
 
         abbrev G91 : Row.Cx
-        G91 = record { locals = List._++_ t0 (List._++_ g65 (List._++_ t66 t50)); slots = wi0 ++ wi22 ++ w0 ++ w15 }
+        G91 = record { locals = List._++_ t64 (List._++_ t1 (List._++_ t2 t3)); slots = wi0 ++ wi1 ++ w0 }
 
         abbrev G92 : Row.Cx
-        G92 = record { locals = List._++_ t0 (List._++_ g65 (List._++_ t66 t50)); slots = wi0 ++ wi22 ++ w0 ++ w31 }
+        G92 = record { locals = List._++_ t65 (List._++_ t1 (List._++_ t2 t3)); slots = wi0 ++ wi1 ++ w0 }
 
         abbrev G93 : Row.Cx
-        G93 = record { locals = List._++_ t0 (List._++_ g67 (List._++_ t2 t50)); slots = wi0 ++ wi23 ++ w0 ++ w31 }
+        G93 = record { locals = List._++_ t66 (List._++_ t1 (List._++_ t2 t3)); slots = wi0 ++ wi1 ++ w0 }
 
         abbrev G94 : Row.Cx
-        G94 = record { locals = List._++_ t0 (List._++_ g67 (List._++_ t2 t50)); slots = wi0 ++ wi23 ++ w0 ++ w31 }
+        G94 = record { locals = List._++_ t67 (List._++_ t1 (List._++_ t2 t3)); slots = wi0 ++ wi1 ++ w0 }
 
         abbrev G95 : Row.Cx
-        G95 = record { locals = List._++_ t0 (List._++_ g67 (List._++_ t2 t50)); slots = wi0 ++ wi23 ++ w0 ++ w32 }
+        G95 = record { locals = List._++_ t68 (List._++_ t1 (List._++_ t2 t3)); slots = wi0 ++ wi1 ++ w0 }
 
         abbrev G96 : Row.Cx
-        G96 = record { locals = List._++_ t0 (List._++_ g67 (List._++_ t2 t50)); slots = wi0 ++ wi23 ++ w0 ++ w33 }
+        G96 = record { locals = List._++_ t69 (List._++_ t1 (List._++_ t2 t3)); slots = wi0 ++ wi1 ++ w0 }
 
         abbrev G97 : Row.Cx
-        G97 = record { locals = List._++_ t0 (List._++_ g68 (List._++_ t2 t69)); slots = wi0 ++ wi24 ++ w0 ++ w33 }
+        G97 = record { locals = List._++_ t70 (List._++_ t1 (List._++_ t2 t3)); slots = wi0 ++ wi1 ++ w0 }
 
         abbrev G98 : Row.Cx
-        G98 = record { locals = List._++_ t0 (List._++_ g68 (List._++_ t2 t69)); slots = wi0 ++ wi24 ++ w0 ++ w33 }
+        G98 = record { locals = List._++_ t71 (List._++_ t1 (List._++_ t2 t3)); slots = wi0 ++ wi1 ++ w0 }
 
         abbrev G99 : Row.Cx
-        G99 = record { locals = List._++_ t0 (List._++_ g68 (List._++_ t2 t69)); slots = wi0 ++ wi24 ++ w0 ++ w34 }
+        G99 = record { locals = List._++_ t72 (List._++_ t1 (List._++_ t2 t3)); slots = wi0 ++ wi1 ++ w0 }
 
         abbrev G100 : Row.Cx
-        G100 = record { locals = List._++_ t0 (List._++_ g68 (List._++_ t2 t69)); slots = wi0 ++ wi24 ++ w0 ++ w35 }
-
-        abbrev G101 : Row.Cx
-        G101 = record { locals = List._++_ t0 (List._++_ g70 (List._++_ t2 t71)); slots = wi0 ++ wi25 ++ w0 ++ w35 }
-
-        abbrev G102 : Row.Cx
-        G102 = record { locals = List._++_ t0 (List._++_ g70 (List._++_ t2 t71)); slots = wi0 ++ wi25 ++ w0 ++ w35 }
-
-        abbrev G103 : Row.Cx
-        G103 = record { locals = List._++_ t0 (List._++_ g70 (List._++_ t2 t71)); slots = wi0 ++ wi25 ++ w0 ++ w36 }
-
-        abbrev G104 : Row.Cx
-        G104 = record { locals = List._++_ t0 (List._++_ g70 (List._++_ t2 t71)); slots = wi0 ++ wi25 ++ w0 ++ w37 }
-
-        abbrev G105 : Row.Cx
-        G105 = record { locals = List._++_ t0 (List._++_ g72 (List._++_ t2 t73)); slots = wi0 ++ wi26 ++ w0 ++ w37 }
-
-        abbrev G106 : Row.Cx
-        G106 = record { locals = List._++_ t0 (List._++_ g72 (List._++_ t2 t73)); slots = wi0 ++ wi26 ++ w0 ++ w37 }
-
-        abbrev G107 : Row.Cx
-        G107 = record { locals = List._++_ t0 (List._++_ g72 (List._++_ t2 t73)); slots = wi0 ++ wi26 ++ w0 ++ w38 }
-
-        abbrev G108 : Row.Cx
-        G108 = record { locals = List._++_ t0 (List._++_ g72 (List._++_ t2 t73)); slots = wi0 ++ wi26 ++ w0 ++ w39 }
-
-        abbrev G109 : Row.Cx
-        G109 = record { locals = List._++_ t0 (List._++_ g74 (List._++_ t2 t75)); slots = wi0 ++ wi27 ++ w0 ++ w39 }
-
-        abbrev G110 : Row.Cx
-        G110 = record { locals = List._++_ t0 (List._++_ g74 (List._++_ t2 t75)); slots = wi0 ++ wi27 ++ w0 ++ w39 }
-
-        abbrev G111 : Row.Cx
-        G111 = record { locals = List._++_ t0 (List._++_ g74 (List._++_ t2 t75)); slots = wi0 ++ wi27 ++ w0 ++ w40 }
-
-        abbrev G112 : Row.Cx
-        G112 = record { locals = List._++_ t0 (List._++_ g74 (List._++_ t2 t75)); slots = wi0 ++ wi27 ++ w0 ++ w41 }
-
-        abbrev G113 : Row.Cx
-        G113 = record { locals = List._++_ t0 (List._++_ t76 (List._++_ t2 t3)); slots = wi0 ++ wi1 ++ w0 ++ w41 }
-
-        abbrev G114 : Row.Cx
-        G114 = record { locals = List._++_ t0 (List._++_ t76 (List._++_ t2 t3)); slots = wi0 ++ wi1 ++ w0 ++ w41 }
-
-        abbrev G115 : Row.Cx
-        G115 = record { locals = List._++_ t0 (List._++_ t76 (List._++_ t2 t3)); slots = wi0 ++ wi1 ++ w0 ++ w1 }
-
-        abbrev G116 : Row.Cx
-        G116 = record { locals = List._++_ t0 (List._++_ t76 (List._++_ t2 t77)); slots = wi0 ++ wi1 ++ w0 ++ w1 }
-
-        abbrev G117 : Row.Cx
-        G117 = record { locals = List._++_ t0 (List._++_ t76 (List._++_ t2 t77)); slots = wi0 ++ wi1 ++ w0 ++ w1 }
-
-        abbrev G118 : Row.Cx
-        G118 = record { locals = List._++_ t0 (List._++_ t76 (List._++_ t2 t3)); slots = wi0 ++ wi1 ++ w0 ++ w1 }
-
-        abbrev G119 : Row.Cx
-        G119 = record { locals = List._++_ t78 (List._++_ t76 (List._++_ t2 t3)); slots = wi0 ++ wi1 ++ w0 ++ w1 }
-
-        abbrev G120 : Row.Cx
-        G120 = record { locals = List._++_ t78 (List._++_ t1 (List._++_ t2 t3)); slots = wi0 ++ wi1 ++ w0 ++ w1 }
-
-        abbrev G121 : Row.Cx
-        G121 = record { locals = List._++_ t79 (List._++_ t1 (List._++_ t2 t3)); slots = wi0 ++ wi1 ++ w0 ++ w1 }
-
-        abbrev G122 : Row.Cx
-        G122 = record { locals = List._++_ t80 (List._++_ t1 (List._++_ t2 t3)); slots = wi0 ++ wi1 ++ w0 ++ w1 }
-
-        abbrev G123 : Row.Cx
-        G123 = record { locals = List._++_ t81 (List._++_ t1 (List._++_ t2 t3)); slots = wi0 ++ wi1 ++ w0 ++ w1 }
-
-        abbrev G124 : Row.Cx
-        G124 = record { locals = List._++_ t82 (List._++_ t1 (List._++_ t2 t3)); slots = wi0 ++ wi1 ++ w0 ++ w1 }
-
-        abbrev G125 : Row.Cx
-        G125 = record { locals = List._++_ t83 (List._++_ t1 (List._++_ t2 t3)); slots = wi0 ++ wi1 ++ w0 ++ w1 }
-
-        abbrev G126 : Row.Cx
-        G126 = record { locals = List._++_ t84 (List._++_ t1 (List._++_ t2 t3)); slots = wi0 ++ wi1 ++ w0 ++ w1 }
-
-        abbrev G127 : Row.Cx
-        G127 = record { locals = List._++_ t85 (List._++_ t1 (List._++_ t2 t3)); slots = wi0 ++ wi1 ++ w0 ++ w1 }
-
-        abbrev G128 : Row.Cx
-        G128 = record { locals = List._++_ t86 (List._++_ t1 (List._++_ t2 t3)); slots = wi0 ++ wi1 ++ w0 ++ w1 }
-
-        abbrev G129 : Row.Cx
-        G129 = record { locals = List._++_ t87 (List._++_ t1 (List._++_ t2 t3)); slots = wi0 ++ wi1 ++ w0 ++ w1 }
-
-        abbrev G130 : Row.Cx
-        G130 = record { locals = List._++_ t4 (List._++_ t1 (List._++_ t2 t3)); slots = wi0 ++ wi1 ++ w0 ++ w1 }
+        G100 = record { locals = List._++_ t4 (List._++_ t1 (List._++_ t2 t3)); slots = wi0 ++ wi1 ++ w0 }
 
         abbrev Δ0 : Typed.Outs
         Δ0 = record { next = Option.none; exits = List.[]; returns = Option.some G1 }
 
         module _ {M : Type 1} (𝓤 : URA.URA M) (H : Wp.Heap 𝓤) (A : Atoms.Atoms 𝓤)
             (W : Kit.Given 𝓤 H A) (𝓣 : Wp.Tables 𝓤 H) (known : Knowns 𝓤 H A W 𝓣)
-            (bs : List.List Nat.ℕ) (bd : Lifetimes.AllOutlive 16 (Kinds.osR r) κs) where
+            (bs : List.List Nat.ℕ) (bd : Lifetimes.AllOutlive 13 (Kinds.osR r) κs) where
           abbrev E : Wp.Env 𝓤 H
           E = Frame.EnvOf 𝓤 H (List._∷_ (Kinds.tyR r) (Enter.tysP ps xs)) bs
 
-          d0 : Typed.Typed 𝓤 H A 𝓣 E G130 b33 Δ0 at0
+          d0 : Typed.Typed 𝓤 H A 𝓣 E G100 b27 Δ0 at0
           d0 = Typed.t-return 𝓤 H A W 𝓣 E Δ0 tt
 
-          d1 : Typed.Typed 𝓤 H A 𝓣 E G129 b33 Δ0 at1
-          d1 = Typed.g-pre 𝓤 H A W 𝓣 E G129 G130 b33 Δ0 (Typed.pass T129 T130 s128) at0 (Scalar.g-room 𝓤 H A W E G129 11 y2 (Scalar.room-sc 𝓤 H A W z1)) d0
+          d1 : Typed.Typed 𝓤 H A 𝓣 E G99 b27 Δ0 at1
+          d1 = Typed.g-pre 𝓤 H A W 𝓣 E G99 G100 b27 Δ0 (Typed.pass T99 T100 s98) at0 (Scalar.g-room 𝓤 H A W E G99 11 y2 (Scalar.room-sc 𝓤 H A W z1)) d0
 
-          d2 : Typed.Typed 𝓤 H A 𝓣 E G128 b33 Δ0 at2
-          d2 = Typed.g-pre 𝓤 H A W 𝓣 E G128 G129 b33 Δ0 (Typed.pass T128 T129 s127) at1 (Scalar.g-room 𝓤 H A W E G128 10 y2 (Scalar.room-sc 𝓤 H A W z1)) d1
+          d2 : Typed.Typed 𝓤 H A 𝓣 E G98 b27 Δ0 at2
+          d2 = Typed.g-pre 𝓤 H A W 𝓣 E G98 G99 b27 Δ0 (Typed.pass T98 T99 s97) at1 (Scalar.g-room 𝓤 H A W E G98 10 y2 (Scalar.room-sc 𝓤 H A W z1)) d1
 
-          d3 : Typed.Typed 𝓤 H A 𝓣 E G127 b33 Δ0 at3
-          d3 = Typed.g-pre 𝓤 H A W 𝓣 E G127 G128 b33 Δ0 (Typed.pass T127 T128 s126) at2 (Scalar.g-room 𝓤 H A W E G127 9 y3 (Scalar.room-sc 𝓤 H A W z2)) d2
+          d3 : Typed.Typed 𝓤 H A 𝓣 E G97 b27 Δ0 at3
+          d3 = Typed.g-pre 𝓤 H A W 𝓣 E G97 G98 b27 Δ0 (Typed.pass T97 T98 s96) at2 (Scalar.g-room 𝓤 H A W E G97 9 y3 (Scalar.room-sc 𝓤 H A W z2)) d2
 
-          d4 : Typed.Typed 𝓤 H A 𝓣 E G126 b33 Δ0 at4
-          d4 = Typed.g-pre 𝓤 H A W 𝓣 E G126 G127 b33 Δ0 (Typed.pass T126 T127 s125) at3 (Scalar.g-room 𝓤 H A W E G126 8 y2 (Scalar.room-sc 𝓤 H A W z1)) d3
+          d4 : Typed.Typed 𝓤 H A 𝓣 E G96 b27 Δ0 at4
+          d4 = Typed.g-pre 𝓤 H A W 𝓣 E G96 G97 b27 Δ0 (Typed.pass T96 T97 s95) at3 (Scalar.g-room 𝓤 H A W E G96 8 y2 (Scalar.room-sc 𝓤 H A W z1)) d3
 
-          d5 : Typed.Typed 𝓤 H A 𝓣 E G125 b33 Δ0 at5
-          d5 = Typed.g-pre 𝓤 H A W 𝓣 E G125 G126 b33 Δ0 (Typed.pass T125 T126 s124) at4 (Scalar.g-room 𝓤 H A W E G125 7 y2 (Scalar.room-sc 𝓤 H A W z1)) d4
+          d5 : Typed.Typed 𝓤 H A 𝓣 E G95 b27 Δ0 at5
+          d5 = Typed.g-pre 𝓤 H A W 𝓣 E G95 G96 b27 Δ0 (Typed.pass T95 T96 s94) at4 (Scalar.g-room 𝓤 H A W E G95 7 y2 (Scalar.room-sc 𝓤 H A W z1)) d4
 
-          d6 : Typed.Typed 𝓤 H A 𝓣 E G124 b33 Δ0 at6
-          d6 = Typed.g-pre 𝓤 H A W 𝓣 E G124 G125 b33 Δ0 (Typed.pass T124 T125 s123) at5 (Scalar.g-room 𝓤 H A W E G124 6 y1 (Scalar.room-sc 𝓤 H A W (Row.sFloat Ieee.binary64))) d5
+          d6 : Typed.Typed 𝓤 H A 𝓣 E G94 b27 Δ0 at6
+          d6 = Typed.g-pre 𝓤 H A W 𝓣 E G94 G95 b27 Δ0 (Typed.pass T94 T95 s93) at5 (Scalar.g-room 𝓤 H A W E G94 6 y1 (Scalar.room-sc 𝓤 H A W (Row.sFloat Ieee.binary64))) d5
 
-          d7 : Typed.Typed 𝓤 H A 𝓣 E G123 b33 Δ0 at7
-          d7 = Typed.g-pre 𝓤 H A W 𝓣 E G123 G124 b33 Δ0 (Typed.pass T123 T124 s122) at6 (Scalar.g-room 𝓤 H A W E G123 5 y2 (Scalar.room-sc 𝓤 H A W z1)) d6
+          d7 : Typed.Typed 𝓤 H A 𝓣 E G93 b27 Δ0 at7
+          d7 = Typed.g-pre 𝓤 H A W 𝓣 E G93 G94 b27 Δ0 (Typed.pass T93 T94 s92) at6 (Scalar.g-room 𝓤 H A W E G93 5 y2 (Scalar.room-sc 𝓤 H A W z1)) d6
 
-          d8 : Typed.Typed 𝓤 H A 𝓣 E G122 b33 Δ0 at8
-          d8 = Typed.g-pre 𝓤 H A W 𝓣 E G122 G123 b33 Δ0 (Typed.pass T122 T123 s121) at7 (Scalar.g-room 𝓤 H A W E G122 4 y1 (Scalar.room-sc 𝓤 H A W (Row.sFloat Ieee.binary64))) d7
+          d8 : Typed.Typed 𝓤 H A 𝓣 E G92 b27 Δ0 at8
+          d8 = Typed.g-pre 𝓤 H A W 𝓣 E G92 G93 b27 Δ0 (Typed.pass T92 T93 s91) at7 (Scalar.g-room 𝓤 H A W E G92 4 y1 (Scalar.room-sc 𝓤 H A W (Row.sFloat Ieee.binary64))) d7
 
-          d9 : Typed.Typed 𝓤 H A 𝓣 E G121 b33 Δ0 at9
-          d9 = Typed.g-pre 𝓤 H A W 𝓣 E G121 G122 b33 Δ0 (Typed.pass T121 T122 s120) at8 (Scalar.g-room 𝓤 H A W E G121 3 y0 (Scalar.room-sc 𝓤 H A W z0)) d8
+          d9 : Typed.Typed 𝓤 H A 𝓣 E G91 b27 Δ0 at9
+          d9 = Typed.g-pre 𝓤 H A W 𝓣 E G91 G92 b27 Δ0 (Typed.pass T91 T92 s90) at8 (Scalar.g-room 𝓤 H A W E G91 3 y0 (Scalar.room-sc 𝓤 H A W z0)) d8
 
-          d10 : Typed.Typed 𝓤 H A 𝓣 E G120 b33 Δ0 at10
-          d10 = Typed.g-pre 𝓤 H A W 𝓣 E G120 G121 b33 Δ0 (Typed.pass T120 T121 s119) at9 (Scalar.g-room 𝓤 H A W E G120 2 y0 (Scalar.room-sc 𝓤 H A W z0)) d9
+          d10 : Typed.Typed 𝓤 H A 𝓣 E G90 b27 Δ0 at10
+          d10 = Typed.g-pre 𝓤 H A W 𝓣 E G90 G91 b27 Δ0 (Typed.pass T90 T91 s89) at9 (Scalar.g-room 𝓤 H A W E G90 2 y0 (Scalar.room-sc 𝓤 H A W z0)) d9
 
-          d11 : Typed.Typed 𝓤 H A 𝓣 E G119 b33 Δ0 at11
-          d11 = Typed.g-pre 𝓤 H A W 𝓣 E G119 G120 b33 Δ0 (Typed.pass T119 T120 s118) at10 (Scalar.g-room 𝓤 H A W E G119 28 y5 (Local.room-whole 𝓤 H A W q5 y5 Path'.refl)) d10
+          d11 : Typed.Typed 𝓤 H A 𝓣 E G89 b27 Δ0 at11
+          d11 = Typed.g-pre 𝓤 H A W 𝓣 E G89 G90 b27 Δ0 (Typed.pass T89 T90 s88) at10 (Scalar.g-room 𝓤 H A W E G89 25 y5 (Local.room-whole 𝓤 H A W q5 y5 Path'.refl)) d10
 
-          d12 : Typed.Typed 𝓤 H A 𝓣 E G118 b34 Δ0 at12
-          d12 = Typed.s-seq 𝓤 H A W 𝓣 E G118 G119 b32 b33 Δ0 (Typed.both s117) at11 (Plain.t-call-plain 𝓤 H A W 𝓣 0 ps·3 r·3 (claims· .6) (claims· .7) "longdust_c::count_or_refusal" (known .3) E (λ pos β. β) G118 (Num.vFld 28 ((Syntax.field 0) ∷ []) 0 λ x. Answer.struct .as-values x .0, (Num.vFld 28 ((Syntax.field 1) ∷ []) 8 λ x. Answer.struct .as-values x .1 .0, tt)) 0 List.[] (Call.sub-id 𝓤 H A W (G118 .slots)) ((Reads.reads-field 𝓤 H A W Answer.the-type Laws.the-laws 0 y2 0 Path'.refl, Path'.refl), ((Reads.reads-field 𝓤 H A W Answer.the-type Laws.the-laws 1 y0 8 Path'.refl, Path'.refl), tt)) (Reads'.room-gone 𝓤 H A y0) tt Path'.refl) d11
+          d12 : Typed.Typed 𝓤 H A 𝓣 E G88 b28 Δ0 at12
+          d12 = Typed.s-seq 𝓤 H A W 𝓣 E G88 G89 b26 b27 Δ0 (Typed.both s87) at11 (Plain.t-call-plain 𝓤 H A W 𝓣 0 ps·3 r·3 (claims· .6) (claims· .7) "longdust_c::count_or_refusal" (known .3) E (λ pos β. β) G88 (Num.vFld 25 ((Syntax.field 0) ∷ []) 0 λ x. Answer.struct .as-values x .0, (Num.vFld 25 ((Syntax.field 1) ∷ []) 8 λ x. Answer.struct .as-values x .1 .0, tt)) 0 List.[] (Call.sub-id 𝓤 H A W (G88 .slots)) ((Reads.reads-field 𝓤 H A W Answer.the-type Laws.the-laws 0 y2 0 Path'.refl, Path'.refl), ((Reads.reads-field 𝓤 H A W Answer.the-type Laws.the-laws 1 y0 8 Path'.refl, Path'.refl), tt)) (Reads'.room-gone 𝓤 H A y0) tt Path'.refl) d11
 
-          d13 : Typed.Typed 𝓤 H A 𝓣 E G117 b34 Δ0 at13
-          d13 = Typed.g-pre 𝓤 H A W 𝓣 E G117 G118 b34 Δ0 (Typed.pass T117 T118 s116) at12 (Scalar.g-room 𝓤 H A W E G117 57 y2 (Scalar.room-sc 𝓤 H A W z1)) d12
+          d13 : Typed.Typed 𝓤 H A 𝓣 E G87 b28 Δ0 at13
+          d13 = Typed.g-pre 𝓤 H A W 𝓣 E G87 G88 b28 Δ0 (Typed.pass T87 T88 s86) at12 (Scalar.g-room 𝓤 H A W E G87 48 y2 (Scalar.room-sc 𝓤 H A W z1)) d12
 
-          d14 : Typed.Typed 𝓤 H A 𝓣 E G116 b35 Δ0 at14
-          d14 = Typed.s-seq 𝓤 H A W 𝓣 E G116 G117 b31 b34 Δ0 (Typed.pass T116 T117 s115) at13 (Deref.t-ref-write 𝓤 H A W E 𝓣 G116 26 15 (Referent.fInt Syntax.w32) y32 li15 (λ x. x) (Scalar.oAt 57 y2 (Row.valS z1)) (Reads'.as-is 𝓤 H A (Rows.mref q2 y32 15)) (Scalar.reads-sc 𝓤 H A W z1, Path'.refl) Path'.refl tt Path'.refl λ u. Path'.refl) d13
+          d14 : Typed.Typed 𝓤 H A 𝓣 E G86 b29 Δ0 at14
+          d14 = Typed.s-seq 𝓤 H A W 𝓣 E G86 G87 b25 b28 Δ0 (Typed.pass T86 T87 s85) at13 (Deref.t-ref-write 𝓤 H A W E 𝓣 G86 23 12 (Referent.fInt Syntax.w32) y31 li12 (λ x. x) (Scalar.oAt 48 y2 (Row.valS z1)) (Reads'.as-is 𝓤 H A (Rows.mref q2 y31 12)) (Scalar.reads-sc 𝓤 H A W z1, Path'.refl) Path'.refl tt Path'.refl λ u. Path'.refl) d13
 
-          d15 : Typed.Typed 𝓤 H A 𝓣 E G115 b36 Δ0 at15
-          d15 = Typed.s-seq 𝓤 H A W 𝓣 E G115 G116 b30 b35 Δ0 (Typed.both s114) at14 (Plain.t-call-plain 𝓤 H A W 𝓣 0 ps·2 r·2 (claims· .4) (claims· .5) "longdust_c::flag_of" (known .2) E (λ pos β. β) G115 (Bool.bFld 28 ((Syntax.field 2) ∷ []) 16 λ x. Answer.struct .as-values x .1 .1 .0, tt) 57 List.[] (Call.sub-id 𝓤 H A W (G115 .slots)) ((Reads.reads-field 𝓤 H A W Answer.the-type Laws.the-laws 2 Syntax.tyBool 16 Path'.refl, Path'.refl), tt) (Reads'.room-gone 𝓤 H A y2) tt Path'.refl) d14
+          d15 : Typed.Typed 𝓤 H A 𝓣 E G85 b30 Δ0 at15
+          d15 = Typed.s-seq 𝓤 H A W 𝓣 E G85 G86 b24 b29 Δ0 (Typed.both s84) at14 (Plain.t-call-plain 𝓤 H A W 𝓣 0 ps·2 r·2 (claims· .4) (claims· .5) "longdust_c::flag_of" (known .2) E (λ pos β. β) G85 (Bool.bFld 25 ((Syntax.field 2) ∷ []) 16 λ x. Answer.struct .as-values x .1 .1 .0, tt) 48 List.[] (Call.sub-id 𝓤 H A W (G85 .slots)) ((Reads.reads-field 𝓤 H A W Answer.the-type Laws.the-laws 2 Syntax.tyBool 16 Path'.refl, Path'.refl), tt) (Reads'.room-gone 𝓤 H A y2) tt Path'.refl) d14
 
-          d16 : Typed.Typed 𝓤 H A 𝓣 E G114 b36 Δ0 at16
-          d16 = Typed.g-pre 𝓤 H A W 𝓣 E G114 G115 b36 Δ0 (λ Ψ. Ψ) at15 (Lifetime.g-forget 𝓤 H A W E G114 29 Row.dead Path'.refl) d15
+          d16 : Typed.Typed 𝓤 H A 𝓣 E G84 b30 Δ0 at16
+          d16 = Typed.g-pre 𝓤 H A W 𝓣 E G84 G85 b30 Δ0 (λ Ψ. Ψ) at15 (Lifetime.g-forget 𝓤 H A W E G84 23 Row.dead Path'.refl) d15
 
-          d17 : Typed.Typed 𝓤 H A 𝓣 E G113 b36 Δ0 at17
-          d17 = Typed.g-pre 𝓤 H A W 𝓣 E G113 G114 b36 Δ0 (Typed.give s112) at16 (Know.g-sl-known 𝓤 H A W (Referent.fInt Syntax.w32) E G113 25 14 y31 li13 0 (λ x. x) record { fits = Dec'.lit< tt } (Reads'.as-is 𝓤 H A (Mut.mslice q2 y31 14)) Path'.refl tt) d16
+          d17 : Typed.Typed 𝓤 H A 𝓣 E G83 b30 Δ0 at17
+          d17 = Typed.g-pre 𝓤 H A W 𝓣 E G83 G84 b30 Δ0 (Typed.both s82) at16 (Relend.g-back-sl 𝓤 H A W E (Array.Array q2 2) G83 47 22 11 23 y30 y17 li10 (λ x. x) (λ x. x) (Reads'.as-is 𝓤 H A (Mut.msleft (Array.Array q2 2) y17)) (Reads'.as-is 𝓤 H A (Relend.mslice-owed (Array.Array q2 2) y30 11 23 li10)) Path'.refl Path'.refl) d16
 
-          d18 : Typed.Typed 𝓤 H A 𝓣 E G112 b36 Δ0 at18
-          d18 = Typed.g-pre 𝓤 H A W 𝓣 E G112 G113 b36 Δ0 (Typed.both s111) at17 (Relend.g-back-sl 𝓤 H A W E q2 G112 56 25 14 29 y31 y8 li13 (λ x. x) (λ x. x) (Reads'.as-is 𝓤 H A (Mut.msleft q2 y8)) (Reads'.as-is 𝓤 H A (Relend.mslice-owed q2 y31 14 29 li13)) Path'.refl Path'.refl) d17
+          d18 : Typed.Typed 𝓤 H A 𝓣 E G82 b30 Δ0 at18
+          d18 = Typed.g-pre 𝓤 H A W 𝓣 E G82 G83 b30 Δ0 (λ Ψ. Ψ) at17 (Lifetime.g-end 𝓤 H A W E G82 23 Path'.refl) d17
 
-          d19 : Typed.Typed 𝓤 H A 𝓣 E G111 b36 Δ0 at19
-          d19 = Typed.g-pre 𝓤 H A W 𝓣 E G111 G112 b36 Δ0 (λ Ψ. Ψ) at18 (Lifetime.g-end 𝓤 H A W E G111 29 Path'.refl) d18
+          d19 : Typed.Typed 𝓤 H A 𝓣 E G81 b30 Δ0 at19
+          d19 = Typed.g-pre 𝓤 H A W 𝓣 E G81 G82 b30 Δ0 (λ Ψ. Ψ) at18 (Lifetime.g-forget 𝓤 H A W E G81 22 Row.dead Path'.refl) d18
 
-          d20 : Typed.Typed 𝓤 H A 𝓣 E G110 b36 Δ0 at20
-          d20 = Typed.g-pre 𝓤 H A W 𝓣 E G110 G111 b36 Δ0 (λ Ψ. Ψ) at19 (Lifetime.g-forget 𝓤 H A W E G110 28 Row.dead Path'.refl) d19
+          d20 : Typed.Typed 𝓤 H A 𝓣 E G80 b30 Δ0 at20
+          d20 = Typed.g-pre 𝓤 H A W 𝓣 E G80 G81 b30 Δ0 (Typed.both s79) at19 (Relend.g-back-sl 𝓤 H A W E (Array.Array q2 2) G80 45 21 10 22 y29 y17 li9 (λ x. x) (λ x. x) (Reads'.as-is 𝓤 H A (Mut.msleft (Array.Array q2 2) y17)) (Reads'.as-is 𝓤 H A (Relend.mslice-owed (Array.Array q2 2) y29 10 22 li9)) Path'.refl Path'.refl) d19
 
-          d21 : Typed.Typed 𝓤 H A 𝓣 E G109 b36 Δ0 at21
-          d21 = Typed.g-pre 𝓤 H A W 𝓣 E G109 G110 b36 Δ0 (Typed.give s108) at20 (Know.g-sl-known 𝓤 H A W (Referent.fInt Syntax.w32) E G109 24 13 y30 li12 0 (λ x. x) record { fits = Dec'.lit< tt } (Reads'.as-is 𝓤 H A (Mut.mslice q2 y30 13)) Path'.refl tt) d20
+          d21 : Typed.Typed 𝓤 H A 𝓣 E G79 b30 Δ0 at21
+          d21 = Typed.g-pre 𝓤 H A W 𝓣 E G79 G80 b30 Δ0 (λ Ψ. Ψ) at20 (Lifetime.g-end 𝓤 H A W E G79 22 Path'.refl) d20
 
-          d22 : Typed.Typed 𝓤 H A 𝓣 E G108 b36 Δ0 at22
-          d22 = Typed.g-pre 𝓤 H A W 𝓣 E G108 G109 b36 Δ0 (Typed.both s107) at21 (Relend.g-back-sl 𝓤 H A W E q2 G108 54 24 13 28 y30 y8 li12 (λ x. x) (λ x. x) (Reads'.as-is 𝓤 H A (Mut.msleft q2 y8)) (Reads'.as-is 𝓤 H A (Relend.mslice-owed q2 y30 13 28 li12)) Path'.refl Path'.refl) d21
+          d22 : Typed.Typed 𝓤 H A 𝓣 E G78 b30 Δ0 at22
+          d22 = Typed.g-pre 𝓤 H A W 𝓣 E G78 G79 b30 Δ0 (λ Ψ. Ψ) at21 (Lifetime.g-forget 𝓤 H A W E G78 21 Row.dead Path'.refl) d21
 
-          d23 : Typed.Typed 𝓤 H A 𝓣 E G107 b36 Δ0 at23
-          d23 = Typed.g-pre 𝓤 H A W 𝓣 E G107 G108 b36 Δ0 (λ Ψ. Ψ) at22 (Lifetime.g-end 𝓤 H A W E G107 28 Path'.refl) d22
+          d23 : Typed.Typed 𝓤 H A 𝓣 E G77 b30 Δ0 at23
+          d23 = Typed.g-pre 𝓤 H A W 𝓣 E G77 G78 b30 Δ0 (Typed.both s76) at22 (Relend.g-back-sl 𝓤 H A W E (Array.Array q2 2) G77 43 20 9 21 y28 y17 li8 (λ x. x) (λ x. x) (Reads'.as-is 𝓤 H A (Mut.msleft (Array.Array q2 2) y17)) (Reads'.as-is 𝓤 H A (Relend.mslice-owed (Array.Array q2 2) y28 9 21 li8)) Path'.refl Path'.refl) d22
 
-          d24 : Typed.Typed 𝓤 H A 𝓣 E G106 b36 Δ0 at24
-          d24 = Typed.g-pre 𝓤 H A W 𝓣 E G106 G107 b36 Δ0 (λ Ψ. Ψ) at23 (Lifetime.g-forget 𝓤 H A W E G106 27 Row.dead Path'.refl) d23
+          d24 : Typed.Typed 𝓤 H A 𝓣 E G76 b30 Δ0 at24
+          d24 = Typed.g-pre 𝓤 H A W 𝓣 E G76 G77 b30 Δ0 (λ Ψ. Ψ) at23 (Lifetime.g-end 𝓤 H A W E G76 21 Path'.refl) d23
 
-          d25 : Typed.Typed 𝓤 H A 𝓣 E G105 b36 Δ0 at25
-          d25 = Typed.g-pre 𝓤 H A W 𝓣 E G105 G106 b36 Δ0 (Typed.give s104) at24 (Know.g-sl-known 𝓤 H A W (Referent.fInt Syntax.w32) E G105 23 12 y29 li11 0 (λ x. x) record { fits = Dec'.lit< tt } (Reads'.as-is 𝓤 H A (Mut.mslice q2 y29 12)) Path'.refl tt) d24
+          d25 : Typed.Typed 𝓤 H A 𝓣 E G75 b30 Δ0 at25
+          d25 = Typed.g-pre 𝓤 H A W 𝓣 E G75 G76 b30 Δ0 (λ Ψ. Ψ) at24 (Lifetime.g-forget 𝓤 H A W E G75 20 Row.dead Path'.refl) d24
 
-          d26 : Typed.Typed 𝓤 H A 𝓣 E G104 b36 Δ0 at26
-          d26 = Typed.g-pre 𝓤 H A W 𝓣 E G104 G105 b36 Δ0 (Typed.both s103) at25 (Relend.g-back-sl 𝓤 H A W E q2 G104 52 23 12 27 y29 y8 li11 (λ x. x) (λ x. x) (Reads'.as-is 𝓤 H A (Mut.msleft q2 y8)) (Reads'.as-is 𝓤 H A (Relend.mslice-owed q2 y29 12 27 li11)) Path'.refl Path'.refl) d25
+          d26 : Typed.Typed 𝓤 H A 𝓣 E G74 b30 Δ0 at26
+          d26 = Typed.g-pre 𝓤 H A W 𝓣 E G74 G75 b30 Δ0 (Typed.give s73) at25 (Know.g-sl-known 𝓤 H A W (Referent.fInt Syntax.w8) E G74 19 8 y27 li7 0 (λ x. x) record { fits = Dec'.lit< tt } (Reads'.as-is 𝓤 H A (Mut.mslice q0 y27 8)) Path'.refl tt) d25
 
-          d27 : Typed.Typed 𝓤 H A 𝓣 E G103 b36 Δ0 at27
-          d27 = Typed.g-pre 𝓤 H A W 𝓣 E G103 G104 b36 Δ0 (λ Ψ. Ψ) at26 (Lifetime.g-end 𝓤 H A W E G103 27 Path'.refl) d26
+          d27 : Typed.Typed 𝓤 H A 𝓣 E G73 b30 Δ0 at27
+          d27 = Typed.g-pre 𝓤 H A W 𝓣 E G73 G74 b30 Δ0 (Typed.both s72) at26 (Relend.g-back-sl 𝓤 H A W E q0 G73 41 19 8 20 y27 y15 li7 (λ x. x) (λ x. x) (Reads'.as-is 𝓤 H A (Mut.msleft q0 y15)) (Reads'.as-is 𝓤 H A (Relend.mslice-owed q0 y27 8 20 li7)) Path'.refl Path'.refl) d26
 
-          d28 : Typed.Typed 𝓤 H A 𝓣 E G102 b36 Δ0 at28
-          d28 = Typed.g-pre 𝓤 H A W 𝓣 E G102 G103 b36 Δ0 (λ Ψ. Ψ) at27 (Lifetime.g-forget 𝓤 H A W E G102 26 Row.dead Path'.refl) d27
+          d28 : Typed.Typed 𝓤 H A 𝓣 E G72 b30 Δ0 at28
+          d28 = Typed.g-pre 𝓤 H A W 𝓣 E G72 G73 b30 Δ0 (λ Ψ. Ψ) at27 (Lifetime.g-end 𝓤 H A W E G72 20 Path'.refl) d27
 
-          d29 : Typed.Typed 𝓤 H A 𝓣 E G101 b36 Δ0 at29
-          d29 = Typed.g-pre 𝓤 H A W 𝓣 E G101 G102 b36 Δ0 (Typed.give s100) at28 (Know.g-sl-known 𝓤 H A W (Referent.fInt Syntax.w32) E G101 22 11 y28 li10 0 (λ x. x) record { fits = Dec'.lit< tt } (Reads'.as-is 𝓤 H A (Mut.mslice q2 y28 11)) Path'.refl tt) d28
+          d29 : Typed.Typed 𝓤 H A 𝓣 E G71 b30 Δ0 at29
+          d29 = Typed.g-pre 𝓤 H A W 𝓣 E G71 G72 b30 Δ0 (λ Ψ. Ψ) at28 (Lifetime.g-forget 𝓤 H A W E G71 19 Row.dead Path'.refl) d28
 
-          d30 : Typed.Typed 𝓤 H A 𝓣 E G100 b36 Δ0 at30
-          d30 = Typed.g-pre 𝓤 H A W 𝓣 E G100 G101 b36 Δ0 (Typed.both s99) at29 (Relend.g-back-sl 𝓤 H A W E q2 G100 50 22 11 26 y28 y8 li10 (λ x. x) (λ x. x) (Reads'.as-is 𝓤 H A (Mut.msleft q2 y8)) (Reads'.as-is 𝓤 H A (Relend.mslice-owed q2 y28 11 26 li10)) Path'.refl Path'.refl) d29
+          d30 : Typed.Typed 𝓤 H A 𝓣 E G70 b30 Δ0 at30
+          d30 = Typed.g-pre 𝓤 H A W 𝓣 E G70 G71 b30 Δ0 (Typed.give s69) at29 (Know.g-sl-known 𝓤 H A W (Referent.fInt Syntax.w8) E G70 18 7 y26 li6 0 (λ x. x) record { fits = Dec'.lit< tt } (Reads'.as-is 𝓤 H A (Mut.mslice q0 y26 7)) Path'.refl tt) d29
 
-          d31 : Typed.Typed 𝓤 H A 𝓣 E G99 b36 Δ0 at31
-          d31 = Typed.g-pre 𝓤 H A W 𝓣 E G99 G100 b36 Δ0 (λ Ψ. Ψ) at30 (Lifetime.g-end 𝓤 H A W E G99 26 Path'.refl) d30
+          d31 : Typed.Typed 𝓤 H A 𝓣 E G69 b30 Δ0 at31
+          d31 = Typed.g-pre 𝓤 H A W 𝓣 E G69 G70 b30 Δ0 (Typed.both s68) at30 (Relend.g-back-sl 𝓤 H A W E q0 G69 39 18 7 19 y26 y15 li6 (λ x. x) (λ x. x) (Reads'.as-is 𝓤 H A (Mut.msleft q0 y15)) (Reads'.as-is 𝓤 H A (Relend.mslice-owed q0 y26 7 19 li6)) Path'.refl Path'.refl) d30
 
-          d32 : Typed.Typed 𝓤 H A 𝓣 E G98 b36 Δ0 at32
-          d32 = Typed.g-pre 𝓤 H A W 𝓣 E G98 G99 b36 Δ0 (λ Ψ. Ψ) at31 (Lifetime.g-forget 𝓤 H A W E G98 25 Row.dead Path'.refl) d31
+          d32 : Typed.Typed 𝓤 H A 𝓣 E G68 b30 Δ0 at32
+          d32 = Typed.g-pre 𝓤 H A W 𝓣 E G68 G69 b30 Δ0 (λ Ψ. Ψ) at31 (Lifetime.g-end 𝓤 H A W E G68 19 Path'.refl) d31
 
-          d33 : Typed.Typed 𝓤 H A 𝓣 E G97 b36 Δ0 at33
-          d33 = Typed.g-pre 𝓤 H A W 𝓣 E G97 G98 b36 Δ0 (Typed.give s96) at32 (Know.g-sl-known 𝓤 H A W (Referent.fInt Syntax.w32) E G97 21 10 y27 li9 0 (λ x. x) record { fits = Dec'.lit< tt } (Reads'.as-is 𝓤 H A (Mut.mslice q2 y27 10)) Path'.refl tt) d32
+          d33 : Typed.Typed 𝓤 H A 𝓣 E G67 b30 Δ0 at33
+          d33 = Typed.g-pre 𝓤 H A W 𝓣 E G67 G68 b30 Δ0 (λ Ψ. Ψ) at32 (Lifetime.g-forget 𝓤 H A W E G67 18 Row.dead Path'.refl) d32
 
-          d34 : Typed.Typed 𝓤 H A 𝓣 E G96 b36 Δ0 at34
-          d34 = Typed.g-pre 𝓤 H A W 𝓣 E G96 G97 b36 Δ0 (Typed.both s95) at33 (Relend.g-back-sl 𝓤 H A W E q2 G96 48 21 10 25 y27 y8 li9 (λ x. x) (λ x. x) (Reads'.as-is 𝓤 H A (Mut.msleft q2 y8)) (Reads'.as-is 𝓤 H A (Relend.mslice-owed q2 y27 10 25 li9)) Path'.refl Path'.refl) d33
+          d34 : Typed.Typed 𝓤 H A 𝓣 E G66 b30 Δ0 at34
+          d34 = Typed.g-pre 𝓤 H A W 𝓣 E G66 G67 b30 Δ0 (Typed.both s65) at33 (Relend.g-back-sl 𝓤 H A W E Rec·type.the-row G66 37 17 6 18 y25 y12 li5 (λ x. x) (λ x. x) (Reads'.as-is 𝓤 H A (Mut.msleft Rec·type.the-row y12)) (Reads'.as-is 𝓤 H A (Relend.mslice-owed Rec·type.the-row y25 6 18 li5)) Path'.refl Path'.refl) d33
 
-          d35 : Typed.Typed 𝓤 H A 𝓣 E G95 b36 Δ0 at35
-          d35 = Typed.g-pre 𝓤 H A W 𝓣 E G95 G96 b36 Δ0 (λ Ψ. Ψ) at34 (Lifetime.g-end 𝓤 H A W E G95 25 Path'.refl) d34
+          d35 : Typed.Typed 𝓤 H A 𝓣 E G65 b30 Δ0 at35
+          d35 = Typed.g-pre 𝓤 H A W 𝓣 E G65 G66 b30 Δ0 (λ Ψ. Ψ) at34 (Lifetime.g-end 𝓤 H A W E G65 18 Path'.refl) d34
 
-          d36 : Typed.Typed 𝓤 H A 𝓣 E G94 b36 Δ0 at36
-          d36 = Typed.g-pre 𝓤 H A W 𝓣 E G94 G95 b36 Δ0 (λ Ψ. Ψ) at35 (Lifetime.g-forget 𝓤 H A W E G94 24 Row.dead Path'.refl) d35
+          d36 : Typed.Typed 𝓤 H A 𝓣 E G64 b30 Δ0 at36
+          d36 = Typed.g-pre 𝓤 H A W 𝓣 E G64 G65 b30 Δ0 (λ Ψ. Ψ) at35 (Lifetime.g-forget 𝓤 H A W E G64 17 Row.dead Path'.refl) d35
 
-          d37 : Typed.Typed 𝓤 H A 𝓣 E G93 b36 Δ0 at37
-          d37 = Typed.g-pre 𝓤 H A W 𝓣 E G93 G94 b36 Δ0 (Typed.give s92) at36 (Know.g-sl-known 𝓤 H A W (Referent.fInt Syntax.w32) E G93 20 9 y26 li8 0 (λ x. x) record { fits = Dec'.lit< tt } (Reads'.as-is 𝓤 H A (Mut.mslice q2 y26 9)) Path'.refl tt) d36
+          d37 : Typed.Typed 𝓤 H A 𝓣 E G63 b30 Δ0 at37
+          d37 = Typed.g-pre 𝓤 H A W 𝓣 E G63 G64 b30 Δ0 (Typed.give s62) at36 (Know.g-sl-known 𝓤 H A W (Referent.fInt Syntax.w16) E G63 16 5 y24 li4 0 (λ x. x) record { fits = Dec'.lit< tt } (Reads'.as-is 𝓤 H A (Mut.mslice q3 y24 5)) Path'.refl tt) d36
 
-          d38 : Typed.Typed 𝓤 H A 𝓣 E G92 b36 Δ0 at38
-          d38 = Typed.g-pre 𝓤 H A W 𝓣 E G92 G93 b36 Δ0 (Typed.both s91) at37 (Relend.g-back-sl 𝓤 H A W E q2 G92 46 20 9 24 y26 y8 li8 (λ x. x) (λ x. x) (Reads'.as-is 𝓤 H A (Mut.msleft q2 y8)) (Reads'.as-is 𝓤 H A (Relend.mslice-owed q2 y26 9 24 li8)) Path'.refl Path'.refl) d37
+          d38 : Typed.Typed 𝓤 H A 𝓣 E G62 b30 Δ0 at38
+          d38 = Typed.g-pre 𝓤 H A W 𝓣 E G62 G63 b30 Δ0 (Typed.both s61) at37 (Relend.g-back-sl 𝓤 H A W E q3 G62 35 16 5 17 y24 y10 li4 (λ x. x) (λ x. x) (Reads'.as-is 𝓤 H A (Mut.msleft q3 y10)) (Reads'.as-is 𝓤 H A (Relend.mslice-owed q3 y24 5 17 li4)) Path'.refl Path'.refl) d37
 
-          d39 : Typed.Typed 𝓤 H A 𝓣 E G91 b36 Δ0 at39
-          d39 = Typed.g-pre 𝓤 H A W 𝓣 E G91 G92 b36 Δ0 (λ Ψ. Ψ) at38 (Lifetime.g-end 𝓤 H A W E G91 24 Path'.refl) d38
+          d39 : Typed.Typed 𝓤 H A 𝓣 E G61 b30 Δ0 at39
+          d39 = Typed.g-pre 𝓤 H A W 𝓣 E G61 G62 b30 Δ0 (λ Ψ. Ψ) at38 (Lifetime.g-end 𝓤 H A W E G61 17 Path'.refl) d38
 
-          d40 : Typed.Typed 𝓤 H A 𝓣 E G90 b36 Δ0 at40
-          d40 = Typed.g-pre 𝓤 H A W 𝓣 E G90 G91 b36 Δ0 (λ Ψ. Ψ) at39 (Lifetime.g-forget 𝓤 H A W E G90 23 Row.dead Path'.refl) d39
+          d40 : Typed.Typed 𝓤 H A 𝓣 E G60 b30 Δ0 at40
+          d40 = Typed.g-pre 𝓤 H A W 𝓣 E G60 G61 b30 Δ0 (λ Ψ. Ψ) at39 (Lifetime.g-forget 𝓤 H A W E G60 16 Row.dead Path'.refl) d39
 
-          d41 : Typed.Typed 𝓤 H A 𝓣 E G89 b36 Δ0 at41
-          d41 = Typed.g-pre 𝓤 H A W 𝓣 E G89 G90 b36 Δ0 (Typed.give s88) at40 (Know.g-sl-known 𝓤 H A W (Referent.fInt Syntax.w8) E G89 19 8 y25 li7 0 (λ x. x) record { fits = Dec'.lit< tt } (Reads'.as-is 𝓤 H A (Mut.mslice q0 y25 8)) Path'.refl tt) d40
+          d41 : Typed.Typed 𝓤 H A 𝓣 E G59 b30 Δ0 at41
+          d41 = Typed.g-pre 𝓤 H A W 𝓣 E G59 G60 b30 Δ0 (Typed.give s58) at40 (Know.g-sl-known 𝓤 H A W (Referent.fInt Syntax.w16) E G59 15 4 y23 li3 0 (λ x. x) record { fits = Dec'.lit< tt } (Reads'.as-is 𝓤 H A (Mut.mslice q3 y23 4)) Path'.refl tt) d40
 
-          d42 : Typed.Typed 𝓤 H A 𝓣 E G88 b36 Δ0 at42
-          d42 = Typed.g-pre 𝓤 H A W 𝓣 E G88 G89 b36 Δ0 (Typed.both s87) at41 (Relend.g-back-sl 𝓤 H A W E q0 G88 44 19 8 23 y25 y15 li7 (λ x. x) (λ x. x) (Reads'.as-is 𝓤 H A (Mut.msleft q0 y15)) (Reads'.as-is 𝓤 H A (Relend.mslice-owed q0 y25 8 23 li7)) Path'.refl Path'.refl) d41
+          d42 : Typed.Typed 𝓤 H A 𝓣 E G58 b30 Δ0 at42
+          d42 = Typed.g-pre 𝓤 H A W 𝓣 E G58 G59 b30 Δ0 (Typed.both s57) at41 (Relend.g-back-sl 𝓤 H A W E q3 G58 33 15 4 16 y23 y10 li3 (λ x. x) (λ x. x) (Reads'.as-is 𝓤 H A (Mut.msleft q3 y10)) (Reads'.as-is 𝓤 H A (Relend.mslice-owed q3 y23 4 16 li3)) Path'.refl Path'.refl) d41
 
-          d43 : Typed.Typed 𝓤 H A 𝓣 E G87 b36 Δ0 at43
-          d43 = Typed.g-pre 𝓤 H A W 𝓣 E G87 G88 b36 Δ0 (λ Ψ. Ψ) at42 (Lifetime.g-end 𝓤 H A W E G87 23 Path'.refl) d42
+          d43 : Typed.Typed 𝓤 H A 𝓣 E G57 b30 Δ0 at43
+          d43 = Typed.g-pre 𝓤 H A W 𝓣 E G57 G58 b30 Δ0 (λ Ψ. Ψ) at42 (Lifetime.g-end 𝓤 H A W E G57 16 Path'.refl) d42
 
-          d44 : Typed.Typed 𝓤 H A 𝓣 E G86 b36 Δ0 at44
-          d44 = Typed.g-pre 𝓤 H A W 𝓣 E G86 G87 b36 Δ0 (λ Ψ. Ψ) at43 (Lifetime.g-forget 𝓤 H A W E G86 22 Row.dead Path'.refl) d43
+          d44 : Typed.Typed 𝓤 H A 𝓣 E G56 b30 Δ0 at44
+          d44 = Typed.g-pre 𝓤 H A W 𝓣 E G56 G57 b30 Δ0 (λ Ψ. Ψ) at43 (Lifetime.g-forget 𝓤 H A W E G56 15 Row.dead Path'.refl) d43
 
-          d45 : Typed.Typed 𝓤 H A 𝓣 E G85 b36 Δ0 at45
-          d45 = Typed.g-pre 𝓤 H A W 𝓣 E G85 G86 b36 Δ0 (Typed.give s84) at44 (Know.g-sl-known 𝓤 H A W (Referent.fInt Syntax.w8) E G85 18 7 y24 li6 0 (λ x. x) record { fits = Dec'.lit< tt } (Reads'.as-is 𝓤 H A (Mut.mslice q0 y24 7)) Path'.refl tt) d44
+          d45 : Typed.Typed 𝓤 H A 𝓣 E G55 b30 Δ0 at45
+          d45 = Typed.g-pre 𝓤 H A W 𝓣 E G55 G56 b30 Δ0 (Typed.give s54) at44 (Know.g-sl-known 𝓤 H A W (Referent.fInt Syntax.w32) E G55 14 3 y22 li2 0 (λ x. x) record { fits = Dec'.lit< tt } (Reads'.as-is 𝓤 H A (Mut.mslice q2 y22 3)) Path'.refl tt) d44
 
-          d46 : Typed.Typed 𝓤 H A 𝓣 E G84 b36 Δ0 at46
-          d46 = Typed.g-pre 𝓤 H A W 𝓣 E G84 G85 b36 Δ0 (Typed.both s83) at45 (Relend.g-back-sl 𝓤 H A W E q0 G84 42 18 7 22 y24 y15 li6 (λ x. x) (λ x. x) (Reads'.as-is 𝓤 H A (Mut.msleft q0 y15)) (Reads'.as-is 𝓤 H A (Relend.mslice-owed q0 y24 7 22 li6)) Path'.refl Path'.refl) d45
+          d46 : Typed.Typed 𝓤 H A 𝓣 E G54 b30 Δ0 at46
+          d46 = Typed.g-pre 𝓤 H A W 𝓣 E G54 G55 b30 Δ0 (Typed.both s53) at45 (Relend.g-back-sl 𝓤 H A W E q2 G54 31 14 3 15 y22 y8 li2 (λ x. x) (λ x. x) (Reads'.as-is 𝓤 H A (Mut.msleft q2 y8)) (Reads'.as-is 𝓤 H A (Relend.mslice-owed q2 y22 3 15 li2)) Path'.refl Path'.refl) d45
 
-          d47 : Typed.Typed 𝓤 H A 𝓣 E G83 b36 Δ0 at47
-          d47 = Typed.g-pre 𝓤 H A W 𝓣 E G83 G84 b36 Δ0 (λ Ψ. Ψ) at46 (Lifetime.g-end 𝓤 H A W E G83 22 Path'.refl) d46
+          d47 : Typed.Typed 𝓤 H A 𝓣 E G53 b30 Δ0 at47
+          d47 = Typed.g-pre 𝓤 H A W 𝓣 E G53 G54 b30 Δ0 (λ Ψ. Ψ) at46 (Lifetime.g-end 𝓤 H A W E G53 15 Path'.refl) d46
 
-          d48 : Typed.Typed 𝓤 H A 𝓣 E G82 b36 Δ0 at48
-          d48 = Typed.g-pre 𝓤 H A W 𝓣 E G82 G83 b36 Δ0 (λ Ψ. Ψ) at47 (Lifetime.g-forget 𝓤 H A W E G82 21 Row.dead Path'.refl) d47
+          d48 : Typed.Typed 𝓤 H A 𝓣 E G52 b30 Δ0 at48
+          d48 = Typed.g-pre 𝓤 H A W 𝓣 E G52 G53 b30 Δ0 (λ Ψ. Ψ) at47 (Lifetime.g-forget 𝓤 H A W E G52 14 Row.dead Path'.refl) d47
 
-          d49 : Typed.Typed 𝓤 H A 𝓣 E G81 b36 Δ0 at49
-          d49 = Typed.g-pre 𝓤 H A W 𝓣 E G81 G82 b36 Δ0 (Typed.both s80) at48 (Relend.g-back-sl 𝓤 H A W E Rec·type.the-row G81 40 17 6 21 y23 y12 li5 (λ x. x) (λ x. x) (Reads'.as-is 𝓤 H A (Mut.msleft Rec·type.the-row y12)) (Reads'.as-is 𝓤 H A (Relend.mslice-owed Rec·type.the-row y23 6 21 li5)) Path'.refl Path'.refl) d48
+          d49 : Typed.Typed 𝓤 H A 𝓣 E G51 b30 Δ0 at49
+          d49 = Typed.g-pre 𝓤 H A W 𝓣 E G51 G52 b30 Δ0 (Typed.give s50) at48 (Know.g-sl-known 𝓤 H A W (Referent.fFloat Ieee.binary64) E G51 13 2 y21 li1 Ieee.nan (λ x. x) (Fits.nan-fits Ieee.binary64) (Reads'.as-is 𝓤 H A (Mut.mslice q1 y21 2)) Path'.refl tt) d48
 
-          d50 : Typed.Typed 𝓤 H A 𝓣 E G80 b36 Δ0 at50
-          d50 = Typed.g-pre 𝓤 H A W 𝓣 E G80 G81 b36 Δ0 (λ Ψ. Ψ) at49 (Lifetime.g-end 𝓤 H A W E G80 21 Path'.refl) d49
+          d50 : Typed.Typed 𝓤 H A 𝓣 E G50 b30 Δ0 at50
+          d50 = Typed.g-pre 𝓤 H A W 𝓣 E G50 G51 b30 Δ0 (Typed.both s49) at49 (Relend.g-back-sl 𝓤 H A W E q1 G50 29 13 2 14 y21 y6 li1 (λ x. x) (λ x. x) (Reads'.as-is 𝓤 H A (Mut.msleft q1 y6)) (Reads'.as-is 𝓤 H A (Relend.mslice-owed q1 y21 2 14 li1)) Path'.refl Path'.refl) d49
 
-          d51 : Typed.Typed 𝓤 H A 𝓣 E G79 b36 Δ0 at51
-          d51 = Typed.g-pre 𝓤 H A W 𝓣 E G79 G80 b36 Δ0 (λ Ψ. Ψ) at50 (Lifetime.g-forget 𝓤 H A W E G79 20 Row.dead Path'.refl) d50
+          d51 : Typed.Typed 𝓤 H A 𝓣 E G49 b30 Δ0 at51
+          d51 = Typed.g-pre 𝓤 H A W 𝓣 E G49 G50 b30 Δ0 (λ Ψ. Ψ) at50 (Lifetime.g-end 𝓤 H A W E G49 14 Path'.refl) d50
 
-          d52 : Typed.Typed 𝓤 H A 𝓣 E G78 b36 Δ0 at52
-          d52 = Typed.g-pre 𝓤 H A W 𝓣 E G78 G79 b36 Δ0 (Typed.give s77) at51 (Know.g-sl-known 𝓤 H A W (Referent.fInt Syntax.w16) E G78 16 5 y22 li4 0 (λ x. x) record { fits = Dec'.lit< tt } (Reads'.as-is 𝓤 H A (Mut.mslice q3 y22 5)) Path'.refl tt) d51
+          d52 : Typed.Typed 𝓤 H A 𝓣 E G48 b30 Δ0 at52
+          d52 = Typed.g-pre 𝓤 H A W 𝓣 E G48 G49 b30 Δ0 (λ Ψ. Ψ) at51 (Lifetime.g-forget 𝓤 H A W E G48 13 Row.dead Path'.refl) d51
 
-          d53 : Typed.Typed 𝓤 H A 𝓣 E G77 b36 Δ0 at53
-          d53 = Typed.g-pre 𝓤 H A W 𝓣 E G77 G78 b36 Δ0 (Typed.both s76) at52 (Relend.g-back-sl 𝓤 H A W E q3 G77 38 16 5 20 y22 y10 li4 (λ x. x) (λ x. x) (Reads'.as-is 𝓤 H A (Mut.msleft q3 y10)) (Reads'.as-is 𝓤 H A (Relend.mslice-owed q3 y22 5 20 li4)) Path'.refl Path'.refl) d52
+          d53 : Typed.Typed 𝓤 H A 𝓣 E G47 b30 Δ0 at53
+          d53 = Typed.g-pre 𝓤 H A W 𝓣 E G47 G48 b30 Δ0 (Typed.give s46) at52 (Know.g-sl-known 𝓤 H A W (Referent.fFloat Ieee.binary64) E G47 12 1 y20 li0 Ieee.nan (λ x. x) (Fits.nan-fits Ieee.binary64) (Reads'.as-is 𝓤 H A (Mut.mslice q1 y20 1)) Path'.refl tt) d52
 
-          d54 : Typed.Typed 𝓤 H A 𝓣 E G76 b36 Δ0 at54
-          d54 = Typed.g-pre 𝓤 H A W 𝓣 E G76 G77 b36 Δ0 (λ Ψ. Ψ) at53 (Lifetime.g-end 𝓤 H A W E G76 20 Path'.refl) d53
+          d54 : Typed.Typed 𝓤 H A 𝓣 E G46 b30 Δ0 at54
+          d54 = Typed.g-pre 𝓤 H A W 𝓣 E G46 G47 b30 Δ0 (Typed.both s45) at53 (Relend.g-back-sl 𝓤 H A W E q1 G46 27 12 1 13 y20 y6 li0 (λ x. x) (λ x. x) (Reads'.as-is 𝓤 H A (Mut.msleft q1 y6)) (Reads'.as-is 𝓤 H A (Relend.mslice-owed q1 y20 1 13 li0)) Path'.refl Path'.refl) d53
 
-          d55 : Typed.Typed 𝓤 H A 𝓣 E G75 b36 Δ0 at55
-          d55 = Typed.g-pre 𝓤 H A W 𝓣 E G75 G76 b36 Δ0 (λ Ψ. Ψ) at54 (Lifetime.g-forget 𝓤 H A W E G75 19 Row.dead Path'.refl) d54
+          d55 : Typed.Typed 𝓤 H A 𝓣 E G45 b30 Δ0 at55
+          d55 = Typed.g-pre 𝓤 H A W 𝓣 E G45 G46 b30 Δ0 (λ Ψ. Ψ) at54 (Lifetime.g-end 𝓤 H A W E G45 13 Path'.refl) d54
 
-          d56 : Typed.Typed 𝓤 H A 𝓣 E G74 b36 Δ0 at56
-          d56 = Typed.g-pre 𝓤 H A W 𝓣 E G74 G75 b36 Δ0 (Typed.give s73) at55 (Know.g-sl-known 𝓤 H A W (Referent.fInt Syntax.w16) E G74 15 4 y21 li3 0 (λ x. x) record { fits = Dec'.lit< tt } (Reads'.as-is 𝓤 H A (Mut.mslice q3 y21 4)) Path'.refl tt) d55
+          d56 : Typed.Typed 𝓤 H A 𝓣 E G44 b30 Δ0 at56
+          d56 = Typed.g-pre 𝓤 H A W 𝓣 E G44 G45 b30 Δ0 (Typed.pass T44 T45 s43) at55 (Scalar.g-room 𝓤 H A W E G44 24 y4 (Local.room-whole 𝓤 H A W q4 y4 Path'.refl)) d55
 
-          d57 : Typed.Typed 𝓤 H A 𝓣 E G73 b36 Δ0 at57
-          d57 = Typed.g-pre 𝓤 H A W 𝓣 E G73 G74 b36 Δ0 (Typed.both s72) at56 (Relend.g-back-sl 𝓤 H A W E q3 G73 36 15 4 19 y21 y10 li3 (λ x. x) (λ x. x) (Reads'.as-is 𝓤 H A (Mut.msleft q3 y10)) (Reads'.as-is 𝓤 H A (Relend.mslice-owed q3 y21 4 19 li3)) Path'.refl Path'.refl) d56
+          d57 : Typed.Typed 𝓤 H A 𝓣 E G43 b31 Δ0 at57
+          d57 = Typed.s-seq 𝓤 H A W 𝓣 E G43 G44 b23 b30 Δ0 (Typed.both s42) at56 (Plain.t-call-plain 𝓤 H A W 𝓣 12 ps·1 r·1 (claims· .2) (claims· .3) "longdust::calls::process::process" (known .1) E (λ pos β. β) G43 (record { pos = 1; ty = y19; ref = λ x. x }, (record { pos = 24; st = List.[]; d = 0; at = λ x. x }, (record { pos = 27; ty = y6; ref = λ x. x }, (record { pos = 29; ty = y6; ref = λ x. x }, (record { pos = 31; ty = y8; ref = λ x. x }, (record { pos = 33; ty = y10; ref = λ x. x }, (record { pos = 35; ty = y10; ref = λ x. x }, (record { pos = 37; ty = y12; ref = λ x. x }, (record { pos = 39; ty = y15; ref = λ x. x }, (record { pos = 41; ty = y15; ref = λ x. x }, (record { pos = 43; ty = y17; ref = λ x. x }, (record { pos = 45; ty = y17; ref = λ x. x }, (record { pos = 47; ty = y17; ref = λ x. x }, tt))))))))))))) 25 (0 ∷ 13 ∷ 14 ∷ 15 ∷ 16 ∷ 17 ∷ 18 ∷ 19 ∷ 20 ∷ 21 ∷ 22 ∷ 23 ∷ []) (Call.sub-id 𝓤 H A W (G43 .slots)) (ShrSlice.spares-sslice 𝓤 H A W q0 y19 0, Shared.reads-sslice 𝓤 H A W q0 y19 0, Path'.refl, ((Yields.yields-copy 𝓤 H A W (λ ρ. Unit) q4 Path'.refl (Copies.cStruct LongdustOptions.the-type Laws'.the-laws Laws'.the-copy .copy 𝓤 H A W) (Rows.whole q4) (λ x. x) (λ x. x) (λ ρ told. Local.mem-whole 𝓤 H A W q4 ρ) λ ρ told. Local.whole-mem 𝓤 H A W q4 ρ, Path'.refl), (Reads'.as-is 𝓤 H A (Mut.mslice q1 y6 13), Mut.reads-mslice 𝓤 H A W q1 y6 13, Path'.refl, (Reads'.as-is 𝓤 H A (Mut.mslice q1 y6 14), Mut.reads-mslice 𝓤 H A W q1 y6 14, Path'.refl, (Reads'.as-is 𝓤 H A (Mut.mslice q2 y8 15), Mut.reads-mslice 𝓤 H A W q2 y8 15, Path'.refl, (Reads'.as-is 𝓤 H A (Mut.mslice q3 y10 16), Mut.reads-mslice 𝓤 H A W q3 y10 16, Path'.refl, (Reads'.as-is 𝓤 H A (Mut.mslice q3 y10 17), Mut.reads-mslice 𝓤 H A W q3 y10 17, Path'.refl, (Reads'.as-is 𝓤 H A (Mut.mslice Rec·type.the-row y12 18), Mut.reads-mslice 𝓤 H A W Rec·type.the-row y12 18, Path'.refl, (Reads'.as-is 𝓤 H A (Mut.mslice q0 y15 19), Mut.reads-mslice 𝓤 H A W q0 y15 19, Path'.refl, (Reads'.as-is 𝓤 H A (Mut.mslice q0 y15 20), Mut.reads-mslice 𝓤 H A W q0 y15 20, Path'.refl, (Reads'.as-is 𝓤 H A (Mut.mslice (Array.Array q2 2) y17 21), Mut.reads-mslice 𝓤 H A W (Array.Array q2 2) y17 21, Path'.refl, (Reads'.as-is 𝓤 H A (Mut.mslice (Array.Array q2 2) y17 22), Mut.reads-mslice 𝓤 H A W (Array.Array q2 2) y17 22, Path'.refl, (Reads'.as-is 𝓤 H A (Mut.mslice (Array.Array q2 2) y17 23), Mut.reads-mslice 𝓤 H A W (Array.Array q2 2) y17 23, Path'.refl, tt))))))))))))) (Reads'.room-gone 𝓤 H A y5) (tt, (tt, (tt, (tt, (tt, (tt, (tt, (tt, (tt, (tt, (tt, (tt, tt)))))))))))) Path'.refl) d56
 
-          d58 : Typed.Typed 𝓤 H A 𝓣 E G72 b36 Δ0 at58
-          d58 = Typed.g-pre 𝓤 H A W 𝓣 E G72 G73 b36 Δ0 (λ Ψ. Ψ) at57 (Lifetime.g-end 𝓤 H A W E G72 19 Path'.refl) d57
+          d58 : Typed.Typed 𝓤 H A 𝓣 E G42 b32 Δ0 at58
+          d58 = Typed.s-seq 𝓤 H A W 𝓣 E G42 G43 b22 b31 Δ0 (Typed.ask s41) at57 (Relend.t-sl-aggregate 𝓤 H A W E (Array.Array q2 2) 𝓣 (Relend.asMut (Array.Array q2 2)) G42 46 47 23 y17 y17 (λ x. x) (Scalar.oFld 22 ((Syntax.field 1) ∷ []) y0 8 λ v. Shared.lenV (v .0)) (Reads'.as-is 𝓤 H A (Relend.msptr (Array.Array q2 2) y17 23)) (Reads'.room-gone 𝓤 H A y18) (Relend.reads-owed-len 𝓤 H A W (Array.Array q2 2) y30 11 23 li10 8 Path'.refl, Path'.refl) Path'.refl Path'.refl λ b o k. tt) d57
 
-          d59 : Typed.Typed 𝓤 H A 𝓣 E G71 b36 Δ0 at59
-          d59 = Typed.g-pre 𝓤 H A W 𝓣 E G71 G72 b36 Δ0 (λ Ψ. Ψ) at58 (Lifetime.g-forget 𝓤 H A W E G71 18 Row.dead Path'.refl) d58
+          d59 : Typed.Typed 𝓤 H A 𝓣 E G41 b33 Δ0 at59
+          d59 = Typed.s-seq 𝓤 H A W 𝓣 E G41 G42 b21 b32 Δ0 (Typed.give s40) at58 (Relend.t-sl-relend 𝓤 H A W E (Array.Array q2 2) 𝓣 G41 22 46 11 23 y30 y17 li10 0 (λ x. x) (Reads'.as-is 𝓤 H A (Mut.mslice (Array.Array q2 2) y30 11)) (Reads'.room-gone 𝓤 H A y17) Path'.refl tt Path'.refl Path'.refl Path'.refl λ b o. tt) d58
 
-          d60 : Typed.Typed 𝓤 H A 𝓣 E G70 b36 Δ0 at60
-          d60 = Typed.g-pre 𝓤 H A W 𝓣 E G70 G71 b36 Δ0 (Typed.give s69) at59 (Know.g-sl-known 𝓤 H A W (Referent.fInt Syntax.w32) E G70 14 3 y20 li2 0 (λ x. x) record { fits = Dec'.lit< tt } (Reads'.as-is 𝓤 H A (Mut.mslice q2 y20 3)) Path'.refl tt) d59
+          d60 : Typed.Typed 𝓤 H A 𝓣 E G40 b33 Δ0 at60
+          d60 = Typed.g-pre 𝓤 H A W 𝓣 E G40 G41 b33 Δ0 (λ Ψ. Ψ) at59 (Lifetime.g-begin 𝓤 H A W E G40 23 (tt, (tt, (tt, (tt, (tt, (tt, (tt, (tt, (tt, (tt, (tt, (tt, ((tt, tt), ((tt, tt), ((tt, tt), ((tt, tt), ((tt, tt), ((tt, tt), ((tt, tt), ((tt, tt), ((tt, tt), ((tt, tt), (tt, (tt, (tt, (tt, (tt, (tt, (tt, (tt, (tt, (tt, (tt, (tt, (tt, (tt, (tt, (tt, (tt, (tt, (tt, (tt, (tt, (tt, (tt, (tt, (tt, (tt, (tt, tt)))))))))))))))))))))))))))))))))))))))))))))))))) d59
 
-          d61 : Typed.Typed 𝓤 H A 𝓣 E G69 b36 Δ0 at61
-          d61 = Typed.g-pre 𝓤 H A W 𝓣 E G69 G70 b36 Δ0 (Typed.both s68) at60 (Relend.g-back-sl 𝓤 H A W E q2 G69 34 14 3 18 y20 y8 li2 (λ x. x) (λ x. x) (Reads'.as-is 𝓤 H A (Mut.msleft q2 y8)) (Reads'.as-is 𝓤 H A (Relend.mslice-owed q2 y20 3 18 li2)) Path'.refl Path'.refl) d60
+          d61 : Typed.Typed 𝓤 H A 𝓣 E G39 b34 Δ0 at61
+          d61 = Typed.s-seq 𝓤 H A W 𝓣 E G39 G40 b20 b33 Δ0 (Typed.ask s38) at60 (Relend.t-sl-aggregate 𝓤 H A W E (Array.Array q2 2) 𝓣 (Relend.asMut (Array.Array q2 2)) G39 44 45 22 y17 y17 (λ x. x) (Scalar.oFld 21 ((Syntax.field 1) ∷ []) y0 8 λ v. Shared.lenV (v .0)) (Reads'.as-is 𝓤 H A (Relend.msptr (Array.Array q2 2) y17 22)) (Reads'.room-gone 𝓤 H A y18) (Relend.reads-owed-len 𝓤 H A W (Array.Array q2 2) y29 10 22 li9 8 Path'.refl, Path'.refl) Path'.refl Path'.refl λ b o k. tt) d60
 
-          d62 : Typed.Typed 𝓤 H A 𝓣 E G68 b36 Δ0 at62
-          d62 = Typed.g-pre 𝓤 H A W 𝓣 E G68 G69 b36 Δ0 (λ Ψ. Ψ) at61 (Lifetime.g-end 𝓤 H A W E G68 18 Path'.refl) d61
+          d62 : Typed.Typed 𝓤 H A 𝓣 E G38 b35 Δ0 at62
+          d62 = Typed.s-seq 𝓤 H A W 𝓣 E G38 G39 b19 b34 Δ0 (Typed.give s37) at61 (Relend.t-sl-relend 𝓤 H A W E (Array.Array q2 2) 𝓣 G38 21 44 10 22 y29 y17 li9 0 (λ x. x) (Reads'.as-is 𝓤 H A (Mut.mslice (Array.Array q2 2) y29 10)) (Reads'.room-gone 𝓤 H A y17) Path'.refl tt Path'.refl Path'.refl Path'.refl λ b o. tt) d61
 
-          d63 : Typed.Typed 𝓤 H A 𝓣 E G67 b36 Δ0 at63
-          d63 = Typed.g-pre 𝓤 H A W 𝓣 E G67 G68 b36 Δ0 (λ Ψ. Ψ) at62 (Lifetime.g-forget 𝓤 H A W E G67 17 Row.dead Path'.refl) d62
+          d63 : Typed.Typed 𝓤 H A 𝓣 E G37 b35 Δ0 at63
+          d63 = Typed.g-pre 𝓤 H A W 𝓣 E G37 G38 b35 Δ0 (λ Ψ. Ψ) at62 (Lifetime.g-begin 𝓤 H A W E G37 22 (tt, (tt, (tt, (tt, (tt, (tt, (tt, (tt, (tt, (tt, (tt, (tt, ((tt, tt), ((tt, tt), ((tt, tt), ((tt, tt), ((tt, tt), ((tt, tt), ((tt, tt), ((tt, tt), ((tt, tt), (tt, (tt, (tt, (tt, (tt, (tt, (tt, (tt, (tt, (tt, (tt, (tt, (tt, (tt, (tt, (tt, (tt, (tt, (tt, (tt, (tt, (tt, (tt, (tt, (tt, (tt, (tt, (tt, tt)))))))))))))))))))))))))))))))))))))))))))))))))) d62
 
-          d64 : Typed.Typed 𝓤 H A 𝓣 E G66 b36 Δ0 at64
-          d64 = Typed.g-pre 𝓤 H A W 𝓣 E G66 G67 b36 Δ0 (Typed.give s65) at63 (Know.g-sl-known 𝓤 H A W (Referent.fFloat Ieee.binary64) E G66 13 2 y19 li1 Ieee.nan (λ x. x) (Fits.nan-fits Ieee.binary64) (Reads'.as-is 𝓤 H A (Mut.mslice q1 y19 2)) Path'.refl tt) d63
+          d64 : Typed.Typed 𝓤 H A 𝓣 E G36 b36 Δ0 at64
+          d64 = Typed.s-seq 𝓤 H A W 𝓣 E G36 G37 b18 b35 Δ0 (Typed.ask s35) at63 (Relend.t-sl-aggregate 𝓤 H A W E (Array.Array q2 2) 𝓣 (Relend.asMut (Array.Array q2 2)) G36 42 43 21 y17 y17 (λ x. x) (Scalar.oFld 20 ((Syntax.field 1) ∷ []) y0 8 λ v. Shared.lenV (v .0)) (Reads'.as-is 𝓤 H A (Relend.msptr (Array.Array q2 2) y17 21)) (Reads'.room-gone 𝓤 H A y18) (Relend.reads-owed-len 𝓤 H A W (Array.Array q2 2) y28 9 21 li8 8 Path'.refl, Path'.refl) Path'.refl Path'.refl λ b o k. tt) d63
 
-          d65 : Typed.Typed 𝓤 H A 𝓣 E G65 b36 Δ0 at65
-          d65 = Typed.g-pre 𝓤 H A W 𝓣 E G65 G66 b36 Δ0 (Typed.both s64) at64 (Relend.g-back-sl 𝓤 H A W E q1 G65 32 13 2 17 y19 y6 li1 (λ x. x) (λ x. x) (Reads'.as-is 𝓤 H A (Mut.msleft q1 y6)) (Reads'.as-is 𝓤 H A (Relend.mslice-owed q1 y19 2 17 li1)) Path'.refl Path'.refl) d64
+          d65 : Typed.Typed 𝓤 H A 𝓣 E G35 b37 Δ0 at65
+          d65 = Typed.s-seq 𝓤 H A W 𝓣 E G35 G36 b17 b36 Δ0 (Typed.give s34) at64 (Relend.t-sl-relend 𝓤 H A W E (Array.Array q2 2) 𝓣 G35 20 42 9 21 y28 y17 li8 0 (λ x. x) (Reads'.as-is 𝓤 H A (Mut.mslice (Array.Array q2 2) y28 9)) (Reads'.room-gone 𝓤 H A y17) Path'.refl tt Path'.refl Path'.refl Path'.refl λ b o. tt) d64
 
-          d66 : Typed.Typed 𝓤 H A 𝓣 E G64 b36 Δ0 at66
-          d66 = Typed.g-pre 𝓤 H A W 𝓣 E G64 G65 b36 Δ0 (λ Ψ. Ψ) at65 (Lifetime.g-end 𝓤 H A W E G64 17 Path'.refl) d65
+          d66 : Typed.Typed 𝓤 H A 𝓣 E G34 b37 Δ0 at66
+          d66 = Typed.g-pre 𝓤 H A W 𝓣 E G34 G35 b37 Δ0 (λ Ψ. Ψ) at65 (Lifetime.g-begin 𝓤 H A W E G34 21 (tt, (tt, (tt, (tt, (tt, (tt, (tt, (tt, (tt, (tt, (tt, (tt, ((tt, tt), ((tt, tt), ((tt, tt), ((tt, tt), ((tt, tt), ((tt, tt), ((tt, tt), ((tt, tt), (tt, (tt, (tt, (tt, (tt, (tt, (tt, (tt, (tt, (tt, (tt, (tt, (tt, (tt, (tt, (tt, (tt, (tt, (tt, (tt, (tt, (tt, (tt, (tt, (tt, (tt, (tt, (tt, (tt, tt)))))))))))))))))))))))))))))))))))))))))))))))))) d65
 
-          d67 : Typed.Typed 𝓤 H A 𝓣 E G63 b36 Δ0 at67
-          d67 = Typed.g-pre 𝓤 H A W 𝓣 E G63 G64 b36 Δ0 (λ Ψ. Ψ) at66 (Lifetime.g-forget 𝓤 H A W E G63 16 Row.dead Path'.refl) d66
+          d67 : Typed.Typed 𝓤 H A 𝓣 E G33 b38 Δ0 at67
+          d67 = Typed.s-seq 𝓤 H A W 𝓣 E G33 G34 b16 b37 Δ0 (Typed.ask s32) at66 (Relend.t-sl-aggregate 𝓤 H A W E q0 𝓣 (Relend.asMut q0) G33 40 41 20 y15 y15 (λ x. x) (Scalar.oFld 19 ((Syntax.field 1) ∷ []) y0 8 λ v. Shared.lenV (v .0)) (Reads'.as-is 𝓤 H A (Relend.msptr q0 y15 20)) (Reads'.room-gone 𝓤 H A y16) (Relend.reads-owed-len 𝓤 H A W q0 y27 8 20 li7 8 Path'.refl, Path'.refl) Path'.refl Path'.refl λ b o k. tt) d66
 
-          d68 : Typed.Typed 𝓤 H A 𝓣 E G62 b36 Δ0 at68
-          d68 = Typed.g-pre 𝓤 H A W 𝓣 E G62 G63 b36 Δ0 (Typed.give s61) at67 (Know.g-sl-known 𝓤 H A W (Referent.fFloat Ieee.binary64) E G62 12 1 y18 li0 Ieee.nan (λ x. x) (Fits.nan-fits Ieee.binary64) (Reads'.as-is 𝓤 H A (Mut.mslice q1 y18 1)) Path'.refl tt) d67
+          d68 : Typed.Typed 𝓤 H A 𝓣 E G32 b39 Δ0 at68
+          d68 = Typed.s-seq 𝓤 H A W 𝓣 E G32 G33 b15 b38 Δ0 (Typed.give s31) at67 (Relend.t-sl-relend 𝓤 H A W E q0 𝓣 G32 19 40 8 20 y27 y15 li7 0 (λ x. x) (Reads'.as-is 𝓤 H A (Mut.mslice q0 y27 8)) (Reads'.room-gone 𝓤 H A y15) Path'.refl tt Path'.refl Path'.refl Path'.refl λ b o. tt) d67
 
-          d69 : Typed.Typed 𝓤 H A 𝓣 E G61 b36 Δ0 at69
-          d69 = Typed.g-pre 𝓤 H A W 𝓣 E G61 G62 b36 Δ0 (Typed.both s60) at68 (Relend.g-back-sl 𝓤 H A W E q1 G61 30 12 1 16 y18 y6 li0 (λ x. x) (λ x. x) (Reads'.as-is 𝓤 H A (Mut.msleft q1 y6)) (Reads'.as-is 𝓤 H A (Relend.mslice-owed q1 y18 1 16 li0)) Path'.refl Path'.refl) d68
+          d69 : Typed.Typed 𝓤 H A 𝓣 E G31 b39 Δ0 at69
+          d69 = Typed.g-pre 𝓤 H A W 𝓣 E G31 G32 b39 Δ0 (λ Ψ. Ψ) at68 (Lifetime.g-begin 𝓤 H A W E G31 20 (tt, (tt, (tt, (tt, (tt, (tt, (tt, (tt, (tt, (tt, (tt, (tt, ((tt, tt), ((tt, tt), ((tt, tt), ((tt, tt), ((tt, tt), ((tt, tt), ((tt, tt), (tt, (tt, (tt, (tt, (tt, (tt, (tt, (tt, (tt, (tt, (tt, (tt, (tt, (tt, (tt, (tt, (tt, (tt, (tt, (tt, (tt, (tt, (tt, (tt, (tt, (tt, (tt, (tt, (tt, (tt, tt)))))))))))))))))))))))))))))))))))))))))))))))))) d68
 
-          d70 : Typed.Typed 𝓤 H A 𝓣 E G60 b36 Δ0 at70
-          d70 = Typed.g-pre 𝓤 H A W 𝓣 E G60 G61 b36 Δ0 (λ Ψ. Ψ) at69 (Lifetime.g-end 𝓤 H A W E G60 16 Path'.refl) d69
+          d70 : Typed.Typed 𝓤 H A 𝓣 E G30 b40 Δ0 at70
+          d70 = Typed.s-seq 𝓤 H A W 𝓣 E G30 G31 b14 b39 Δ0 (Typed.ask s29) at69 (Relend.t-sl-aggregate 𝓤 H A W E q0 𝓣 (Relend.asMut q0) G30 38 39 19 y15 y15 (λ x. x) (Scalar.oFld 18 ((Syntax.field 1) ∷ []) y0 8 λ v. Shared.lenV (v .0)) (Reads'.as-is 𝓤 H A (Relend.msptr q0 y15 19)) (Reads'.room-gone 𝓤 H A y16) (Relend.reads-owed-len 𝓤 H A W q0 y26 7 19 li6 8 Path'.refl, Path'.refl) Path'.refl Path'.refl λ b o k. tt) d69
 
-          d71 : Typed.Typed 𝓤 H A 𝓣 E G59 b36 Δ0 at71
-          d71 = Typed.g-pre 𝓤 H A W 𝓣 E G59 G60 b36 Δ0 (Typed.pass T59 T60 s58) at70 (Scalar.g-room 𝓤 H A W E G59 27 y4 (Local.room-whole 𝓤 H A W q4 y4 Path'.refl)) d70
+          d71 : Typed.Typed 𝓤 H A 𝓣 E G29 b41 Δ0 at71
+          d71 = Typed.s-seq 𝓤 H A W 𝓣 E G29 G30 b13 b40 Δ0 (Typed.give s28) at70 (Relend.t-sl-relend 𝓤 H A W E q0 𝓣 G29 18 38 7 19 y26 y15 li6 0 (λ x. x) (Reads'.as-is 𝓤 H A (Mut.mslice q0 y26 7)) (Reads'.room-gone 𝓤 H A y15) Path'.refl tt Path'.refl Path'.refl Path'.refl λ b o. tt) d70
 
-          d72 : Typed.Typed 𝓤 H A 𝓣 E G58 b37 Δ0 at72
-          d72 = Typed.s-seq 𝓤 H A W 𝓣 E G58 G59 b29 b36 Δ0 (Typed.both s57) at71 (Plain.t-call-plain 𝓤 H A W 𝓣 15 ps·1 r·1 (claims· .2) (claims· .3) "longdust::filled_tables::process" (known .1) E (λ pos β. β) G58 (record { pos = 1; ty = y17; ref = λ x. x }, (record { pos = 27; st = List.[]; d = 0; at = λ x. x }, (record { pos = 30; ty = y6; ref = λ x. x }, (record { pos = 32; ty = y6; ref = λ x. x }, (record { pos = 34; ty = y8; ref = λ x. x }, (record { pos = 36; ty = y10; ref = λ x. x }, (record { pos = 38; ty = y10; ref = λ x. x }, (record { pos = 40; ty = y12; ref = λ x. x }, (record { pos = 42; ty = y15; ref = λ x. x }, (record { pos = 44; ty = y15; ref = λ x. x }, (record { pos = 46; ty = y8; ref = λ x. x }, (record { pos = 48; ty = y8; ref = λ x. x }, (record { pos = 50; ty = y8; ref = λ x. x }, (record { pos = 52; ty = y8; ref = λ x. x }, (record { pos = 54; ty = y8; ref = λ x. x }, (record { pos = 56; ty = y8; ref = λ x. x }, tt)))))))))))))))) 28 (0 ∷ 16 ∷ 17 ∷ 18 ∷ 19 ∷ 20 ∷ 21 ∷ 22 ∷ 23 ∷ 24 ∷ 25 ∷ 26 ∷ 27 ∷ 28 ∷ 29 ∷ []) (Call.sub-id 𝓤 H A W (G58 .slots)) (ShrSlice.spares-sslice 𝓤 H A W q0 y17 0, Shared.reads-sslice 𝓤 H A W q0 y17 0, Path'.refl, ((Yields.yields-copy 𝓤 H A W (λ ρ. Unit) q4 Path'.refl (Copies.cStruct LongdustOptions.the-type Laws'.the-laws Laws'.the-copy .copy 𝓤 H A W) (Rows.whole q4) (λ x. x) (λ x. x) (λ ρ told. Local.mem-whole 𝓤 H A W q4 ρ) λ ρ told. Local.whole-mem 𝓤 H A W q4 ρ, Path'.refl), (Reads'.as-is 𝓤 H A (Mut.mslice q1 y6 16), Mut.reads-mslice 𝓤 H A W q1 y6 16, Path'.refl, (Reads'.as-is 𝓤 H A (Mut.mslice q1 y6 17), Mut.reads-mslice 𝓤 H A W q1 y6 17, Path'.refl, (Reads'.as-is 𝓤 H A (Mut.mslice q2 y8 18), Mut.reads-mslice 𝓤 H A W q2 y8 18, Path'.refl, (Reads'.as-is 𝓤 H A (Mut.mslice q3 y10 19), Mut.reads-mslice 𝓤 H A W q3 y10 19, Path'.refl, (Reads'.as-is 𝓤 H A (Mut.mslice q3 y10 20), Mut.reads-mslice 𝓤 H A W q3 y10 20, Path'.refl, (Reads'.as-is 𝓤 H A (Mut.mslice Rec·type.the-row y12 21), Mut.reads-mslice 𝓤 H A W Rec·type.the-row y12 21, Path'.refl, (Reads'.as-is 𝓤 H A (Mut.mslice q0 y15 22), Mut.reads-mslice 𝓤 H A W q0 y15 22, Path'.refl, (Reads'.as-is 𝓤 H A (Mut.mslice q0 y15 23), Mut.reads-mslice 𝓤 H A W q0 y15 23, Path'.refl, (Reads'.as-is 𝓤 H A (Mut.mslice q2 y8 24), Mut.reads-mslice 𝓤 H A W q2 y8 24, Path'.refl, (Reads'.as-is 𝓤 H A (Mut.mslice q2 y8 25), Mut.reads-mslice 𝓤 H A W q2 y8 25, Path'.refl, (Reads'.as-is 𝓤 H A (Mut.mslice q2 y8 26), Mut.reads-mslice 𝓤 H A W q2 y8 26, Path'.refl, (Reads'.as-is 𝓤 H A (Mut.mslice q2 y8 27), Mut.reads-mslice 𝓤 H A W q2 y8 27, Path'.refl, (Reads'.as-is 𝓤 H A (Mut.mslice q2 y8 28), Mut.reads-mslice 𝓤 H A W q2 y8 28, Path'.refl, (Reads'.as-is 𝓤 H A (Mut.mslice q2 y8 29), Mut.reads-mslice 𝓤 H A W q2 y8 29, Path'.refl, tt)))))))))))))))) (Reads'.room-gone 𝓤 H A y5) (tt, (tt, (tt, (tt, (tt, (tt, (tt, (tt, (tt, (tt, (tt, (tt, (tt, (tt, (tt, tt))))))))))))))) Path'.refl) d71
+          d72 : Typed.Typed 𝓤 H A 𝓣 E G28 b41 Δ0 at72
+          d72 = Typed.g-pre 𝓤 H A W 𝓣 E G28 G29 b41 Δ0 (λ Ψ. Ψ) at71 (Lifetime.g-begin 𝓤 H A W E G28 19 (tt, (tt, (tt, (tt, (tt, (tt, (tt, (tt, (tt, (tt, (tt, (tt, ((tt, tt), ((tt, tt), ((tt, tt), ((tt, tt), ((tt, tt), ((tt, tt), (tt, (tt, (tt, (tt, (tt, (tt, (tt, (tt, (tt, (tt, (tt, (tt, (tt, (tt, (tt, (tt, (tt, (tt, (tt, (tt, (tt, (tt, (tt, (tt, (tt, (tt, (tt, (tt, (tt, (tt, (tt, tt)))))))))))))))))))))))))))))))))))))))))))))))))) d71
 
-          d73 : Typed.Typed 𝓤 H A 𝓣 E G57 b38 Δ0 at73
-          d73 = Typed.s-seq 𝓤 H A W 𝓣 E G57 G58 b28 b37 Δ0 (Typed.ask s56) at72 (Relend.t-sl-aggregate 𝓤 H A W E q2 𝓣 (Relend.asMut q2) G57 55 56 29 y8 y8 (λ x. x) (Scalar.oFld 25 ((Syntax.field 1) ∷ []) y0 8 λ v. Shared.lenV (v .0)) (Reads'.as-is 𝓤 H A (Relend.msptr q2 y8 29)) (Reads'.room-gone 𝓤 H A y9) (Relend.reads-owed-len 𝓤 H A W q2 y31 14 29 li13 8 Path'.refl, Path'.refl) Path'.refl Path'.refl λ b o k. tt) d72
+          d73 : Typed.Typed 𝓤 H A 𝓣 E G27 b42 Δ0 at73
+          d73 = Typed.s-seq 𝓤 H A W 𝓣 E G27 G28 b12 b41 Δ0 (Typed.ask s26) at72 (Relend.t-sl-aggregate 𝓤 H A W E Rec·type.the-row 𝓣 (Relend.asMut Rec·type.the-row) G27 36 37 18 y12 y12 (λ x. x) (Scalar.oFld 17 ((Syntax.field 1) ∷ []) y0 8 λ v. Shared.lenV (v .0)) (Reads'.as-is 𝓤 H A (Relend.msptr Rec·type.the-row y12 18)) (Reads'.room-gone 𝓤 H A y13) (Relend.reads-owed-len 𝓤 H A W Rec·type.the-row y25 6 18 li5 8 Path'.refl, Path'.refl) Path'.refl Path'.refl λ b o k. tt) d72
 
-          d74 : Typed.Typed 𝓤 H A 𝓣 E G56 b39 Δ0 at74
-          d74 = Typed.s-seq 𝓤 H A W 𝓣 E G56 G57 b27 b38 Δ0 (Typed.give s55) at73 (Relend.t-sl-relend 𝓤 H A W E q2 𝓣 G56 25 55 14 29 y31 y8 li13 0 (λ x. x) (Reads'.as-is 𝓤 H A (Mut.mslice q2 y31 14)) (Reads'.room-gone 𝓤 H A y8) Path'.refl tt Path'.refl Path'.refl Path'.refl λ b o. tt) d73
+          d74 : Typed.Typed 𝓤 H A 𝓣 E G26 b43 Δ0 at74
+          d74 = Typed.s-seq 𝓤 H A W 𝓣 E G26 G27 b11 b42 Δ0 (Typed.give s25) at73 (Relend.t-sl-relend 𝓤 H A W E Rec·type.the-row 𝓣 G26 17 36 6 18 y25 y12 li5 0 (λ x. x) (Reads'.as-is 𝓤 H A (Mut.mslice Rec·type.the-row y25 6)) (Reads'.room-gone 𝓤 H A y12) Path'.refl tt Path'.refl Path'.refl Path'.refl λ b o. tt) d73
 
-          d75 : Typed.Typed 𝓤 H A 𝓣 E G55 b39 Δ0 at75
-          d75 = Typed.g-pre 𝓤 H A W 𝓣 E G55 G56 b39 Δ0 (λ Ψ. Ψ) at74 (Lifetime.g-begin 𝓤 H A W E G55 29 (tt, (tt, (tt, (tt, (tt, (tt, (tt, (tt, (tt, (tt, (tt, (tt, ((tt, tt), ((tt, tt), ((tt, tt), ((tt, tt), ((tt, tt), ((tt, tt), ((tt, tt), ((tt, tt), ((tt, tt), ((tt, tt), ((tt, tt), ((tt, tt), ((tt, tt), (tt, (tt, (tt, (tt, (tt, (tt, (tt, (tt, (tt, (tt, (tt, (tt, (tt, (tt, (tt, (tt, (tt, (tt, (tt, (tt, (tt, (tt, (tt, (tt, (tt, (tt, (tt, (tt, (tt, (tt, (tt, (tt, (tt, tt))))))))))))))))))))))))))))))))))))))))))))))))))))))))))) d74
+          d75 : Typed.Typed 𝓤 H A 𝓣 E G25 b43 Δ0 at75
+          d75 = Typed.g-pre 𝓤 H A W 𝓣 E G25 G26 b43 Δ0 (λ Ψ. Ψ) at74 (Lifetime.g-begin 𝓤 H A W E G25 18 (tt, (tt, (tt, (tt, (tt, (tt, (tt, (tt, (tt, (tt, (tt, (tt, ((tt, tt), ((tt, tt), ((tt, tt), ((tt, tt), ((tt, tt), (tt, (tt, (tt, (tt, (tt, (tt, (tt, (tt, (tt, (tt, (tt, (tt, (tt, (tt, (tt, (tt, (tt, (tt, (tt, (tt, (tt, (tt, (tt, (tt, (tt, (tt, (tt, (tt, (tt, (tt, (tt, (tt, tt)))))))))))))))))))))))))))))))))))))))))))))))))) d74
 
-          d76 : Typed.Typed 𝓤 H A 𝓣 E G54 b40 Δ0 at76
-          d76 = Typed.s-seq 𝓤 H A W 𝓣 E G54 G55 b26 b39 Δ0 (Typed.ask s53) at75 (Relend.t-sl-aggregate 𝓤 H A W E q2 𝓣 (Relend.asMut q2) G54 53 54 28 y8 y8 (λ x. x) (Scalar.oFld 24 ((Syntax.field 1) ∷ []) y0 8 λ v. Shared.lenV (v .0)) (Reads'.as-is 𝓤 H A (Relend.msptr q2 y8 28)) (Reads'.room-gone 𝓤 H A y9) (Relend.reads-owed-len 𝓤 H A W q2 y30 13 28 li12 8 Path'.refl, Path'.refl) Path'.refl Path'.refl λ b o k. tt) d75
+          d76 : Typed.Typed 𝓤 H A 𝓣 E G24 b44 Δ0 at76
+          d76 = Typed.s-seq 𝓤 H A W 𝓣 E G24 G25 b10 b43 Δ0 (Typed.ask s23) at75 (Relend.t-sl-aggregate 𝓤 H A W E q3 𝓣 (Relend.asMut q3) G24 34 35 17 y10 y10 (λ x. x) (Scalar.oFld 16 ((Syntax.field 1) ∷ []) y0 8 λ v. Shared.lenV (v .0)) (Reads'.as-is 𝓤 H A (Relend.msptr q3 y10 17)) (Reads'.room-gone 𝓤 H A y11) (Relend.reads-owed-len 𝓤 H A W q3 y24 5 17 li4 8 Path'.refl, Path'.refl) Path'.refl Path'.refl λ b o k. tt) d75
 
-          d77 : Typed.Typed 𝓤 H A 𝓣 E G53 b41 Δ0 at77
-          d77 = Typed.s-seq 𝓤 H A W 𝓣 E G53 G54 b25 b40 Δ0 (Typed.give s52) at76 (Relend.t-sl-relend 𝓤 H A W E q2 𝓣 G53 24 53 13 28 y30 y8 li12 0 (λ x. x) (Reads'.as-is 𝓤 H A (Mut.mslice q2 y30 13)) (Reads'.room-gone 𝓤 H A y8) Path'.refl tt Path'.refl Path'.refl Path'.refl λ b o. tt) d76
+          d77 : Typed.Typed 𝓤 H A 𝓣 E G23 b45 Δ0 at77
+          d77 = Typed.s-seq 𝓤 H A W 𝓣 E G23 G24 b9 b44 Δ0 (Typed.give s22) at76 (Relend.t-sl-relend 𝓤 H A W E q3 𝓣 G23 16 34 5 17 y24 y10 li4 0 (λ x. x) (Reads'.as-is 𝓤 H A (Mut.mslice q3 y24 5)) (Reads'.room-gone 𝓤 H A y10) Path'.refl tt Path'.refl Path'.refl Path'.refl λ b o. tt) d76
 
-          d78 : Typed.Typed 𝓤 H A 𝓣 E G52 b41 Δ0 at78
-          d78 = Typed.g-pre 𝓤 H A W 𝓣 E G52 G53 b41 Δ0 (λ Ψ. Ψ) at77 (Lifetime.g-begin 𝓤 H A W E G52 28 (tt, (tt, (tt, (tt, (tt, (tt, (tt, (tt, (tt, (tt, (tt, (tt, ((tt, tt), ((tt, tt), ((tt, tt), ((tt, tt), ((tt, tt), ((tt, tt), ((tt, tt), ((tt, tt), ((tt, tt), ((tt, tt), ((tt, tt), ((tt, tt), (tt, (tt, (tt, (tt, (tt, (tt, (tt, (tt, (tt, (tt, (tt, (tt, (tt, (tt, (tt, (tt, (tt, (tt, (tt, (tt, (tt, (tt, (tt, (tt, (tt, (tt, (tt, (tt, (tt, (tt, (tt, (tt, (tt, (tt, tt))))))))))))))))))))))))))))))))))))))))))))))))))))))))))) d77
+          d78 : Typed.Typed 𝓤 H A 𝓣 E G22 b45 Δ0 at78
+          d78 = Typed.g-pre 𝓤 H A W 𝓣 E G22 G23 b45 Δ0 (λ Ψ. Ψ) at77 (Lifetime.g-begin 𝓤 H A W E G22 17 (tt, (tt, (tt, (tt, (tt, (tt, (tt, (tt, (tt, (tt, (tt, (tt, ((tt, tt), ((tt, tt), ((tt, tt), ((tt, tt), (tt, (tt, (tt, (tt, (tt, (tt, (tt, (tt, (tt, (tt, (tt, (tt, (tt, (tt, (tt, (tt, (tt, (tt, (tt, (tt, (tt, (tt, (tt, (tt, (tt, (tt, (tt, (tt, (tt, (tt, (tt, (tt, (tt, tt)))))))))))))))))))))))))))))))))))))))))))))))))) d77
 
-          d79 : Typed.Typed 𝓤 H A 𝓣 E G51 b42 Δ0 at79
-          d79 = Typed.s-seq 𝓤 H A W 𝓣 E G51 G52 b24 b41 Δ0 (Typed.ask s50) at78 (Relend.t-sl-aggregate 𝓤 H A W E q2 𝓣 (Relend.asMut q2) G51 51 52 27 y8 y8 (λ x. x) (Scalar.oFld 23 ((Syntax.field 1) ∷ []) y0 8 λ v. Shared.lenV (v .0)) (Reads'.as-is 𝓤 H A (Relend.msptr q2 y8 27)) (Reads'.room-gone 𝓤 H A y9) (Relend.reads-owed-len 𝓤 H A W q2 y29 12 27 li11 8 Path'.refl, Path'.refl) Path'.refl Path'.refl λ b o k. tt) d78
+          d79 : Typed.Typed 𝓤 H A 𝓣 E G21 b46 Δ0 at79
+          d79 = Typed.s-seq 𝓤 H A W 𝓣 E G21 G22 b8 b45 Δ0 (Typed.ask s20) at78 (Relend.t-sl-aggregate 𝓤 H A W E q3 𝓣 (Relend.asMut q3) G21 32 33 16 y10 y10 (λ x. x) (Scalar.oFld 15 ((Syntax.field 1) ∷ []) y0 8 λ v. Shared.lenV (v .0)) (Reads'.as-is 𝓤 H A (Relend.msptr q3 y10 16)) (Reads'.room-gone 𝓤 H A y11) (Relend.reads-owed-len 𝓤 H A W q3 y23 4 16 li3 8 Path'.refl, Path'.refl) Path'.refl Path'.refl λ b o k. tt) d78
 
-          d80 : Typed.Typed 𝓤 H A 𝓣 E G50 b43 Δ0 at80
-          d80 = Typed.s-seq 𝓤 H A W 𝓣 E G50 G51 b23 b42 Δ0 (Typed.give s49) at79 (Relend.t-sl-relend 𝓤 H A W E q2 𝓣 G50 23 51 12 27 y29 y8 li11 0 (λ x. x) (Reads'.as-is 𝓤 H A (Mut.mslice q2 y29 12)) (Reads'.room-gone 𝓤 H A y8) Path'.refl tt Path'.refl Path'.refl Path'.refl λ b o. tt) d79
+          d80 : Typed.Typed 𝓤 H A 𝓣 E G20 b47 Δ0 at80
+          d80 = Typed.s-seq 𝓤 H A W 𝓣 E G20 G21 b7 b46 Δ0 (Typed.give s19) at79 (Relend.t-sl-relend 𝓤 H A W E q3 𝓣 G20 15 32 4 16 y23 y10 li3 0 (λ x. x) (Reads'.as-is 𝓤 H A (Mut.mslice q3 y23 4)) (Reads'.room-gone 𝓤 H A y10) Path'.refl tt Path'.refl Path'.refl Path'.refl λ b o. tt) d79
 
-          d81 : Typed.Typed 𝓤 H A 𝓣 E G49 b43 Δ0 at81
-          d81 = Typed.g-pre 𝓤 H A W 𝓣 E G49 G50 b43 Δ0 (λ Ψ. Ψ) at80 (Lifetime.g-begin 𝓤 H A W E G49 27 (tt, (tt, (tt, (tt, (tt, (tt, (tt, (tt, (tt, (tt, (tt, (tt, ((tt, tt), ((tt, tt), ((tt, tt), ((tt, tt), ((tt, tt), ((tt, tt), ((tt, tt), ((tt, tt), ((tt, tt), ((tt, tt), ((tt, tt), (tt, (tt, (tt, (tt, (tt, (tt, (tt, (tt, (tt, (tt, (tt, (tt, (tt, (tt, (tt, (tt, (tt, (tt, (tt, (tt, (tt, (tt, (tt, (tt, (tt, (tt, (tt, (tt, (tt, (tt, (tt, (tt, (tt, (tt, (tt, tt))))))))))))))))))))))))))))))))))))))))))))))))))))))))))) d80
+          d81 : Typed.Typed 𝓤 H A 𝓣 E G19 b47 Δ0 at81
+          d81 = Typed.g-pre 𝓤 H A W 𝓣 E G19 G20 b47 Δ0 (λ Ψ. Ψ) at80 (Lifetime.g-begin 𝓤 H A W E G19 16 (tt, (tt, (tt, (tt, (tt, (tt, (tt, (tt, (tt, (tt, (tt, (tt, ((tt, tt), ((tt, tt), ((tt, tt), (tt, (tt, (tt, (tt, (tt, (tt, (tt, (tt, (tt, (tt, (tt, (tt, (tt, (tt, (tt, (tt, (tt, (tt, (tt, (tt, (tt, (tt, (tt, (tt, (tt, (tt, (tt, (tt, (tt, (tt, (tt, (tt, (tt, (tt, tt)))))))))))))))))))))))))))))))))))))))))))))))))) d80
 
-          d82 : Typed.Typed 𝓤 H A 𝓣 E G48 b44 Δ0 at82
-          d82 = Typed.s-seq 𝓤 H A W 𝓣 E G48 G49 b22 b43 Δ0 (Typed.ask s47) at81 (Relend.t-sl-aggregate 𝓤 H A W E q2 𝓣 (Relend.asMut q2) G48 49 50 26 y8 y8 (λ x. x) (Scalar.oFld 22 ((Syntax.field 1) ∷ []) y0 8 λ v. Shared.lenV (v .0)) (Reads'.as-is 𝓤 H A (Relend.msptr q2 y8 26)) (Reads'.room-gone 𝓤 H A y9) (Relend.reads-owed-len 𝓤 H A W q2 y28 11 26 li10 8 Path'.refl, Path'.refl) Path'.refl Path'.refl λ b o k. tt) d81
+          d82 : Typed.Typed 𝓤 H A 𝓣 E G18 b48 Δ0 at82
+          d82 = Typed.s-seq 𝓤 H A W 𝓣 E G18 G19 b6 b47 Δ0 (Typed.ask s17) at81 (Relend.t-sl-aggregate 𝓤 H A W E q2 𝓣 (Relend.asMut q2) G18 30 31 15 y8 y8 (λ x. x) (Scalar.oFld 14 ((Syntax.field 1) ∷ []) y0 8 λ v. Shared.lenV (v .0)) (Reads'.as-is 𝓤 H A (Relend.msptr q2 y8 15)) (Reads'.room-gone 𝓤 H A y9) (Relend.reads-owed-len 𝓤 H A W q2 y22 3 15 li2 8 Path'.refl, Path'.refl) Path'.refl Path'.refl λ b o k. tt) d81
 
-          d83 : Typed.Typed 𝓤 H A 𝓣 E G47 b45 Δ0 at83
-          d83 = Typed.s-seq 𝓤 H A W 𝓣 E G47 G48 b21 b44 Δ0 (Typed.give s46) at82 (Relend.t-sl-relend 𝓤 H A W E q2 𝓣 G47 22 49 11 26 y28 y8 li10 0 (λ x. x) (Reads'.as-is 𝓤 H A (Mut.mslice q2 y28 11)) (Reads'.room-gone 𝓤 H A y8) Path'.refl tt Path'.refl Path'.refl Path'.refl λ b o. tt) d82
+          d83 : Typed.Typed 𝓤 H A 𝓣 E G17 b49 Δ0 at83
+          d83 = Typed.s-seq 𝓤 H A W 𝓣 E G17 G18 b5 b48 Δ0 (Typed.give s16) at82 (Relend.t-sl-relend 𝓤 H A W E q2 𝓣 G17 14 30 3 15 y22 y8 li2 0 (λ x. x) (Reads'.as-is 𝓤 H A (Mut.mslice q2 y22 3)) (Reads'.room-gone 𝓤 H A y8) Path'.refl tt Path'.refl Path'.refl Path'.refl λ b o. tt) d82
 
-          d84 : Typed.Typed 𝓤 H A 𝓣 E G46 b45 Δ0 at84
-          d84 = Typed.g-pre 𝓤 H A W 𝓣 E G46 G47 b45 Δ0 (λ Ψ. Ψ) at83 (Lifetime.g-begin 𝓤 H A W E G46 26 (tt, (tt, (tt, (tt, (tt, (tt, (tt, (tt, (tt, (tt, (tt, (tt, ((tt, tt), ((tt, tt), ((tt, tt), ((tt, tt), ((tt, tt), ((tt, tt), ((tt, tt), ((tt, tt), ((tt, tt), ((tt, tt), (tt, (tt, (tt, (tt, (tt, (tt, (tt, (tt, (tt, (tt, (tt, (tt, (tt, (tt, (tt, (tt, (tt, (tt, (tt, (tt, (tt, (tt, (tt, (tt, (tt, (tt, (tt, (tt, (tt, (tt, (tt, (tt, (tt, (tt, (tt, (tt, tt))))))))))))))))))))))))))))))))))))))))))))))))))))))))))) d83
+          d84 : Typed.Typed 𝓤 H A 𝓣 E G16 b49 Δ0 at84
+          d84 = Typed.g-pre 𝓤 H A W 𝓣 E G16 G17 b49 Δ0 (λ Ψ. Ψ) at83 (Lifetime.g-begin 𝓤 H A W E G16 15 (tt, (tt, (tt, (tt, (tt, (tt, (tt, (tt, (tt, (tt, (tt, (tt, ((tt, tt), ((tt, tt), (tt, (tt, (tt, (tt, (tt, (tt, (tt, (tt, (tt, (tt, (tt, (tt, (tt, (tt, (tt, (tt, (tt, (tt, (tt, (tt, (tt, (tt, (tt, (tt, (tt, (tt, (tt, (tt, (tt, (tt, (tt, (tt, (tt, (tt, (tt, tt)))))))))))))))))))))))))))))))))))))))))))))))))) d83
 
-          d85 : Typed.Typed 𝓤 H A 𝓣 E G45 b46 Δ0 at85
-          d85 = Typed.s-seq 𝓤 H A W 𝓣 E G45 G46 b20 b45 Δ0 (Typed.ask s44) at84 (Relend.t-sl-aggregate 𝓤 H A W E q2 𝓣 (Relend.asMut q2) G45 47 48 25 y8 y8 (λ x. x) (Scalar.oFld 21 ((Syntax.field 1) ∷ []) y0 8 λ v. Shared.lenV (v .0)) (Reads'.as-is 𝓤 H A (Relend.msptr q2 y8 25)) (Reads'.room-gone 𝓤 H A y9) (Relend.reads-owed-len 𝓤 H A W q2 y27 10 25 li9 8 Path'.refl, Path'.refl) Path'.refl Path'.refl λ b o k. tt) d84
+          d85 : Typed.Typed 𝓤 H A 𝓣 E G15 b50 Δ0 at85
+          d85 = Typed.s-seq 𝓤 H A W 𝓣 E G15 G16 b4 b49 Δ0 (Typed.ask s14) at84 (Relend.t-sl-aggregate 𝓤 H A W E q1 𝓣 (Relend.asMut q1) G15 28 29 14 y6 y6 (λ x. x) (Scalar.oFld 13 ((Syntax.field 1) ∷ []) y0 8 λ v. Shared.lenV (v .0)) (Reads'.as-is 𝓤 H A (Relend.msptr q1 y6 14)) (Reads'.room-gone 𝓤 H A y7) (Relend.reads-owed-len 𝓤 H A W q1 y21 2 14 li1 8 Path'.refl, Path'.refl) Path'.refl Path'.refl λ b o k. tt) d84
 
-          d86 : Typed.Typed 𝓤 H A 𝓣 E G44 b47 Δ0 at86
-          d86 = Typed.s-seq 𝓤 H A W 𝓣 E G44 G45 b19 b46 Δ0 (Typed.give s43) at85 (Relend.t-sl-relend 𝓤 H A W E q2 𝓣 G44 21 47 10 25 y27 y8 li9 0 (λ x. x) (Reads'.as-is 𝓤 H A (Mut.mslice q2 y27 10)) (Reads'.room-gone 𝓤 H A y8) Path'.refl tt Path'.refl Path'.refl Path'.refl λ b o. tt) d85
+          d86 : Typed.Typed 𝓤 H A 𝓣 E G14 b51 Δ0 at86
+          d86 = Typed.s-seq 𝓤 H A W 𝓣 E G14 G15 b3 b50 Δ0 (Typed.give s13) at85 (Relend.t-sl-relend 𝓤 H A W E q1 𝓣 G14 13 28 2 14 y21 y6 li1 0 (λ x. x) (Reads'.as-is 𝓤 H A (Mut.mslice q1 y21 2)) (Reads'.room-gone 𝓤 H A y6) Path'.refl tt Path'.refl Path'.refl Path'.refl λ b o. tt) d85
 
-          d87 : Typed.Typed 𝓤 H A 𝓣 E G43 b47 Δ0 at87
-          d87 = Typed.g-pre 𝓤 H A W 𝓣 E G43 G44 b47 Δ0 (λ Ψ. Ψ) at86 (Lifetime.g-begin 𝓤 H A W E G43 25 (tt, (tt, (tt, (tt, (tt, (tt, (tt, (tt, (tt, (tt, (tt, (tt, ((tt, tt), ((tt, tt), ((tt, tt), ((tt, tt), ((tt, tt), ((tt, tt), ((tt, tt), ((tt, tt), ((tt, tt), (tt, (tt, (tt, (tt, (tt, (tt, (tt, (tt, (tt, (tt, (tt, (tt, (tt, (tt, (tt, (tt, (tt, (tt, (tt, (tt, (tt, (tt, (tt, (tt, (tt, (tt, (tt, (tt, (tt, (tt, (tt, (tt, (tt, (tt, (tt, (tt, (tt, tt))))))))))))))))))))))))))))))))))))))))))))))))))))))))))) d86
+          d87 : Typed.Typed 𝓤 H A 𝓣 E G13 b51 Δ0 at87
+          d87 = Typed.g-pre 𝓤 H A W 𝓣 E G13 G14 b51 Δ0 (λ Ψ. Ψ) at86 (Lifetime.g-begin 𝓤 H A W E G13 14 (tt, (tt, (tt, (tt, (tt, (tt, (tt, (tt, (tt, (tt, (tt, (tt, ((tt, tt), (tt, (tt, (tt, (tt, (tt, (tt, (tt, (tt, (tt, (tt, (tt, (tt, (tt, (tt, (tt, (tt, (tt, (tt, (tt, (tt, (tt, (tt, (tt, (tt, (tt, (tt, (tt, (tt, (tt, (tt, (tt, (tt, (tt, (tt, (tt, (tt, tt)))))))))))))))))))))))))))))))))))))))))))))))))) d86
 
-          d88 : Typed.Typed 𝓤 H A 𝓣 E G42 b48 Δ0 at88
-          d88 = Typed.s-seq 𝓤 H A W 𝓣 E G42 G43 b18 b47 Δ0 (Typed.ask s41) at87 (Relend.t-sl-aggregate 𝓤 H A W E q2 𝓣 (Relend.asMut q2) G42 45 46 24 y8 y8 (λ x. x) (Scalar.oFld 20 ((Syntax.field 1) ∷ []) y0 8 λ v. Shared.lenV (v .0)) (Reads'.as-is 𝓤 H A (Relend.msptr q2 y8 24)) (Reads'.room-gone 𝓤 H A y9) (Relend.reads-owed-len 𝓤 H A W q2 y26 9 24 li8 8 Path'.refl, Path'.refl) Path'.refl Path'.refl λ b o k. tt) d87
+          d88 : Typed.Typed 𝓤 H A 𝓣 E G12 b52 Δ0 at88
+          d88 = Typed.s-seq 𝓤 H A W 𝓣 E G12 G13 b2 b51 Δ0 (Typed.ask s11) at87 (Relend.t-sl-aggregate 𝓤 H A W E q1 𝓣 (Relend.asMut q1) G12 26 27 13 y6 y6 (λ x. x) (Scalar.oFld 12 ((Syntax.field 1) ∷ []) y0 8 λ v. Shared.lenV (v .0)) (Reads'.as-is 𝓤 H A (Relend.msptr q1 y6 13)) (Reads'.room-gone 𝓤 H A y7) (Relend.reads-owed-len 𝓤 H A W q1 y20 1 13 li0 8 Path'.refl, Path'.refl) Path'.refl Path'.refl λ b o k. tt) d87
 
-          d89 : Typed.Typed 𝓤 H A 𝓣 E G41 b49 Δ0 at89
-          d89 = Typed.s-seq 𝓤 H A W 𝓣 E G41 G42 b17 b48 Δ0 (Typed.give s40) at88 (Relend.t-sl-relend 𝓤 H A W E q2 𝓣 G41 20 45 9 24 y26 y8 li8 0 (λ x. x) (Reads'.as-is 𝓤 H A (Mut.mslice q2 y26 9)) (Reads'.room-gone 𝓤 H A y8) Path'.refl tt Path'.refl Path'.refl Path'.refl λ b o. tt) d88
+          d89 : Typed.Typed 𝓤 H A 𝓣 E G11 b53 Δ0 at89
+          d89 = Typed.s-seq 𝓤 H A W 𝓣 E G11 G12 b1 b52 Δ0 (Typed.give s10) at88 (Relend.t-sl-relend 𝓤 H A W E q1 𝓣 G11 12 26 1 13 y20 y6 li0 0 (λ x. x) (Reads'.as-is 𝓤 H A (Mut.mslice q1 y20 1)) (Reads'.room-gone 𝓤 H A y6) Path'.refl tt Path'.refl Path'.refl Path'.refl λ b o. tt) d88
 
-          d90 : Typed.Typed 𝓤 H A 𝓣 E G40 b49 Δ0 at90
-          d90 = Typed.g-pre 𝓤 H A W 𝓣 E G40 G41 b49 Δ0 (λ Ψ. Ψ) at89 (Lifetime.g-begin 𝓤 H A W E G40 24 (tt, (tt, (tt, (tt, (tt, (tt, (tt, (tt, (tt, (tt, (tt, (tt, ((tt, tt), ((tt, tt), ((tt, tt), ((tt, tt), ((tt, tt), ((tt, tt), ((tt, tt), ((tt, tt), (tt, (tt, (tt, (tt, (tt, (tt, (tt, (tt, (tt, (tt, (tt, (tt, (tt, (tt, (tt, (tt, (tt, (tt, (tt, (tt, (tt, (tt, (tt, (tt, (tt, (tt, (tt, (tt, (tt, (tt, (tt, (tt, (tt, (tt, (tt, (tt, (tt, (tt, tt))))))))))))))))))))))))))))))))))))))))))))))))))))))))))) d89
+          d90 : Typed.Typed 𝓤 H A 𝓣 E G10 b53 Δ0 at90
+          d90 = Typed.g-pre 𝓤 H A W 𝓣 E G10 G11 b53 Δ0 (λ Ψ. Ψ) at89 (Lifetime.g-begin 𝓤 H A W E G10 13 (tt, (tt, (tt, (tt, (tt, (tt, (tt, (tt, (tt, (tt, (tt, (tt, (tt, (tt, (tt, (tt, (tt, (tt, (tt, (tt, (tt, (tt, (tt, (tt, (tt, (tt, (tt, (tt, (tt, (tt, (tt, (tt, (tt, (tt, (tt, (tt, (tt, (tt, (tt, (tt, (tt, (tt, (tt, (tt, (tt, (tt, (tt, (tt, (tt, tt)))))))))))))))))))))))))))))))))))))))))))))))))) d89
 
-          d91 : Typed.Typed 𝓤 H A 𝓣 E G39 b50 Δ0 at91
-          d91 = Typed.s-seq 𝓤 H A W 𝓣 E G39 G40 b16 b49 Δ0 (Typed.ask s38) at90 (Relend.t-sl-aggregate 𝓤 H A W E q0 𝓣 (Relend.asMut q0) G39 43 44 23 y15 y15 (λ x. x) (Scalar.oFld 19 ((Syntax.field 1) ∷ []) y0 8 λ v. Shared.lenV (v .0)) (Reads'.as-is 𝓤 H A (Relend.msptr q0 y15 23)) (Reads'.room-gone 𝓤 H A y16) (Relend.reads-owed-len 𝓤 H A W q0 y25 8 23 li7 8 Path'.refl, Path'.refl) Path'.refl Path'.refl λ b o k. tt) d90
+          d91 : Typed.Typed 𝓤 H A 𝓣 E G9 b54 Δ0 at91
+          d91 = Typed.s-seq 𝓤 H A W 𝓣 E G9 G10 b0 b53 Δ0 (Typed.both s8) at90 (Plain.t-call-plain 𝓤 H A W 𝓣 0 ps·0 r·0 (claims· .0) (claims· .1) "longdust_c::options_of" (known .0) E (λ pos β. β) G9 (Num.vAt 2 λ x. x, (Num.vAt 3 λ x. x, (Float.fAt 4 λ x. x, (Num.vAt 5 λ x. x, (Float.fAt 6 λ x. x, (Num.vAt 7 λ x. x, (Num.vAt 8 λ x. x, (Num.vAt 9 λ x. x, (Num.vAt 10 λ x. x, (Num.vAt 11 λ x. x, tt)))))))))) 24 List.[] (Call.sub-id 𝓤 H A W (G9 .slots)) ((Scalar.reads-sc 𝓤 H A W z0, Path'.refl), ((Scalar.reads-sc 𝓤 H A W z0, Path'.refl), ((Scalar.reads-sc 𝓤 H A W (Row.sFloat Ieee.binary64), Path'.refl), ((Scalar.reads-sc 𝓤 H A W z1, Path'.refl), ((Scalar.reads-sc 𝓤 H A W (Row.sFloat Ieee.binary64), Path'.refl), ((Scalar.reads-sc 𝓤 H A W z1, Path'.refl), ((Scalar.reads-sc 𝓤 H A W z1, Path'.refl), ((Scalar.reads-sc 𝓤 H A W z2, Path'.refl), ((Scalar.reads-sc 𝓤 H A W z1, Path'.refl), ((Scalar.reads-sc 𝓤 H A W z1, Path'.refl), tt)))))))))) (Reads'.room-gone 𝓤 H A y4) tt Path'.refl) d90
 
-          d92 : Typed.Typed 𝓤 H A 𝓣 E G38 b51 Δ0 at92
-          d92 = Typed.s-seq 𝓤 H A W 𝓣 E G38 G39 b15 b50 Δ0 (Typed.give s37) at91 (Relend.t-sl-relend 𝓤 H A W E q0 𝓣 G38 19 43 8 23 y25 y15 li7 0 (λ x. x) (Reads'.as-is 𝓤 H A (Mut.mslice q0 y25 8)) (Reads'.room-gone 𝓤 H A y15) Path'.refl tt Path'.refl Path'.refl Path'.refl λ b o. tt) d91
+          d92 : Typed.Typed 𝓤 H A 𝓣 E G8 b54 Δ0 at92
+          d92 = Typed.g-pre 𝓤 H A W 𝓣 E G8 G9 b54 Δ0 (Typed.give s7) at91 (Know.g-sl-known 𝓤 H A W (Referent.fInt Syntax.w8) E G8 19 8 y27 li7 0 (λ x. x) record { fits = Dec'.lit< tt } (Reads'.as-is 𝓤 H A (Mut.mslice q0 y27 8)) Path'.refl tt) d91
 
-          d93 : Typed.Typed 𝓤 H A 𝓣 E G37 b51 Δ0 at93
-          d93 = Typed.g-pre 𝓤 H A W 𝓣 E G37 G38 b51 Δ0 (λ Ψ. Ψ) at92 (Lifetime.g-begin 𝓤 H A W E G37 23 (tt, (tt, (tt, (tt, (tt, (tt, (tt, (tt, (tt, (tt, (tt, (tt, ((tt, tt), ((tt, tt), ((tt, tt), ((tt, tt), ((tt, tt), ((tt, tt), ((tt, tt), (tt, (tt, (tt, (tt, (tt, (tt, (tt, (tt, (tt, (tt, (tt, (tt, (tt, (tt, (tt, (tt, (tt, (tt, (tt, (tt, (tt, (tt, (tt, (tt, (tt, (tt, (tt, (tt, (tt, (tt, (tt, (tt, (tt, (tt, (tt, (tt, (tt, (tt, (tt, tt))))))))))))))))))))))))))))))))))))))))))))))))))))))))))) d92
+          d93 : Typed.Typed 𝓤 H A 𝓣 E G7 b54 Δ0 at93
+          d93 = Typed.g-pre 𝓤 H A W 𝓣 E G7 G8 b54 Δ0 (Typed.give s6) at92 (Know.g-sl-known 𝓤 H A W (Referent.fInt Syntax.w8) E G7 18 7 y26 li6 0 (λ x. x) record { fits = Dec'.lit< tt } (Reads'.as-is 𝓤 H A (Mut.mslice q0 y26 7)) Path'.refl tt) d92
 
-          d94 : Typed.Typed 𝓤 H A 𝓣 E G36 b52 Δ0 at94
-          d94 = Typed.s-seq 𝓤 H A W 𝓣 E G36 G37 b14 b51 Δ0 (Typed.ask s35) at93 (Relend.t-sl-aggregate 𝓤 H A W E q0 𝓣 (Relend.asMut q0) G36 41 42 22 y15 y15 (λ x. x) (Scalar.oFld 18 ((Syntax.field 1) ∷ []) y0 8 λ v. Shared.lenV (v .0)) (Reads'.as-is 𝓤 H A (Relend.msptr q0 y15 22)) (Reads'.room-gone 𝓤 H A y16) (Relend.reads-owed-len 𝓤 H A W q0 y24 7 22 li6 8 Path'.refl, Path'.refl) Path'.refl Path'.refl λ b o k. tt) d93
+          d94 : Typed.Typed 𝓤 H A 𝓣 E G6 b54 Δ0 at94
+          d94 = Typed.g-pre 𝓤 H A W 𝓣 E G6 G7 b54 Δ0 (Typed.give s5) at93 (Know.g-sl-known 𝓤 H A W (Referent.fInt Syntax.w16) E G6 16 5 y24 li4 0 (λ x. x) record { fits = Dec'.lit< tt } (Reads'.as-is 𝓤 H A (Mut.mslice q3 y24 5)) Path'.refl tt) d93
 
-          d95 : Typed.Typed 𝓤 H A 𝓣 E G35 b53 Δ0 at95
-          d95 = Typed.s-seq 𝓤 H A W 𝓣 E G35 G36 b13 b52 Δ0 (Typed.give s34) at94 (Relend.t-sl-relend 𝓤 H A W E q0 𝓣 G35 18 41 7 22 y24 y15 li6 0 (λ x. x) (Reads'.as-is 𝓤 H A (Mut.mslice q0 y24 7)) (Reads'.room-gone 𝓤 H A y15) Path'.refl tt Path'.refl Path'.refl Path'.refl λ b o. tt) d94
+          d95 : Typed.Typed 𝓤 H A 𝓣 E G5 b54 Δ0 at95
+          d95 = Typed.g-pre 𝓤 H A W 𝓣 E G5 G6 b54 Δ0 (Typed.give s4) at94 (Know.g-sl-known 𝓤 H A W (Referent.fInt Syntax.w16) E G5 15 4 y23 li3 0 (λ x. x) record { fits = Dec'.lit< tt } (Reads'.as-is 𝓤 H A (Mut.mslice q3 y23 4)) Path'.refl tt) d94
 
-          d96 : Typed.Typed 𝓤 H A 𝓣 E G34 b53 Δ0 at96
-          d96 = Typed.g-pre 𝓤 H A W 𝓣 E G34 G35 b53 Δ0 (λ Ψ. Ψ) at95 (Lifetime.g-begin 𝓤 H A W E G34 22 (tt, (tt, (tt, (tt, (tt, (tt, (tt, (tt, (tt, (tt, (tt, (tt, ((tt, tt), ((tt, tt), ((tt, tt), ((tt, tt), ((tt, tt), ((tt, tt), (tt, (tt, (tt, (tt, (tt, (tt, (tt, (tt, (tt, (tt, (tt, (tt, (tt, (tt, (tt, (tt, (tt, (tt, (tt, (tt, (tt, (tt, (tt, (tt, (tt, (tt, (tt, (tt, (tt, (tt, (tt, (tt, (tt, (tt, (tt, (tt, (tt, (tt, (tt, (tt, tt))))))))))))))))))))))))))))))))))))))))))))))))))))))))))) d95
+          d96 : Typed.Typed 𝓤 H A 𝓣 E G4 b54 Δ0 at96
+          d96 = Typed.g-pre 𝓤 H A W 𝓣 E G4 G5 b54 Δ0 (Typed.give s3) at95 (Know.g-sl-known 𝓤 H A W (Referent.fInt Syntax.w32) E G4 14 3 y22 li2 0 (λ x. x) record { fits = Dec'.lit< tt } (Reads'.as-is 𝓤 H A (Mut.mslice q2 y22 3)) Path'.refl tt) d95
 
-          d97 : Typed.Typed 𝓤 H A 𝓣 E G33 b54 Δ0 at97
-          d97 = Typed.s-seq 𝓤 H A W 𝓣 E G33 G34 b12 b53 Δ0 (Typed.ask s32) at96 (Relend.t-sl-aggregate 𝓤 H A W E Rec·type.the-row 𝓣 (Relend.asMut Rec·type.the-row) G33 39 40 21 y12 y12 (λ x. x) (Scalar.oFld 17 ((Syntax.field 1) ∷ []) y0 8 λ v. Shared.lenV (v .0)) (Reads'.as-is 𝓤 H A (Relend.msptr Rec·type.the-row y12 21)) (Reads'.room-gone 𝓤 H A y13) (Relend.reads-owed-len 𝓤 H A W Rec·type.the-row y23 6 21 li5 8 Path'.refl, Path'.refl) Path'.refl Path'.refl λ b o k. tt) d96
+          d97 : Typed.Typed 𝓤 H A 𝓣 E G3 b54 Δ0 at97
+          d97 = Typed.g-pre 𝓤 H A W 𝓣 E G3 G4 b54 Δ0 (Typed.give s2) at96 (Know.g-sl-known 𝓤 H A W (Referent.fFloat Ieee.binary64) E G3 13 2 y21 li1 Ieee.nan (λ x. x) (Fits.nan-fits Ieee.binary64) (Reads'.as-is 𝓤 H A (Mut.mslice q1 y21 2)) Path'.refl tt) d96
 
-          d98 : Typed.Typed 𝓤 H A 𝓣 E G32 b55 Δ0 at98
-          d98 = Typed.s-seq 𝓤 H A W 𝓣 E G32 G33 b11 b54 Δ0 (Typed.give s31) at97 (Relend.t-sl-relend 𝓤 H A W E Rec·type.the-row 𝓣 G32 17 39 6 21 y23 y12 li5 0 (λ x. x) (Reads'.as-is 𝓤 H A (Mut.mslice Rec·type.the-row y23 6)) (Reads'.room-gone 𝓤 H A y12) Path'.refl tt Path'.refl Path'.refl Path'.refl λ b o. tt) d97
+          d98 : Typed.Typed 𝓤 H A 𝓣 E G2 b54 Δ0 at98
+          d98 = Typed.g-pre 𝓤 H A W 𝓣 E G2 G3 b54 Δ0 (Typed.give s1) at97 (Know.g-sl-known 𝓤 H A W (Referent.fFloat Ieee.binary64) E G2 12 1 y20 li0 Ieee.nan (λ x. x) (Fits.nan-fits Ieee.binary64) (Reads'.as-is 𝓤 H A (Mut.mslice q1 y20 1)) Path'.refl tt) d97
 
-          d99 : Typed.Typed 𝓤 H A 𝓣 E G31 b55 Δ0 at99
-          d99 = Typed.g-pre 𝓤 H A W 𝓣 E G31 G32 b55 Δ0 (λ Ψ. Ψ) at98 (Lifetime.g-begin 𝓤 H A W E G31 21 (tt, (tt, (tt, (tt, (tt, (tt, (tt, (tt, (tt, (tt, (tt, (tt, ((tt, tt), ((tt, tt), ((tt, tt), ((tt, tt), ((tt, tt), (tt, (tt, (tt, (tt, (tt, (tt, (tt, (tt, (tt, (tt, (tt, (tt, (tt, (tt, (tt, (tt, (tt, (tt, (tt, (tt, (tt, (tt, (tt, (tt, (tt, (tt, (tt, (tt, (tt, (tt, (tt, (tt, (tt, (tt, (tt, (tt, (tt, (tt, (tt, (tt, (tt, tt))))))))))))))))))))))))))))))))))))))))))))))))))))))))))) d98
-
-          d100 : Typed.Typed 𝓤 H A 𝓣 E G30 b56 Δ0 at100
-          d100 = Typed.s-seq 𝓤 H A W 𝓣 E G30 G31 b10 b55 Δ0 (Typed.ask s29) at99 (Relend.t-sl-aggregate 𝓤 H A W E q3 𝓣 (Relend.asMut q3) G30 37 38 20 y10 y10 (λ x. x) (Scalar.oFld 16 ((Syntax.field 1) ∷ []) y0 8 λ v. Shared.lenV (v .0)) (Reads'.as-is 𝓤 H A (Relend.msptr q3 y10 20)) (Reads'.room-gone 𝓤 H A y11) (Relend.reads-owed-len 𝓤 H A W q3 y22 5 20 li4 8 Path'.refl, Path'.refl) Path'.refl Path'.refl λ b o k. tt) d99
-
-          d101 : Typed.Typed 𝓤 H A 𝓣 E G29 b57 Δ0 at101
-          d101 = Typed.s-seq 𝓤 H A W 𝓣 E G29 G30 b9 b56 Δ0 (Typed.give s28) at100 (Relend.t-sl-relend 𝓤 H A W E q3 𝓣 G29 16 37 5 20 y22 y10 li4 0 (λ x. x) (Reads'.as-is 𝓤 H A (Mut.mslice q3 y22 5)) (Reads'.room-gone 𝓤 H A y10) Path'.refl tt Path'.refl Path'.refl Path'.refl λ b o. tt) d100
-
-          d102 : Typed.Typed 𝓤 H A 𝓣 E G28 b57 Δ0 at102
-          d102 = Typed.g-pre 𝓤 H A W 𝓣 E G28 G29 b57 Δ0 (λ Ψ. Ψ) at101 (Lifetime.g-begin 𝓤 H A W E G28 20 (tt, (tt, (tt, (tt, (tt, (tt, (tt, (tt, (tt, (tt, (tt, (tt, ((tt, tt), ((tt, tt), ((tt, tt), ((tt, tt), (tt, (tt, (tt, (tt, (tt, (tt, (tt, (tt, (tt, (tt, (tt, (tt, (tt, (tt, (tt, (tt, (tt, (tt, (tt, (tt, (tt, (tt, (tt, (tt, (tt, (tt, (tt, (tt, (tt, (tt, (tt, (tt, (tt, (tt, (tt, (tt, (tt, (tt, (tt, (tt, (tt, (tt, tt))))))))))))))))))))))))))))))))))))))))))))))))))))))))))) d101
-
-          d103 : Typed.Typed 𝓤 H A 𝓣 E G27 b58 Δ0 at103
-          d103 = Typed.s-seq 𝓤 H A W 𝓣 E G27 G28 b8 b57 Δ0 (Typed.ask s26) at102 (Relend.t-sl-aggregate 𝓤 H A W E q3 𝓣 (Relend.asMut q3) G27 35 36 19 y10 y10 (λ x. x) (Scalar.oFld 15 ((Syntax.field 1) ∷ []) y0 8 λ v. Shared.lenV (v .0)) (Reads'.as-is 𝓤 H A (Relend.msptr q3 y10 19)) (Reads'.room-gone 𝓤 H A y11) (Relend.reads-owed-len 𝓤 H A W q3 y21 4 19 li3 8 Path'.refl, Path'.refl) Path'.refl Path'.refl λ b o k. tt) d102
-
-          d104 : Typed.Typed 𝓤 H A 𝓣 E G26 b59 Δ0 at104
-          d104 = Typed.s-seq 𝓤 H A W 𝓣 E G26 G27 b7 b58 Δ0 (Typed.give s25) at103 (Relend.t-sl-relend 𝓤 H A W E q3 𝓣 G26 15 35 4 19 y21 y10 li3 0 (λ x. x) (Reads'.as-is 𝓤 H A (Mut.mslice q3 y21 4)) (Reads'.room-gone 𝓤 H A y10) Path'.refl tt Path'.refl Path'.refl Path'.refl λ b o. tt) d103
-
-          d105 : Typed.Typed 𝓤 H A 𝓣 E G25 b59 Δ0 at105
-          d105 = Typed.g-pre 𝓤 H A W 𝓣 E G25 G26 b59 Δ0 (λ Ψ. Ψ) at104 (Lifetime.g-begin 𝓤 H A W E G25 19 (tt, (tt, (tt, (tt, (tt, (tt, (tt, (tt, (tt, (tt, (tt, (tt, ((tt, tt), ((tt, tt), ((tt, tt), (tt, (tt, (tt, (tt, (tt, (tt, (tt, (tt, (tt, (tt, (tt, (tt, (tt, (tt, (tt, (tt, (tt, (tt, (tt, (tt, (tt, (tt, (tt, (tt, (tt, (tt, (tt, (tt, (tt, (tt, (tt, (tt, (tt, (tt, (tt, (tt, (tt, (tt, (tt, (tt, (tt, (tt, (tt, tt))))))))))))))))))))))))))))))))))))))))))))))))))))))))))) d104
-
-          d106 : Typed.Typed 𝓤 H A 𝓣 E G24 b60 Δ0 at106
-          d106 = Typed.s-seq 𝓤 H A W 𝓣 E G24 G25 b6 b59 Δ0 (Typed.ask s23) at105 (Relend.t-sl-aggregate 𝓤 H A W E q2 𝓣 (Relend.asMut q2) G24 33 34 18 y8 y8 (λ x. x) (Scalar.oFld 14 ((Syntax.field 1) ∷ []) y0 8 λ v. Shared.lenV (v .0)) (Reads'.as-is 𝓤 H A (Relend.msptr q2 y8 18)) (Reads'.room-gone 𝓤 H A y9) (Relend.reads-owed-len 𝓤 H A W q2 y20 3 18 li2 8 Path'.refl, Path'.refl) Path'.refl Path'.refl λ b o k. tt) d105
-
-          d107 : Typed.Typed 𝓤 H A 𝓣 E G23 b61 Δ0 at107
-          d107 = Typed.s-seq 𝓤 H A W 𝓣 E G23 G24 b5 b60 Δ0 (Typed.give s22) at106 (Relend.t-sl-relend 𝓤 H A W E q2 𝓣 G23 14 33 3 18 y20 y8 li2 0 (λ x. x) (Reads'.as-is 𝓤 H A (Mut.mslice q2 y20 3)) (Reads'.room-gone 𝓤 H A y8) Path'.refl tt Path'.refl Path'.refl Path'.refl λ b o. tt) d106
-
-          d108 : Typed.Typed 𝓤 H A 𝓣 E G22 b61 Δ0 at108
-          d108 = Typed.g-pre 𝓤 H A W 𝓣 E G22 G23 b61 Δ0 (λ Ψ. Ψ) at107 (Lifetime.g-begin 𝓤 H A W E G22 18 (tt, (tt, (tt, (tt, (tt, (tt, (tt, (tt, (tt, (tt, (tt, (tt, ((tt, tt), ((tt, tt), (tt, (tt, (tt, (tt, (tt, (tt, (tt, (tt, (tt, (tt, (tt, (tt, (tt, (tt, (tt, (tt, (tt, (tt, (tt, (tt, (tt, (tt, (tt, (tt, (tt, (tt, (tt, (tt, (tt, (tt, (tt, (tt, (tt, (tt, (tt, (tt, (tt, (tt, (tt, (tt, (tt, (tt, (tt, (tt, tt))))))))))))))))))))))))))))))))))))))))))))))))))))))))))) d107
-
-          d109 : Typed.Typed 𝓤 H A 𝓣 E G21 b62 Δ0 at109
-          d109 = Typed.s-seq 𝓤 H A W 𝓣 E G21 G22 b4 b61 Δ0 (Typed.ask s20) at108 (Relend.t-sl-aggregate 𝓤 H A W E q1 𝓣 (Relend.asMut q1) G21 31 32 17 y6 y6 (λ x. x) (Scalar.oFld 13 ((Syntax.field 1) ∷ []) y0 8 λ v. Shared.lenV (v .0)) (Reads'.as-is 𝓤 H A (Relend.msptr q1 y6 17)) (Reads'.room-gone 𝓤 H A y7) (Relend.reads-owed-len 𝓤 H A W q1 y19 2 17 li1 8 Path'.refl, Path'.refl) Path'.refl Path'.refl λ b o k. tt) d108
-
-          d110 : Typed.Typed 𝓤 H A 𝓣 E G20 b63 Δ0 at110
-          d110 = Typed.s-seq 𝓤 H A W 𝓣 E G20 G21 b3 b62 Δ0 (Typed.give s19) at109 (Relend.t-sl-relend 𝓤 H A W E q1 𝓣 G20 13 31 2 17 y19 y6 li1 0 (λ x. x) (Reads'.as-is 𝓤 H A (Mut.mslice q1 y19 2)) (Reads'.room-gone 𝓤 H A y6) Path'.refl tt Path'.refl Path'.refl Path'.refl λ b o. tt) d109
-
-          d111 : Typed.Typed 𝓤 H A 𝓣 E G19 b63 Δ0 at111
-          d111 = Typed.g-pre 𝓤 H A W 𝓣 E G19 G20 b63 Δ0 (λ Ψ. Ψ) at110 (Lifetime.g-begin 𝓤 H A W E G19 17 (tt, (tt, (tt, (tt, (tt, (tt, (tt, (tt, (tt, (tt, (tt, (tt, ((tt, tt), (tt, (tt, (tt, (tt, (tt, (tt, (tt, (tt, (tt, (tt, (tt, (tt, (tt, (tt, (tt, (tt, (tt, (tt, (tt, (tt, (tt, (tt, (tt, (tt, (tt, (tt, (tt, (tt, (tt, (tt, (tt, (tt, (tt, (tt, (tt, (tt, (tt, (tt, (tt, (tt, (tt, (tt, (tt, (tt, (tt, tt))))))))))))))))))))))))))))))))))))))))))))))))))))))))))) d110
-
-          d112 : Typed.Typed 𝓤 H A 𝓣 E G18 b64 Δ0 at112
-          d112 = Typed.s-seq 𝓤 H A W 𝓣 E G18 G19 b2 b63 Δ0 (Typed.ask s17) at111 (Relend.t-sl-aggregate 𝓤 H A W E q1 𝓣 (Relend.asMut q1) G18 29 30 16 y6 y6 (λ x. x) (Scalar.oFld 12 ((Syntax.field 1) ∷ []) y0 8 λ v. Shared.lenV (v .0)) (Reads'.as-is 𝓤 H A (Relend.msptr q1 y6 16)) (Reads'.room-gone 𝓤 H A y7) (Relend.reads-owed-len 𝓤 H A W q1 y18 1 16 li0 8 Path'.refl, Path'.refl) Path'.refl Path'.refl λ b o k. tt) d111
-
-          d113 : Typed.Typed 𝓤 H A 𝓣 E G17 b65 Δ0 at113
-          d113 = Typed.s-seq 𝓤 H A W 𝓣 E G17 G18 b1 b64 Δ0 (Typed.give s16) at112 (Relend.t-sl-relend 𝓤 H A W E q1 𝓣 G17 12 29 1 16 y18 y6 li0 0 (λ x. x) (Reads'.as-is 𝓤 H A (Mut.mslice q1 y18 1)) (Reads'.room-gone 𝓤 H A y6) Path'.refl tt Path'.refl Path'.refl Path'.refl λ b o. tt) d112
-
-          d114 : Typed.Typed 𝓤 H A 𝓣 E G16 b65 Δ0 at114
-          d114 = Typed.g-pre 𝓤 H A W 𝓣 E G16 G17 b65 Δ0 (λ Ψ. Ψ) at113 (Lifetime.g-begin 𝓤 H A W E G16 16 (tt, (tt, (tt, (tt, (tt, (tt, (tt, (tt, (tt, (tt, (tt, (tt, (tt, (tt, (tt, (tt, (tt, (tt, (tt, (tt, (tt, (tt, (tt, (tt, (tt, (tt, (tt, (tt, (tt, (tt, (tt, (tt, (tt, (tt, (tt, (tt, (tt, (tt, (tt, (tt, (tt, (tt, (tt, (tt, (tt, (tt, (tt, (tt, (tt, (tt, (tt, (tt, (tt, (tt, (tt, (tt, (tt, (tt, tt))))))))))))))))))))))))))))))))))))))))))))))))))))))))))) d113
-
-          d115 : Typed.Typed 𝓤 H A 𝓣 E G15 b66 Δ0 at115
-          d115 = Typed.s-seq 𝓤 H A W 𝓣 E G15 G16 b0 b65 Δ0 (Typed.both s14) at114 (Plain.t-call-plain 𝓤 H A W 𝓣 0 ps·0 r·0 (claims· .0) (claims· .1) "longdust_c::options_of" (known .0) E (λ pos β. β) G15 (Num.vAt 2 λ x. x, (Num.vAt 3 λ x. x, (Float.fAt 4 λ x. x, (Num.vAt 5 λ x. x, (Float.fAt 6 λ x. x, (Num.vAt 7 λ x. x, (Num.vAt 8 λ x. x, (Num.vAt 9 λ x. x, (Num.vAt 10 λ x. x, (Num.vAt 11 λ x. x, tt)))))))))) 27 List.[] (Call.sub-id 𝓤 H A W (G15 .slots)) ((Scalar.reads-sc 𝓤 H A W z0, Path'.refl), ((Scalar.reads-sc 𝓤 H A W z0, Path'.refl), ((Scalar.reads-sc 𝓤 H A W (Row.sFloat Ieee.binary64), Path'.refl), ((Scalar.reads-sc 𝓤 H A W z1, Path'.refl), ((Scalar.reads-sc 𝓤 H A W (Row.sFloat Ieee.binary64), Path'.refl), ((Scalar.reads-sc 𝓤 H A W z1, Path'.refl), ((Scalar.reads-sc 𝓤 H A W z1, Path'.refl), ((Scalar.reads-sc 𝓤 H A W z2, Path'.refl), ((Scalar.reads-sc 𝓤 H A W z1, Path'.refl), ((Scalar.reads-sc 𝓤 H A W z1, Path'.refl), tt)))))))))) (Reads'.room-gone 𝓤 H A y4) tt Path'.refl) d114
-
-          d116 : Typed.Typed 𝓤 H A 𝓣 E G14 b66 Δ0 at116
-          d116 = Typed.g-pre 𝓤 H A W 𝓣 E G14 G15 b66 Δ0 (Typed.give s13) at115 (Know.g-sl-known 𝓤 H A W (Referent.fInt Syntax.w32) E G14 25 14 y31 li13 0 (λ x. x) record { fits = Dec'.lit< tt } (Reads'.as-is 𝓤 H A (Mut.mslice q2 y31 14)) Path'.refl tt) d115
-
-          d117 : Typed.Typed 𝓤 H A 𝓣 E G13 b66 Δ0 at117
-          d117 = Typed.g-pre 𝓤 H A W 𝓣 E G13 G14 b66 Δ0 (Typed.give s12) at116 (Know.g-sl-known 𝓤 H A W (Referent.fInt Syntax.w32) E G13 24 13 y30 li12 0 (λ x. x) record { fits = Dec'.lit< tt } (Reads'.as-is 𝓤 H A (Mut.mslice q2 y30 13)) Path'.refl tt) d116
-
-          d118 : Typed.Typed 𝓤 H A 𝓣 E G12 b66 Δ0 at118
-          d118 = Typed.g-pre 𝓤 H A W 𝓣 E G12 G13 b66 Δ0 (Typed.give s11) at117 (Know.g-sl-known 𝓤 H A W (Referent.fInt Syntax.w32) E G12 23 12 y29 li11 0 (λ x. x) record { fits = Dec'.lit< tt } (Reads'.as-is 𝓤 H A (Mut.mslice q2 y29 12)) Path'.refl tt) d117
-
-          d119 : Typed.Typed 𝓤 H A 𝓣 E G11 b66 Δ0 at119
-          d119 = Typed.g-pre 𝓤 H A W 𝓣 E G11 G12 b66 Δ0 (Typed.give s10) at118 (Know.g-sl-known 𝓤 H A W (Referent.fInt Syntax.w32) E G11 22 11 y28 li10 0 (λ x. x) record { fits = Dec'.lit< tt } (Reads'.as-is 𝓤 H A (Mut.mslice q2 y28 11)) Path'.refl tt) d118
-
-          d120 : Typed.Typed 𝓤 H A 𝓣 E G10 b66 Δ0 at120
-          d120 = Typed.g-pre 𝓤 H A W 𝓣 E G10 G11 b66 Δ0 (Typed.give s9) at119 (Know.g-sl-known 𝓤 H A W (Referent.fInt Syntax.w32) E G10 21 10 y27 li9 0 (λ x. x) record { fits = Dec'.lit< tt } (Reads'.as-is 𝓤 H A (Mut.mslice q2 y27 10)) Path'.refl tt) d119
-
-          d121 : Typed.Typed 𝓤 H A 𝓣 E G9 b66 Δ0 at121
-          d121 = Typed.g-pre 𝓤 H A W 𝓣 E G9 G10 b66 Δ0 (Typed.give s8) at120 (Know.g-sl-known 𝓤 H A W (Referent.fInt Syntax.w32) E G9 20 9 y26 li8 0 (λ x. x) record { fits = Dec'.lit< tt } (Reads'.as-is 𝓤 H A (Mut.mslice q2 y26 9)) Path'.refl tt) d120
-
-          d122 : Typed.Typed 𝓤 H A 𝓣 E G8 b66 Δ0 at122
-          d122 = Typed.g-pre 𝓤 H A W 𝓣 E G8 G9 b66 Δ0 (Typed.give s7) at121 (Know.g-sl-known 𝓤 H A W (Referent.fInt Syntax.w8) E G8 19 8 y25 li7 0 (λ x. x) record { fits = Dec'.lit< tt } (Reads'.as-is 𝓤 H A (Mut.mslice q0 y25 8)) Path'.refl tt) d121
-
-          d123 : Typed.Typed 𝓤 H A 𝓣 E G7 b66 Δ0 at123
-          d123 = Typed.g-pre 𝓤 H A W 𝓣 E G7 G8 b66 Δ0 (Typed.give s6) at122 (Know.g-sl-known 𝓤 H A W (Referent.fInt Syntax.w8) E G7 18 7 y24 li6 0 (λ x. x) record { fits = Dec'.lit< tt } (Reads'.as-is 𝓤 H A (Mut.mslice q0 y24 7)) Path'.refl tt) d122
-
-          d124 : Typed.Typed 𝓤 H A 𝓣 E G6 b66 Δ0 at124
-          d124 = Typed.g-pre 𝓤 H A W 𝓣 E G6 G7 b66 Δ0 (Typed.give s5) at123 (Know.g-sl-known 𝓤 H A W (Referent.fInt Syntax.w16) E G6 16 5 y22 li4 0 (λ x. x) record { fits = Dec'.lit< tt } (Reads'.as-is 𝓤 H A (Mut.mslice q3 y22 5)) Path'.refl tt) d123
-
-          d125 : Typed.Typed 𝓤 H A 𝓣 E G5 b66 Δ0 at125
-          d125 = Typed.g-pre 𝓤 H A W 𝓣 E G5 G6 b66 Δ0 (Typed.give s4) at124 (Know.g-sl-known 𝓤 H A W (Referent.fInt Syntax.w16) E G5 15 4 y21 li3 0 (λ x. x) record { fits = Dec'.lit< tt } (Reads'.as-is 𝓤 H A (Mut.mslice q3 y21 4)) Path'.refl tt) d124
-
-          d126 : Typed.Typed 𝓤 H A 𝓣 E G4 b66 Δ0 at126
-          d126 = Typed.g-pre 𝓤 H A W 𝓣 E G4 G5 b66 Δ0 (Typed.give s3) at125 (Know.g-sl-known 𝓤 H A W (Referent.fInt Syntax.w32) E G4 14 3 y20 li2 0 (λ x. x) record { fits = Dec'.lit< tt } (Reads'.as-is 𝓤 H A (Mut.mslice q2 y20 3)) Path'.refl tt) d125
-
-          d127 : Typed.Typed 𝓤 H A 𝓣 E G3 b66 Δ0 at127
-          d127 = Typed.g-pre 𝓤 H A W 𝓣 E G3 G4 b66 Δ0 (Typed.give s2) at126 (Know.g-sl-known 𝓤 H A W (Referent.fFloat Ieee.binary64) E G3 13 2 y19 li1 Ieee.nan (λ x. x) (Fits.nan-fits Ieee.binary64) (Reads'.as-is 𝓤 H A (Mut.mslice q1 y19 2)) Path'.refl tt) d126
-
-          d128 : Typed.Typed 𝓤 H A 𝓣 E G2 b66 Δ0 at128
-          d128 = Typed.g-pre 𝓤 H A W 𝓣 E G2 G3 b66 Δ0 (Typed.give s1) at127 (Know.g-sl-known 𝓤 H A W (Referent.fFloat Ieee.binary64) E G2 12 1 y18 li0 Ieee.nan (λ x. x) (Fits.nan-fits Ieee.binary64) (Reads'.as-is 𝓤 H A (Mut.mslice q1 y18 1)) Path'.refl tt) d127
-
-          d129 : Typed.Typed 𝓤 H A 𝓣 E G0 b66 Δ0 at129
-          d129 = Typed.g-pre 𝓤 H A W 𝓣 E G0 G2 b66 Δ0 (Typed.give s0) at128 (Know.g-shs-known 𝓤 H A W (Referent.fInt Syntax.w8) E G0 1 0 y17 li14 0 (λ x. x) record { fits = Dec'.lit< tt } (Reads'.as-is 𝓤 H A (Rows.sslice q0 y17 0)) Path'.refl tt) d128
+          d99 : Typed.Typed 𝓤 H A 𝓣 E G0 b54 Δ0 at99
+          d99 = Typed.g-pre 𝓤 H A W 𝓣 E G0 G2 b54 Δ0 (Typed.give s0) at98 (Know.g-shs-known 𝓤 H A W (Referent.fInt Syntax.w8) E G0 1 0 y19 li11 0 (λ x. x) record { fits = Dec'.lit< tt } (Reads'.as-is 𝓤 H A (Rows.sslice q0 y19 0)) Path'.refl tt) d98
 
           pub typed :
               Typed.Typed
@@ -3560,73 +2870,64 @@ module _ (claims· : Claims) where
               A
               𝓣
               E
-              (Function.Γin 16 ps r xs m κs qs)
-              b66
-              (Function.Δret 16 ps r xs m κs qs)
+              (Function.Γin 13 ps r xs m κs qs)
+              b54
+              (Function.Δret 13 ps r xs m κs qs)
               Φ
-          typed = d129
+          typed = d99
 
-      module _ (κs : Lifetimes.Lfts 16) where
+      module _ (κs : Lifetimes.Lfts 13) where
         pub record Args : Type 0 where
-          pub sequence : Kinds.Den {n = 16}
+          pub sequence : Kinds.Den {n = 13}
               κs
               (ShrSlice.pShrS (Referent.rtF (Referent.fInt Syntax.w8)) 0 tt)
-          pub kmer : Kinds.Den {n = 16} κs (Num.pNum Syntax.w64)
-          pub window-size : Kinds.Den {n = 16} κs (Num.pNum Syntax.w64)
-          pub score-threshold : Kinds.Den {n = 16} κs (Float.pFloat Ieee.binary64)
-          pub gc-kind : Kinds.Den {n = 16} κs (Num.pNum Syntax.w32)
-          pub gc-value : Kinds.Den {n = 16} κs (Float.pFloat Ieee.binary64)
-          pub xdrop-set : Kinds.Den {n = 16} κs (Num.pNum Syntax.w32)
-          pub xdrop-length : Kinds.Den {n = 16} κs (Num.pNum Syntax.w32)
-          pub min-start-cnt : Kinds.Den {n = 16} κs (Num.pNum Syntax.w16)
-          pub approx : Kinds.Den {n = 16} κs (Num.pNum Syntax.w32)
-          pub forward-only : Kinds.Den {n = 16} κs (Num.pNum Syntax.w32)
-          pub ln : Kinds.Den {n = 16}
+          pub kmer : Kinds.Den {n = 13} κs (Num.pNum Syntax.w64)
+          pub window-size : Kinds.Den {n = 13} κs (Num.pNum Syntax.w64)
+          pub score-threshold : Kinds.Den {n = 13} κs (Float.pFloat Ieee.binary64)
+          pub gc-kind : Kinds.Den {n = 13} κs (Num.pNum Syntax.w32)
+          pub gc-value : Kinds.Den {n = 13} κs (Float.pFloat Ieee.binary64)
+          pub xdrop-set : Kinds.Den {n = 13} κs (Num.pNum Syntax.w32)
+          pub xdrop-length : Kinds.Den {n = 13} κs (Num.pNum Syntax.w32)
+          pub min-start-cnt : Kinds.Den {n = 13} κs (Num.pNum Syntax.w16)
+          pub approx : Kinds.Den {n = 13} κs (Num.pNum Syntax.w32)
+          pub forward-only : Kinds.Den {n = 13} κs (Num.pNum Syntax.w32)
+          pub ln : Kinds.Den {n = 13}
               κs
               (MutSlice.pMutS (Referent.rtF (Referent.fFloat Ieee.binary64)) 1 tt)
-          pub f : Kinds.Den {n = 16}
+          pub f : Kinds.Den {n = 13}
               κs
               (MutSlice.pMutS (Referent.rtF (Referent.fFloat Ieee.binary64)) 2 tt)
-          pub queue : Kinds.Den {n = 16}
+          pub queue : Kinds.Den {n = 13}
               κs
               (MutSlice.pMutS (Referent.rtF (Referent.fInt Syntax.w32)) 3 tt)
-          pub window-counts : Kinds.Den {n = 16}
+          pub window-counts : Kinds.Den {n = 13}
               κs
               (MutSlice.pMutS (Referent.rtF (Referent.fInt Syntax.w16)) 4 tt)
-          pub scan-counts : Kinds.Den {n = 16}
+          pub scan-counts : Kinds.Den {n = 13}
               κs
               (MutSlice.pMutS (Referent.rtF (Referent.fInt Syntax.w16)) 5 tt)
-          pub candidates : Kinds.Den {n = 16}
+          pub candidates : Kinds.Den {n = 13}
               κs
               (MutSlice.pMutS (Rec·type.the-row) 6 tt)
-          pub codes : Kinds.Den {n = 16}
+          pub codes : Kinds.Den {n = 13}
               κs
               (MutSlice.pMutS (Referent.rtF (Referent.fInt Syntax.w8)) 7 tt)
-          pub reverse-codes : Kinds.Den {n = 16}
+          pub reverse-codes : Kinds.Den {n = 13}
               κs
               (MutSlice.pMutS (Referent.rtF (Referent.fInt Syntax.w8)) 8 tt)
-          pub forward-starts : Kinds.Den {n = 16}
+          pub forward-list : Kinds.Den {n = 13}
               κs
-              (MutSlice.pMutS (Referent.rtF (Referent.fInt Syntax.w32)) 9 tt)
-          pub forward-ends : Kinds.Den {n = 16}
+              (MutSlice.pMutS (Array.Array (Referent.rtF (Referent.fInt Syntax.w32)) 2) 9 tt)
+          pub reverse-list : Kinds.Den {n = 13}
               κs
-              (MutSlice.pMutS (Referent.rtF (Referent.fInt Syntax.w32)) 10 tt)
-          pub reverse-starts : Kinds.Den {n = 16}
+              (MutSlice.pMutS (Array.Array (Referent.rtF (Referent.fInt Syntax.w32)) 2) 10 tt)
+          pub list : Kinds.Den {n = 13}
               κs
-              (MutSlice.pMutS (Referent.rtF (Referent.fInt Syntax.w32)) 11 tt)
-          pub reverse-ends : Kinds.Den {n = 16}
-              κs
-              (MutSlice.pMutS (Referent.rtF (Referent.fInt Syntax.w32)) 12 tt)
-          pub starts : Kinds.Den {n = 16}
-              κs
-              (MutSlice.pMutS (Referent.rtF (Referent.fInt Syntax.w32)) 13 tt)
-          pub ends : Kinds.Den {n = 16}
-              κs
-              (MutSlice.pMutS (Referent.rtF (Referent.fInt Syntax.w32)) 14 tt)
-          pub in-range : Kinds.Den {n = 16} κs (Kinds.pMutF (Referent.fInt Syntax.w32) 15 tt)
+              (MutSlice.pMutS (Array.Array (Referent.rtF (Referent.fInt Syntax.w32)) 2) 11 tt)
+          pub in-range : Kinds.Den {n = 13} κs (Kinds.pMutF (Referent.fInt Syntax.w32) 12 tt)
 
         abbrev pub dens : (a : Args) → Kinds.Dens κs ps
-        dens = λ a. (a .sequence, (a .kmer, (a .window-size, (a .score-threshold, (a .gc-kind, (a .gc-value, (a .xdrop-set, (a .xdrop-length, (a .min-start-cnt, (a .approx, (a .forward-only, (a .ln, (a .f, (a .queue, (a .window-counts, (a .scan-counts, (a .candidates, (a .codes, (a .reverse-codes, (a .forward-starts, (a .forward-ends, (a .reverse-starts, (a .reverse-ends, (a .starts, (a .ends, (a .in-range, tt))))))))))))))))))))))))))
+        dens = λ a. (a .sequence, (a .kmer, (a .window-size, (a .score-threshold, (a .gc-kind, (a .gc-value, (a .xdrop-set, (a .xdrop-length, (a .min-start-cnt, (a .approx, (a .forward-only, (a .ln, (a .f, (a .queue, (a .window-counts, (a .scan-counts, (a .candidates, (a .codes, (a .reverse-codes, (a .forward-list, (a .reverse-list, (a .list, (a .in-range, tt)))))))))))))))))))))))
 
         module _ (args· : Args) where
           pub record Ranges : Type 0 where
@@ -3639,14 +2940,14 @@ module _ (claims· : Claims) where
             pub approx : Val.Fits Syntax.w32 (args· .approx)
             pub forward-only : Val.Fits Syntax.w32 (args· .forward-only)
 
-      abbrev pub m0 : (κs : Lifetimes.Lfts 16) → (args : Args κs) → Typed.Mo T0
+      abbrev pub m0 : (κs : Lifetimes.Lfts 13) → (args : Args κs) → Typed.Mo T0
       m0 = λ κs args. (tt, Enter.partsP κs 1 ps xs (dens κs args))
 
-      abbrev W0 : (κs : Lifetimes.Lfts 16) → (args : Args κs) → Typed.Want O0
-      W0 = λ κs args. (λ u. ⊥, tt, λ u. Enter.Fixs κs 1 ps xs (dens κs args) (u .1) × Post· κs (dens κs args) (Function.resV r κs (u .0)) (Clauses.atExit (Kinds.endedOf 16 ps r) κs (dens κs args) (Enter.lastsP κs 1 ps xs (dens κs args) (u .1))))
+      abbrev W0 : (κs : Lifetimes.Lfts 13) → (args : Args κs) → Typed.Want O0
+      W0 = λ κs args. (λ u. ⊥, tt, λ u. Enter.Fixs κs 1 ps xs (dens κs args) (u .1) × Post· κs (dens κs args) (Function.resV r κs (u .0)) (Clauses.atExit (Kinds.endedOf 13 ps r) κs (dens κs args) (Enter.lastsP κs 1 ps xs (dens κs args) (u .1))))
 
       pub record Start : Type 0 where
-        pub κs : Lifetimes.Lfts 16
+        pub κs : Lifetimes.Lfts 13
         pub args : Args κs
         pub good : Kinds.GoodsP κs ps (dens κs args)
         pub fits : Ranges κs args
@@ -3762,6 +3063,9 @@ module _ (claims· : Claims) where
         pub before : After-slice-known6
         pub slice-known7 : After-slice-known7·own before
 
+      abbrev pub Need-options-of-requires : Type 0
+      Need-options-of-requires = (c : After-slice-known7) → s8 .asks (m8 (c .before) (c .slice-known7 .given))
+
       abbrev pub m9 :
           (before : After-slice-known7) →
           (given : s8 .gives (m8 (before .before) (before .slice-known7 .given))) →
@@ -3769,837 +3073,563 @@ module _ (claims· : Claims) where
       m9 = λ before given. s8 .next (m8 (before .before) (before .slice-known7 .given)) given
 
       module _ (before· : After-slice-known7) where
-        pub record After-slice-known8·own : Type 0 where
-          pub given : s8 .gives (m8 (before· .before) (before· .slice-known7 .given))
-
-      pub record After-slice-known8 : Type 0 where
-        pub before : After-slice-known7
-        pub slice-known8 : After-slice-known8·own before
-
-      abbrev pub m10 :
-          (before : After-slice-known8) →
-          (given : s9 .gives (m9 (before .before) (before .slice-known8 .given))) →
-          Typed.Mo T11
-      m10 = λ before given. s9 .next (m9 (before .before) (before .slice-known8 .given)) given
-
-      module _ (before· : After-slice-known8) where
-        pub record After-slice-known9·own : Type 0 where
-          pub given : s9 .gives (m9 (before· .before) (before· .slice-known8 .given))
-
-      pub record After-slice-known9 : Type 0 where
-        pub before : After-slice-known8
-        pub slice-known9 : After-slice-known9·own before
-
-      abbrev pub m11 :
-          (before : After-slice-known9) →
-          (given : s10 .gives (m10 (before .before) (before .slice-known9 .given))) →
-          Typed.Mo T12
-      m11 = λ before given. s10 .next (m10 (before .before) (before .slice-known9 .given)) given
-
-      module _ (before· : After-slice-known9) where
-        pub record After-slice-known10·own : Type 0 where
-          pub given : s10 .gives (m10 (before· .before) (before· .slice-known9 .given))
-
-      pub record After-slice-known10 : Type 0 where
-        pub before : After-slice-known9
-        pub slice-known10 : After-slice-known10·own before
-
-      abbrev pub m12 :
-          (before : After-slice-known10) →
-          (given : s11 .gives (m11 (before .before) (before .slice-known10 .given))) →
-          Typed.Mo T13
-      m12 = λ before given. s11 .next (m11 (before .before) (before .slice-known10 .given)) given
-
-      module _ (before· : After-slice-known10) where
-        pub record After-slice-known11·own : Type 0 where
-          pub given : s11 .gives (m11 (before· .before) (before· .slice-known10 .given))
-
-      pub record After-slice-known11 : Type 0 where
-        pub before : After-slice-known10
-        pub slice-known11 : After-slice-known11·own before
-
-      abbrev pub m13 :
-          (before : After-slice-known11) →
-          (given : s12 .gives (m12 (before .before) (before .slice-known11 .given))) →
-          Typed.Mo T14
-      m13 = λ before given. s12 .next (m12 (before .before) (before .slice-known11 .given)) given
-
-      module _ (before· : After-slice-known11) where
-        pub record After-slice-known12·own : Type 0 where
-          pub given : s12 .gives (m12 (before· .before) (before· .slice-known11 .given))
-
-      pub record After-slice-known12 : Type 0 where
-        pub before : After-slice-known11
-        pub slice-known12 : After-slice-known12·own before
-
-      abbrev pub m14 :
-          (before : After-slice-known12) →
-          (given : s13 .gives (m13 (before .before) (before .slice-known12 .given))) →
-          Typed.Mo T15
-      m14 = λ before given. s13 .next (m13 (before .before) (before .slice-known12 .given)) given
-
-      module _ (before· : After-slice-known12) where
-        pub record After-slice-known13·own : Type 0 where
-          pub given : s13 .gives (m13 (before· .before) (before· .slice-known12 .given))
-
-      pub record After-slice-known13 : Type 0 where
-        pub before : After-slice-known12
-        pub slice-known13 : After-slice-known13·own before
-
-      abbrev pub Need-options-of-requires : Type 0
-      Need-options-of-requires = (c : After-slice-known13) → s14 .asks (m14 (c .before) (c .slice-known13 .given))
-
-      abbrev pub m15 :
-          (before : After-slice-known13) →
-          (given : s14 .gives (m14 (before .before) (before .slice-known13 .given))) →
-          Typed.Mo T16
-      m15 = λ before given. s14 .next (m14 (before .before) (before .slice-known13 .given)) given
-
-      module _ (before· : After-slice-known13) where
         abbrev pub After-options-of·own : Type 0
-        After-options-of·own = Called.Called ps·0 r·0 (claims· .1) T15 (Num.vAt 2 λ x. x, (Num.vAt 3 λ x. x, (Float.fAt 4 λ x. x, (Num.vAt 5 λ x. x, (Float.fAt 6 λ x. x, (Num.vAt 7 λ x. x, (Num.vAt 8 λ x. x, (Num.vAt 9 λ x. x, (Num.vAt 10 λ x. x, (Num.vAt 11 λ x. x, tt)))))))))) (m14 (before· .before) (before· .slice-known13 .given))
+        After-options-of·own = Called.Called ps·0 r·0 (claims· .1) T9 (Num.vAt 2 λ x. x, (Num.vAt 3 λ x. x, (Float.fAt 4 λ x. x, (Num.vAt 5 λ x. x, (Float.fAt 6 λ x. x, (Num.vAt 7 λ x. x, (Num.vAt 8 λ x. x, (Num.vAt 9 λ x. x, (Num.vAt 10 λ x. x, (Num.vAt 11 λ x. x, tt)))))))))) (m8 (before· .before) (before· .slice-known7 .given))
 
       pub record After-options-of : Type 0 where
-        pub before : After-slice-known13
+        pub before : After-slice-known7
         pub options-of : After-options-of·own before
 
       abbrev pub After-options-of·gave :
           (c : After-options-of) →
-          s14 .gives (m14 (c .before .before) (c .before .slice-known13 .given))
-      After-options-of·gave = λ c. Called.given ps·0 r·0 (claims· .1) T15 (Num.vAt 2 λ x. x, (Num.vAt 3 λ x. x, (Float.fAt 4 λ x. x, (Num.vAt 5 λ x. x, (Float.fAt 6 λ x. x, (Num.vAt 7 λ x. x, (Num.vAt 8 λ x. x, (Num.vAt 9 λ x. x, (Num.vAt 10 λ x. x, (Num.vAt 11 λ x. x, tt)))))))))) (m14 (c .before .before) (c .before .slice-known13 .given)) (c .options-of)
+          s8 .gives (m8 (c .before .before) (c .before .slice-known7 .given))
+      After-options-of·gave = λ c. Called.given ps·0 r·0 (claims· .1) T9 (Num.vAt 2 λ x. x, (Num.vAt 3 λ x. x, (Float.fAt 4 λ x. x, (Num.vAt 5 λ x. x, (Float.fAt 6 λ x. x, (Num.vAt 7 λ x. x, (Num.vAt 8 λ x. x, (Num.vAt 9 λ x. x, (Num.vAt 10 λ x. x, (Num.vAt 11 λ x. x, tt)))))))))) (m8 (c .before .before) (c .before .slice-known7 .given)) (c .options-of)
 
-      abbrev pub m16 :
+      abbrev pub m10 :
           (before : After-options-of) →
-          (given : s16 .gives (m15 (before .before) (After-options-of·gave before))) →
-          Typed.Mo T18
-      m16 = λ before given. s16 .next (m15 (before .before) (After-options-of·gave before)) given
+          (given : s10 .gives (m9 (before .before) (After-options-of·gave before))) →
+          Typed.Mo T12
+      m10 = λ before given. s10 .next (m9 (before .before) (After-options-of·gave before)) given
 
-      abbrev pub m17 :
+      abbrev pub m11 :
           (before : After-options-of) →
-          (given : s16 .gives (m15 (before .before) (After-options-of·gave before))) →
-          Typed.Mo T19
-      m17 = λ before given. s17 .next (m16 before given)
+          (given : s10 .gives (m9 (before .before) (After-options-of·gave before))) →
+          Typed.Mo T13
+      m11 = λ before given. s11 .next (m10 before given)
 
       module _ (before· : After-options-of) where
         pub record After-process-arg·own : Type 0 where
-          pub given : s16 .gives (m15 (before· .before) (After-options-of·gave before·))
+          pub given : s10 .gives (m9 (before· .before) (After-options-of·gave before·))
 
       pub record After-process-arg : Type 0 where
         pub before : After-options-of
         pub process-arg : After-process-arg·own before
 
-      abbrev pub m18 :
+      abbrev pub m12 :
           (before : After-process-arg) →
-          (given : s19 .gives (m17 (before .before) (before .process-arg .given))) →
-          Typed.Mo T21
-      m18 = λ before given. s19 .next (m17 (before .before) (before .process-arg .given)) given
+          (given : s13 .gives (m11 (before .before) (before .process-arg .given))) →
+          Typed.Mo T15
+      m12 = λ before given. s13 .next (m11 (before .before) (before .process-arg .given)) given
 
-      abbrev pub m19 :
+      abbrev pub m13 :
           (before : After-process-arg) →
-          (given : s19 .gives (m17 (before .before) (before .process-arg .given))) →
-          Typed.Mo T22
-      m19 = λ before given. s20 .next (m18 before given)
+          (given : s13 .gives (m11 (before .before) (before .process-arg .given))) →
+          Typed.Mo T16
+      m13 = λ before given. s14 .next (m12 before given)
 
       module _ (before· : After-process-arg) where
         pub record After-process-arg2·own : Type 0 where
-          pub given : s19 .gives (m17 (before· .before) (before· .process-arg .given))
+          pub given : s13 .gives (m11 (before· .before) (before· .process-arg .given))
 
       pub record After-process-arg2 : Type 0 where
         pub before : After-process-arg
         pub process-arg2 : After-process-arg2·own before
 
-      abbrev pub m20 :
+      abbrev pub m14 :
           (before : After-process-arg2) →
-          (given : s22 .gives (m19 (before .before) (before .process-arg2 .given))) →
-          Typed.Mo T24
-      m20 = λ before given. s22 .next (m19 (before .before) (before .process-arg2 .given)) given
+          (given : s16 .gives (m13 (before .before) (before .process-arg2 .given))) →
+          Typed.Mo T18
+      m14 = λ before given. s16 .next (m13 (before .before) (before .process-arg2 .given)) given
 
-      abbrev pub m21 :
+      abbrev pub m15 :
           (before : After-process-arg2) →
-          (given : s22 .gives (m19 (before .before) (before .process-arg2 .given))) →
-          Typed.Mo T25
-      m21 = λ before given. s23 .next (m20 before given)
+          (given : s16 .gives (m13 (before .before) (before .process-arg2 .given))) →
+          Typed.Mo T19
+      m15 = λ before given. s17 .next (m14 before given)
 
       module _ (before· : After-process-arg2) where
         pub record After-process-arg3·own : Type 0 where
-          pub given : s22 .gives (m19 (before· .before) (before· .process-arg2 .given))
+          pub given : s16 .gives (m13 (before· .before) (before· .process-arg2 .given))
 
       pub record After-process-arg3 : Type 0 where
         pub before : After-process-arg2
         pub process-arg3 : After-process-arg3·own before
 
-      abbrev pub m22 :
+      abbrev pub m16 :
           (before : After-process-arg3) →
-          (given : s25 .gives (m21 (before .before) (before .process-arg3 .given))) →
-          Typed.Mo T27
-      m22 = λ before given. s25 .next (m21 (before .before) (before .process-arg3 .given)) given
+          (given : s19 .gives (m15 (before .before) (before .process-arg3 .given))) →
+          Typed.Mo T21
+      m16 = λ before given. s19 .next (m15 (before .before) (before .process-arg3 .given)) given
 
-      abbrev pub m23 :
+      abbrev pub m17 :
           (before : After-process-arg3) →
-          (given : s25 .gives (m21 (before .before) (before .process-arg3 .given))) →
-          Typed.Mo T28
-      m23 = λ before given. s26 .next (m22 before given)
+          (given : s19 .gives (m15 (before .before) (before .process-arg3 .given))) →
+          Typed.Mo T22
+      m17 = λ before given. s20 .next (m16 before given)
 
       module _ (before· : After-process-arg3) where
         pub record After-process-arg4·own : Type 0 where
-          pub given : s25 .gives (m21 (before· .before) (before· .process-arg3 .given))
+          pub given : s19 .gives (m15 (before· .before) (before· .process-arg3 .given))
 
       pub record After-process-arg4 : Type 0 where
         pub before : After-process-arg3
         pub process-arg4 : After-process-arg4·own before
 
-      abbrev pub m24 :
+      abbrev pub m18 :
           (before : After-process-arg4) →
-          (given : s28 .gives (m23 (before .before) (before .process-arg4 .given))) →
-          Typed.Mo T30
-      m24 = λ before given. s28 .next (m23 (before .before) (before .process-arg4 .given)) given
+          (given : s22 .gives (m17 (before .before) (before .process-arg4 .given))) →
+          Typed.Mo T24
+      m18 = λ before given. s22 .next (m17 (before .before) (before .process-arg4 .given)) given
 
-      abbrev pub m25 :
+      abbrev pub m19 :
           (before : After-process-arg4) →
-          (given : s28 .gives (m23 (before .before) (before .process-arg4 .given))) →
-          Typed.Mo T31
-      m25 = λ before given. s29 .next (m24 before given)
+          (given : s22 .gives (m17 (before .before) (before .process-arg4 .given))) →
+          Typed.Mo T25
+      m19 = λ before given. s23 .next (m18 before given)
 
       module _ (before· : After-process-arg4) where
         pub record After-process-arg5·own : Type 0 where
-          pub given : s28 .gives (m23 (before· .before) (before· .process-arg4 .given))
+          pub given : s22 .gives (m17 (before· .before) (before· .process-arg4 .given))
 
       pub record After-process-arg5 : Type 0 where
         pub before : After-process-arg4
         pub process-arg5 : After-process-arg5·own before
 
-      abbrev pub m26 :
+      abbrev pub m20 :
           (before : After-process-arg5) →
-          (given : s31 .gives (m25 (before .before) (before .process-arg5 .given))) →
-          Typed.Mo T33
-      m26 = λ before given. s31 .next (m25 (before .before) (before .process-arg5 .given)) given
+          (given : s25 .gives (m19 (before .before) (before .process-arg5 .given))) →
+          Typed.Mo T27
+      m20 = λ before given. s25 .next (m19 (before .before) (before .process-arg5 .given)) given
 
-      abbrev pub m27 :
+      abbrev pub m21 :
           (before : After-process-arg5) →
-          (given : s31 .gives (m25 (before .before) (before .process-arg5 .given))) →
-          Typed.Mo T34
-      m27 = λ before given. s32 .next (m26 before given)
+          (given : s25 .gives (m19 (before .before) (before .process-arg5 .given))) →
+          Typed.Mo T28
+      m21 = λ before given. s26 .next (m20 before given)
 
       module _ (before· : After-process-arg5) where
         pub record After-process-arg6·own : Type 0 where
-          pub given : s31 .gives (m25 (before· .before) (before· .process-arg5 .given))
+          pub given : s25 .gives (m19 (before· .before) (before· .process-arg5 .given))
 
       pub record After-process-arg6 : Type 0 where
         pub before : After-process-arg5
         pub process-arg6 : After-process-arg6·own before
 
-      abbrev pub m28 :
+      abbrev pub m22 :
           (before : After-process-arg6) →
-          (given : s34 .gives (m27 (before .before) (before .process-arg6 .given))) →
-          Typed.Mo T36
-      m28 = λ before given. s34 .next (m27 (before .before) (before .process-arg6 .given)) given
+          (given : s28 .gives (m21 (before .before) (before .process-arg6 .given))) →
+          Typed.Mo T30
+      m22 = λ before given. s28 .next (m21 (before .before) (before .process-arg6 .given)) given
 
-      abbrev pub m29 :
+      abbrev pub m23 :
           (before : After-process-arg6) →
-          (given : s34 .gives (m27 (before .before) (before .process-arg6 .given))) →
-          Typed.Mo T37
-      m29 = λ before given. s35 .next (m28 before given)
+          (given : s28 .gives (m21 (before .before) (before .process-arg6 .given))) →
+          Typed.Mo T31
+      m23 = λ before given. s29 .next (m22 before given)
 
       module _ (before· : After-process-arg6) where
         pub record After-process-arg7·own : Type 0 where
-          pub given : s34 .gives (m27 (before· .before) (before· .process-arg6 .given))
+          pub given : s28 .gives (m21 (before· .before) (before· .process-arg6 .given))
 
       pub record After-process-arg7 : Type 0 where
         pub before : After-process-arg6
         pub process-arg7 : After-process-arg7·own before
 
-      abbrev pub m30 :
+      abbrev pub m24 :
           (before : After-process-arg7) →
-          (given : s37 .gives (m29 (before .before) (before .process-arg7 .given))) →
-          Typed.Mo T39
-      m30 = λ before given. s37 .next (m29 (before .before) (before .process-arg7 .given)) given
+          (given : s31 .gives (m23 (before .before) (before .process-arg7 .given))) →
+          Typed.Mo T33
+      m24 = λ before given. s31 .next (m23 (before .before) (before .process-arg7 .given)) given
 
-      abbrev pub m31 :
+      abbrev pub m25 :
           (before : After-process-arg7) →
-          (given : s37 .gives (m29 (before .before) (before .process-arg7 .given))) →
-          Typed.Mo T40
-      m31 = λ before given. s38 .next (m30 before given)
+          (given : s31 .gives (m23 (before .before) (before .process-arg7 .given))) →
+          Typed.Mo T34
+      m25 = λ before given. s32 .next (m24 before given)
 
       module _ (before· : After-process-arg7) where
         pub record After-process-arg8·own : Type 0 where
-          pub given : s37 .gives (m29 (before· .before) (before· .process-arg7 .given))
+          pub given : s31 .gives (m23 (before· .before) (before· .process-arg7 .given))
 
       pub record After-process-arg8 : Type 0 where
         pub before : After-process-arg7
         pub process-arg8 : After-process-arg8·own before
 
-      abbrev pub m32 :
+      abbrev pub m26 :
           (before : After-process-arg8) →
-          (given : s40 .gives (m31 (before .before) (before .process-arg8 .given))) →
-          Typed.Mo T42
-      m32 = λ before given. s40 .next (m31 (before .before) (before .process-arg8 .given)) given
+          (given : s34 .gives (m25 (before .before) (before .process-arg8 .given))) →
+          Typed.Mo T36
+      m26 = λ before given. s34 .next (m25 (before .before) (before .process-arg8 .given)) given
 
-      abbrev pub m33 :
+      abbrev pub m27 :
           (before : After-process-arg8) →
-          (given : s40 .gives (m31 (before .before) (before .process-arg8 .given))) →
-          Typed.Mo T43
-      m33 = λ before given. s41 .next (m32 before given)
+          (given : s34 .gives (m25 (before .before) (before .process-arg8 .given))) →
+          Typed.Mo T37
+      m27 = λ before given. s35 .next (m26 before given)
 
       module _ (before· : After-process-arg8) where
         pub record After-process-arg9·own : Type 0 where
-          pub given : s40 .gives (m31 (before· .before) (before· .process-arg8 .given))
+          pub given : s34 .gives (m25 (before· .before) (before· .process-arg8 .given))
 
       pub record After-process-arg9 : Type 0 where
         pub before : After-process-arg8
         pub process-arg9 : After-process-arg9·own before
 
-      abbrev pub m34 :
+      abbrev pub m28 :
           (before : After-process-arg9) →
-          (given : s43 .gives (m33 (before .before) (before .process-arg9 .given))) →
-          Typed.Mo T45
-      m34 = λ before given. s43 .next (m33 (before .before) (before .process-arg9 .given)) given
+          (given : s37 .gives (m27 (before .before) (before .process-arg9 .given))) →
+          Typed.Mo T39
+      m28 = λ before given. s37 .next (m27 (before .before) (before .process-arg9 .given)) given
 
-      abbrev pub m35 :
+      abbrev pub m29 :
           (before : After-process-arg9) →
-          (given : s43 .gives (m33 (before .before) (before .process-arg9 .given))) →
-          Typed.Mo T46
-      m35 = λ before given. s44 .next (m34 before given)
+          (given : s37 .gives (m27 (before .before) (before .process-arg9 .given))) →
+          Typed.Mo T40
+      m29 = λ before given. s38 .next (m28 before given)
 
       module _ (before· : After-process-arg9) where
         pub record After-process-arg10·own : Type 0 where
-          pub given : s43 .gives (m33 (before· .before) (before· .process-arg9 .given))
+          pub given : s37 .gives (m27 (before· .before) (before· .process-arg9 .given))
 
       pub record After-process-arg10 : Type 0 where
         pub before : After-process-arg9
         pub process-arg10 : After-process-arg10·own before
 
-      abbrev pub m36 :
+      abbrev pub m30 :
           (before : After-process-arg10) →
-          (given : s46 .gives (m35 (before .before) (before .process-arg10 .given))) →
-          Typed.Mo T48
-      m36 = λ before given. s46 .next (m35 (before .before) (before .process-arg10 .given)) given
+          (given : s40 .gives (m29 (before .before) (before .process-arg10 .given))) →
+          Typed.Mo T42
+      m30 = λ before given. s40 .next (m29 (before .before) (before .process-arg10 .given)) given
 
       module _ (before· : After-process-arg10) where
         pub record After-process-arg11·own : Type 0 where
-          pub given : s46 .gives (m35 (before· .before) (before· .process-arg10 .given))
+          pub given : s40 .gives (m29 (before· .before) (before· .process-arg10 .given))
 
       pub record After-process-arg11 : Type 0 where
         pub before : After-process-arg10
         pub process-arg11 : After-process-arg11·own before
 
-      abbrev pub m37 :
+      abbrev pub m31 :
           (before : After-process-arg10) →
-          (given : s46 .gives (m35 (before .before) (before .process-arg10 .given))) →
-          Typed.Mo T49
-      m37 = λ before given. s47 .next (m36 before given)
-
-      abbrev pub m38 :
-          (before : After-process-arg11) →
-          (given : s49 .gives (m37 (before .before) (before .process-arg11 .given))) →
-          Typed.Mo T51
-      m38 = λ before given. s49 .next (m37 (before .before) (before .process-arg11 .given)) given
-
-      abbrev pub m39 :
-          (before : After-process-arg11) →
-          (given : s49 .gives (m37 (before .before) (before .process-arg11 .given))) →
-          Typed.Mo T52
-      m39 = λ before given. s50 .next (m38 before given)
-
-      module _ (before· : After-process-arg11) where
-        pub record After-process-arg12·own : Type 0 where
-          pub given : s49 .gives (m37 (before· .before) (before· .process-arg11 .given))
-
-      pub record After-process-arg12 : Type 0 where
-        pub before : After-process-arg11
-        pub process-arg12 : After-process-arg12·own before
-
-      abbrev pub m40 :
-          (before : After-process-arg12) →
-          (given : s52 .gives (m39 (before .before) (before .process-arg12 .given))) →
-          Typed.Mo T54
-      m40 = λ before given. s52 .next (m39 (before .before) (before .process-arg12 .given)) given
-
-      abbrev pub m41 :
-          (before : After-process-arg12) →
-          (given : s52 .gives (m39 (before .before) (before .process-arg12 .given))) →
-          Typed.Mo T55
-      m41 = λ before given. s53 .next (m40 before given)
-
-      module _ (before· : After-process-arg12) where
-        pub record After-process-arg13·own : Type 0 where
-          pub given : s52 .gives (m39 (before· .before) (before· .process-arg12 .given))
-
-      pub record After-process-arg13 : Type 0 where
-        pub before : After-process-arg12
-        pub process-arg13 : After-process-arg13·own before
-
-      abbrev pub m42 :
-          (before : After-process-arg13) →
-          (given : s55 .gives (m41 (before .before) (before .process-arg13 .given))) →
-          Typed.Mo T57
-      m42 = λ before given. s55 .next (m41 (before .before) (before .process-arg13 .given)) given
-
-      abbrev pub m43 :
-          (before : After-process-arg13) →
-          (given : s55 .gives (m41 (before .before) (before .process-arg13 .given))) →
-          Typed.Mo T58
-      m43 = λ before given. s56 .next (m42 before given)
-
-      module _ (before· : After-process-arg13) where
-        pub record After-process-arg14·own : Type 0 where
-          pub given : s55 .gives (m41 (before· .before) (before· .process-arg13 .given))
-
-      pub record After-process-arg14 : Type 0 where
-        pub before : After-process-arg13
-        pub process-arg14 : After-process-arg14·own before
+          (given : s40 .gives (m29 (before .before) (before .process-arg10 .given))) →
+          Typed.Mo T43
+      m31 = λ before given. s41 .next (m30 before given)
 
       abbrev pub Need-process-requires : Type 0
-      Need-process-requires = (c : After-process-arg14) → s57 .asks (m43 (c .before) (c .process-arg14 .given))
+      Need-process-requires = (c : After-process-arg11) → s42 .asks (m31 (c .before) (c .process-arg11 .given))
 
-      abbrev pub m44 :
-          (before : After-process-arg14) →
-          (given : s57 .gives (m43 (before .before) (before .process-arg14 .given))) →
-          Typed.Mo T59
-      m44 = λ before given. s57 .next (m43 (before .before) (before .process-arg14 .given)) given
+      abbrev pub m32 :
+          (before : After-process-arg11) →
+          (given : s42 .gives (m31 (before .before) (before .process-arg11 .given))) →
+          Typed.Mo T44
+      m32 = λ before given. s42 .next (m31 (before .before) (before .process-arg11 .given)) given
 
-      module _ (before· : After-process-arg14) where
+      module _ (before· : After-process-arg11) where
         abbrev pub After-process·own : Type 0
-        After-process·own = Called.Called ps·1 r·1 (claims· .3) T58 (record { pos = 1; ty = y17; ref = λ x. x }, (record { pos = 27; st = List.[]; d = 0; at = λ x. x }, (record { pos = 30; ty = y6; ref = λ x. x }, (record { pos = 32; ty = y6; ref = λ x. x }, (record { pos = 34; ty = y8; ref = λ x. x }, (record { pos = 36; ty = y10; ref = λ x. x }, (record { pos = 38; ty = y10; ref = λ x. x }, (record { pos = 40; ty = y12; ref = λ x. x }, (record { pos = 42; ty = y15; ref = λ x. x }, (record { pos = 44; ty = y15; ref = λ x. x }, (record { pos = 46; ty = y8; ref = λ x. x }, (record { pos = 48; ty = y8; ref = λ x. x }, (record { pos = 50; ty = y8; ref = λ x. x }, (record { pos = 52; ty = y8; ref = λ x. x }, (record { pos = 54; ty = y8; ref = λ x. x }, (record { pos = 56; ty = y8; ref = λ x. x }, tt)))))))))))))))) (m43 (before· .before) (before· .process-arg14 .given))
+        After-process·own = Called.Called ps·1 r·1 (claims· .3) T43 (record { pos = 1; ty = y19; ref = λ x. x }, (record { pos = 24; st = List.[]; d = 0; at = λ x. x }, (record { pos = 27; ty = y6; ref = λ x. x }, (record { pos = 29; ty = y6; ref = λ x. x }, (record { pos = 31; ty = y8; ref = λ x. x }, (record { pos = 33; ty = y10; ref = λ x. x }, (record { pos = 35; ty = y10; ref = λ x. x }, (record { pos = 37; ty = y12; ref = λ x. x }, (record { pos = 39; ty = y15; ref = λ x. x }, (record { pos = 41; ty = y15; ref = λ x. x }, (record { pos = 43; ty = y17; ref = λ x. x }, (record { pos = 45; ty = y17; ref = λ x. x }, (record { pos = 47; ty = y17; ref = λ x. x }, tt))))))))))))) (m31 (before· .before) (before· .process-arg11 .given))
 
       pub record After-process : Type 0 where
-        pub before : After-process-arg14
+        pub before : After-process-arg11
         pub process : After-process·own before
 
       abbrev pub After-process·gave :
           (c : After-process) →
-          s57 .gives (m43 (c .before .before) (c .before .process-arg14 .given))
-      After-process·gave = λ c. Called.given ps·1 r·1 (claims· .3) T58 (record { pos = 1; ty = y17; ref = λ x. x }, (record { pos = 27; st = List.[]; d = 0; at = λ x. x }, (record { pos = 30; ty = y6; ref = λ x. x }, (record { pos = 32; ty = y6; ref = λ x. x }, (record { pos = 34; ty = y8; ref = λ x. x }, (record { pos = 36; ty = y10; ref = λ x. x }, (record { pos = 38; ty = y10; ref = λ x. x }, (record { pos = 40; ty = y12; ref = λ x. x }, (record { pos = 42; ty = y15; ref = λ x. x }, (record { pos = 44; ty = y15; ref = λ x. x }, (record { pos = 46; ty = y8; ref = λ x. x }, (record { pos = 48; ty = y8; ref = λ x. x }, (record { pos = 50; ty = y8; ref = λ x. x }, (record { pos = 52; ty = y8; ref = λ x. x }, (record { pos = 54; ty = y8; ref = λ x. x }, (record { pos = 56; ty = y8; ref = λ x. x }, tt)))))))))))))))) (m43 (c .before .before) (c .before .process-arg14 .given)) (c .process)
+          s42 .gives (m31 (c .before .before) (c .before .process-arg11 .given))
+      After-process·gave = λ c. Called.given ps·1 r·1 (claims· .3) T43 (record { pos = 1; ty = y19; ref = λ x. x }, (record { pos = 24; st = List.[]; d = 0; at = λ x. x }, (record { pos = 27; ty = y6; ref = λ x. x }, (record { pos = 29; ty = y6; ref = λ x. x }, (record { pos = 31; ty = y8; ref = λ x. x }, (record { pos = 33; ty = y10; ref = λ x. x }, (record { pos = 35; ty = y10; ref = λ x. x }, (record { pos = 37; ty = y12; ref = λ x. x }, (record { pos = 39; ty = y15; ref = λ x. x }, (record { pos = 41; ty = y15; ref = λ x. x }, (record { pos = 43; ty = y17; ref = λ x. x }, (record { pos = 45; ty = y17; ref = λ x. x }, (record { pos = 47; ty = y17; ref = λ x. x }, tt))))))))))))) (m31 (c .before .before) (c .before .process-arg11 .given)) (c .process)
 
-      abbrev pub m45 :
-          (before : After-process-arg14) →
-          (given : s57 .gives (m43 (before .before) (before .process-arg14 .given))) →
-          Typed.Mo T60
-      m45 = λ before given. s58 (m44 before given)
+      abbrev pub m33 :
+          (before : After-process-arg11) →
+          (given : s42 .gives (m31 (before .before) (before .process-arg11 .given))) →
+          Typed.Mo T45
+      m33 = λ before given. s43 (m32 before given)
 
-      abbrev pub m46 :
+      abbrev pub m34 :
           (before : After-process) →
-          (given : s60 .gives (m45 (before .before) (After-process·gave before))) →
-          Typed.Mo T62
-      m46 = λ before given. s60 .next (m45 (before .before) (After-process·gave before)) given
+          (given : s45 .gives (m33 (before .before) (After-process·gave before))) →
+          Typed.Mo T47
+      m34 = λ before given. s45 .next (m33 (before .before) (After-process·gave before)) given
 
       module _ (before· : After-process) where
         pub record After-ln·own : Type 0 where
-          pub given : s60 .gives (m45 (before· .before) (After-process·gave before·))
+          pub given : s45 .gives (m33 (before· .before) (After-process·gave before·))
 
       pub record After-ln : Type 0 where
         pub before : After-process
         pub ln : After-ln·own before
 
-      abbrev pub m47 :
+      abbrev pub m35 :
           (before : After-ln) →
-          (given : s61 .gives (m46 (before .before) (before .ln .given))) →
-          Typed.Mo T63
-      m47 = λ before given. s61 .next (m46 (before .before) (before .ln .given)) given
+          (given : s46 .gives (m34 (before .before) (before .ln .given))) →
+          Typed.Mo T48
+      m35 = λ before given. s46 .next (m34 (before .before) (before .ln .given)) given
 
       module _ (before· : After-ln) where
-        pub record After-slice-known14·own : Type 0 where
-          pub given : s61 .gives (m46 (before· .before) (before· .ln .given))
+        pub record After-slice-known8·own : Type 0 where
+          pub given : s46 .gives (m34 (before· .before) (before· .ln .given))
 
-      pub record After-slice-known14 : Type 0 where
+      pub record After-slice-known8 : Type 0 where
         pub before : After-ln
-        pub slice-known14 : After-slice-known14·own before
+        pub slice-known8 : After-slice-known8·own before
 
-      abbrev pub m48 :
-          (before : After-slice-known14) →
-          (given : s64 .gives (m47 (before .before) (before .slice-known14 .given))) →
-          Typed.Mo T66
-      m48 = λ before given. s64 .next (m47 (before .before) (before .slice-known14 .given)) given
+      abbrev pub m36 :
+          (before : After-slice-known8) →
+          (given : s49 .gives (m35 (before .before) (before .slice-known8 .given))) →
+          Typed.Mo T51
+      m36 = λ before given. s49 .next (m35 (before .before) (before .slice-known8 .given)) given
 
-      module _ (before· : After-slice-known14) where
+      module _ (before· : After-slice-known8) where
         pub record After-f·own : Type 0 where
-          pub given : s64 .gives (m47 (before· .before) (before· .slice-known14 .given))
+          pub given : s49 .gives (m35 (before· .before) (before· .slice-known8 .given))
 
       pub record After-f : Type 0 where
-        pub before : After-slice-known14
+        pub before : After-slice-known8
         pub f : After-f·own before
 
-      abbrev pub m49 :
+      abbrev pub m37 :
           (before : After-f) →
-          (given : s65 .gives (m48 (before .before) (before .f .given))) →
-          Typed.Mo T67
-      m49 = λ before given. s65 .next (m48 (before .before) (before .f .given)) given
+          (given : s50 .gives (m36 (before .before) (before .f .given))) →
+          Typed.Mo T52
+      m37 = λ before given. s50 .next (m36 (before .before) (before .f .given)) given
 
       module _ (before· : After-f) where
-        pub record After-slice-known15·own : Type 0 where
-          pub given : s65 .gives (m48 (before· .before) (before· .f .given))
+        pub record After-slice-known9·own : Type 0 where
+          pub given : s50 .gives (m36 (before· .before) (before· .f .given))
 
-      pub record After-slice-known15 : Type 0 where
+      pub record After-slice-known9 : Type 0 where
         pub before : After-f
-        pub slice-known15 : After-slice-known15·own before
+        pub slice-known9 : After-slice-known9·own before
 
-      abbrev pub m50 :
-          (before : After-slice-known15) →
-          (given : s68 .gives (m49 (before .before) (before .slice-known15 .given))) →
-          Typed.Mo T70
-      m50 = λ before given. s68 .next (m49 (before .before) (before .slice-known15 .given)) given
+      abbrev pub m38 :
+          (before : After-slice-known9) →
+          (given : s53 .gives (m37 (before .before) (before .slice-known9 .given))) →
+          Typed.Mo T55
+      m38 = λ before given. s53 .next (m37 (before .before) (before .slice-known9 .given)) given
 
-      module _ (before· : After-slice-known15) where
+      module _ (before· : After-slice-known9) where
         pub record After-queue·own : Type 0 where
-          pub given : s68 .gives (m49 (before· .before) (before· .slice-known15 .given))
+          pub given : s53 .gives (m37 (before· .before) (before· .slice-known9 .given))
 
       pub record After-queue : Type 0 where
-        pub before : After-slice-known15
+        pub before : After-slice-known9
         pub queue : After-queue·own before
 
-      abbrev pub m51 :
+      abbrev pub m39 :
           (before : After-queue) →
-          (given : s69 .gives (m50 (before .before) (before .queue .given))) →
-          Typed.Mo T71
-      m51 = λ before given. s69 .next (m50 (before .before) (before .queue .given)) given
+          (given : s54 .gives (m38 (before .before) (before .queue .given))) →
+          Typed.Mo T56
+      m39 = λ before given. s54 .next (m38 (before .before) (before .queue .given)) given
 
       module _ (before· : After-queue) where
-        pub record After-slice-known16·own : Type 0 where
-          pub given : s69 .gives (m50 (before· .before) (before· .queue .given))
+        pub record After-slice-known10·own : Type 0 where
+          pub given : s54 .gives (m38 (before· .before) (before· .queue .given))
 
-      pub record After-slice-known16 : Type 0 where
+      pub record After-slice-known10 : Type 0 where
         pub before : After-queue
-        pub slice-known16 : After-slice-known16·own before
+        pub slice-known10 : After-slice-known10·own before
 
-      abbrev pub m52 :
-          (before : After-slice-known16) →
-          (given : s72 .gives (m51 (before .before) (before .slice-known16 .given))) →
-          Typed.Mo T74
-      m52 = λ before given. s72 .next (m51 (before .before) (before .slice-known16 .given)) given
+      abbrev pub m40 :
+          (before : After-slice-known10) →
+          (given : s57 .gives (m39 (before .before) (before .slice-known10 .given))) →
+          Typed.Mo T59
+      m40 = λ before given. s57 .next (m39 (before .before) (before .slice-known10 .given)) given
 
-      module _ (before· : After-slice-known16) where
+      module _ (before· : After-slice-known10) where
         pub record After-window-counts·own : Type 0 where
-          pub given : s72 .gives (m51 (before· .before) (before· .slice-known16 .given))
+          pub given : s57 .gives (m39 (before· .before) (before· .slice-known10 .given))
 
       pub record After-window-counts : Type 0 where
-        pub before : After-slice-known16
+        pub before : After-slice-known10
         pub window-counts : After-window-counts·own before
 
-      abbrev pub m53 :
+      abbrev pub m41 :
           (before : After-window-counts) →
-          (given : s73 .gives (m52 (before .before) (before .window-counts .given))) →
-          Typed.Mo T75
-      m53 = λ before given. s73 .next (m52 (before .before) (before .window-counts .given)) given
+          (given : s58 .gives (m40 (before .before) (before .window-counts .given))) →
+          Typed.Mo T60
+      m41 = λ before given. s58 .next (m40 (before .before) (before .window-counts .given)) given
 
       module _ (before· : After-window-counts) where
-        pub record After-slice-known17·own : Type 0 where
-          pub given : s73 .gives (m52 (before· .before) (before· .window-counts .given))
+        pub record After-slice-known11·own : Type 0 where
+          pub given : s58 .gives (m40 (before· .before) (before· .window-counts .given))
 
-      pub record After-slice-known17 : Type 0 where
+      pub record After-slice-known11 : Type 0 where
         pub before : After-window-counts
-        pub slice-known17 : After-slice-known17·own before
+        pub slice-known11 : After-slice-known11·own before
 
-      abbrev pub m54 :
-          (before : After-slice-known17) →
-          (given : s76 .gives (m53 (before .before) (before .slice-known17 .given))) →
-          Typed.Mo T78
-      m54 = λ before given. s76 .next (m53 (before .before) (before .slice-known17 .given)) given
+      abbrev pub m42 :
+          (before : After-slice-known11) →
+          (given : s61 .gives (m41 (before .before) (before .slice-known11 .given))) →
+          Typed.Mo T63
+      m42 = λ before given. s61 .next (m41 (before .before) (before .slice-known11 .given)) given
 
-      module _ (before· : After-slice-known17) where
+      module _ (before· : After-slice-known11) where
         pub record After-scan-counts·own : Type 0 where
-          pub given : s76 .gives (m53 (before· .before) (before· .slice-known17 .given))
+          pub given : s61 .gives (m41 (before· .before) (before· .slice-known11 .given))
 
       pub record After-scan-counts : Type 0 where
-        pub before : After-slice-known17
+        pub before : After-slice-known11
         pub scan-counts : After-scan-counts·own before
 
-      abbrev pub m55 :
+      abbrev pub m43 :
           (before : After-scan-counts) →
-          (given : s77 .gives (m54 (before .before) (before .scan-counts .given))) →
-          Typed.Mo T79
-      m55 = λ before given. s77 .next (m54 (before .before) (before .scan-counts .given)) given
+          (given : s62 .gives (m42 (before .before) (before .scan-counts .given))) →
+          Typed.Mo T64
+      m43 = λ before given. s62 .next (m42 (before .before) (before .scan-counts .given)) given
 
       module _ (before· : After-scan-counts) where
-        pub record After-slice-known18·own : Type 0 where
-          pub given : s77 .gives (m54 (before· .before) (before· .scan-counts .given))
+        pub record After-slice-known12·own : Type 0 where
+          pub given : s62 .gives (m42 (before· .before) (before· .scan-counts .given))
 
-      pub record After-slice-known18 : Type 0 where
+      pub record After-slice-known12 : Type 0 where
         pub before : After-scan-counts
-        pub slice-known18 : After-slice-known18·own before
+        pub slice-known12 : After-slice-known12·own before
 
-      abbrev pub m56 :
-          (before : After-slice-known18) →
-          (given : s80 .gives (m55 (before .before) (before .slice-known18 .given))) →
-          Typed.Mo T82
-      m56 = λ before given. s80 .next (m55 (before .before) (before .slice-known18 .given)) given
+      abbrev pub m44 :
+          (before : After-slice-known12) →
+          (given : s65 .gives (m43 (before .before) (before .slice-known12 .given))) →
+          Typed.Mo T67
+      m44 = λ before given. s65 .next (m43 (before .before) (before .slice-known12 .given)) given
 
-      module _ (before· : After-slice-known18) where
+      module _ (before· : After-slice-known12) where
         pub record After-candidates·own : Type 0 where
-          pub given : s80 .gives (m55 (before· .before) (before· .slice-known18 .given))
+          pub given : s65 .gives (m43 (before· .before) (before· .slice-known12 .given))
 
       pub record After-candidates : Type 0 where
-        pub before : After-slice-known18
+        pub before : After-slice-known12
         pub candidates : After-candidates·own before
 
-      abbrev pub m57 :
+      abbrev pub m45 :
           (before : After-candidates) →
-          (given : s83 .gives (m56 (before .before) (before .candidates .given))) →
-          Typed.Mo T85
-      m57 = λ before given. s83 .next (m56 (before .before) (before .candidates .given)) given
+          (given : s68 .gives (m44 (before .before) (before .candidates .given))) →
+          Typed.Mo T70
+      m45 = λ before given. s68 .next (m44 (before .before) (before .candidates .given)) given
 
       module _ (before· : After-candidates) where
         pub record After-codes·own : Type 0 where
-          pub given : s83 .gives (m56 (before· .before) (before· .candidates .given))
+          pub given : s68 .gives (m44 (before· .before) (before· .candidates .given))
 
       pub record After-codes : Type 0 where
         pub before : After-candidates
         pub codes : After-codes·own before
 
-      abbrev pub m58 :
+      abbrev pub m46 :
           (before : After-codes) →
-          (given : s84 .gives (m57 (before .before) (before .codes .given))) →
-          Typed.Mo T86
-      m58 = λ before given. s84 .next (m57 (before .before) (before .codes .given)) given
+          (given : s69 .gives (m45 (before .before) (before .codes .given))) →
+          Typed.Mo T71
+      m46 = λ before given. s69 .next (m45 (before .before) (before .codes .given)) given
 
       module _ (before· : After-codes) where
-        pub record After-slice-known19·own : Type 0 where
-          pub given : s84 .gives (m57 (before· .before) (before· .codes .given))
+        pub record After-slice-known13·own : Type 0 where
+          pub given : s69 .gives (m45 (before· .before) (before· .codes .given))
 
-      pub record After-slice-known19 : Type 0 where
+      pub record After-slice-known13 : Type 0 where
         pub before : After-codes
-        pub slice-known19 : After-slice-known19·own before
+        pub slice-known13 : After-slice-known13·own before
 
-      abbrev pub m59 :
-          (before : After-slice-known19) →
-          (given : s87 .gives (m58 (before .before) (before .slice-known19 .given))) →
-          Typed.Mo T89
-      m59 = λ before given. s87 .next (m58 (before .before) (before .slice-known19 .given)) given
+      abbrev pub m47 :
+          (before : After-slice-known13) →
+          (given : s72 .gives (m46 (before .before) (before .slice-known13 .given))) →
+          Typed.Mo T74
+      m47 = λ before given. s72 .next (m46 (before .before) (before .slice-known13 .given)) given
 
-      module _ (before· : After-slice-known19) where
+      module _ (before· : After-slice-known13) where
         pub record After-reverse-codes·own : Type 0 where
-          pub given : s87 .gives (m58 (before· .before) (before· .slice-known19 .given))
+          pub given : s72 .gives (m46 (before· .before) (before· .slice-known13 .given))
 
       pub record After-reverse-codes : Type 0 where
-        pub before : After-slice-known19
+        pub before : After-slice-known13
         pub reverse-codes : After-reverse-codes·own before
 
-      abbrev pub m60 :
+      abbrev pub m48 :
           (before : After-reverse-codes) →
-          (given : s88 .gives (m59 (before .before) (before .reverse-codes .given))) →
-          Typed.Mo T90
-      m60 = λ before given. s88 .next (m59 (before .before) (before .reverse-codes .given)) given
+          (given : s73 .gives (m47 (before .before) (before .reverse-codes .given))) →
+          Typed.Mo T75
+      m48 = λ before given. s73 .next (m47 (before .before) (before .reverse-codes .given)) given
 
       module _ (before· : After-reverse-codes) where
-        pub record After-slice-known20·own : Type 0 where
-          pub given : s88 .gives (m59 (before· .before) (before· .reverse-codes .given))
+        pub record After-slice-known14·own : Type 0 where
+          pub given : s73 .gives (m47 (before· .before) (before· .reverse-codes .given))
 
-      pub record After-slice-known20 : Type 0 where
+      pub record After-slice-known14 : Type 0 where
         pub before : After-reverse-codes
-        pub slice-known20 : After-slice-known20·own before
+        pub slice-known14 : After-slice-known14·own before
 
-      abbrev pub m61 :
-          (before : After-slice-known20) →
-          (given : s91 .gives (m60 (before .before) (before .slice-known20 .given))) →
-          Typed.Mo T93
-      m61 = λ before given. s91 .next (m60 (before .before) (before .slice-known20 .given)) given
+      abbrev pub m49 :
+          (before : After-slice-known14) →
+          (given : s76 .gives (m48 (before .before) (before .slice-known14 .given))) →
+          Typed.Mo T78
+      m49 = λ before given. s76 .next (m48 (before .before) (before .slice-known14 .given)) given
 
-      module _ (before· : After-slice-known20) where
-        pub record After-forward-starts·own : Type 0 where
-          pub given : s91 .gives (m60 (before· .before) (before· .slice-known20 .given))
+      module _ (before· : After-slice-known14) where
+        pub record After-forward-list·own : Type 0 where
+          pub given : s76 .gives (m48 (before· .before) (before· .slice-known14 .given))
 
-      pub record After-forward-starts : Type 0 where
-        pub before : After-slice-known20
-        pub forward-starts : After-forward-starts·own before
+      pub record After-forward-list : Type 0 where
+        pub before : After-slice-known14
+        pub forward-list : After-forward-list·own before
 
-      abbrev pub m62 :
-          (before : After-forward-starts) →
-          (given : s92 .gives (m61 (before .before) (before .forward-starts .given))) →
-          Typed.Mo T94
-      m62 = λ before given. s92 .next (m61 (before .before) (before .forward-starts .given)) given
+      abbrev pub m50 :
+          (before : After-forward-list) →
+          (given : s79 .gives (m49 (before .before) (before .forward-list .given))) →
+          Typed.Mo T81
+      m50 = λ before given. s79 .next (m49 (before .before) (before .forward-list .given)) given
 
-      module _ (before· : After-forward-starts) where
-        pub record After-slice-known21·own : Type 0 where
-          pub given : s92 .gives (m61 (before· .before) (before· .forward-starts .given))
+      module _ (before· : After-forward-list) where
+        pub record After-reverse-list·own : Type 0 where
+          pub given : s79 .gives (m49 (before· .before) (before· .forward-list .given))
 
-      pub record After-slice-known21 : Type 0 where
-        pub before : After-forward-starts
-        pub slice-known21 : After-slice-known21·own before
+      pub record After-reverse-list : Type 0 where
+        pub before : After-forward-list
+        pub reverse-list : After-reverse-list·own before
 
-      abbrev pub m63 :
-          (before : After-slice-known21) →
-          (given : s95 .gives (m62 (before .before) (before .slice-known21 .given))) →
-          Typed.Mo T97
-      m63 = λ before given. s95 .next (m62 (before .before) (before .slice-known21 .given)) given
+      abbrev pub m51 :
+          (before : After-reverse-list) →
+          (given : s82 .gives (m50 (before .before) (before .reverse-list .given))) →
+          Typed.Mo T84
+      m51 = λ before given. s82 .next (m50 (before .before) (before .reverse-list .given)) given
 
-      module _ (before· : After-slice-known21) where
-        pub record After-forward-ends·own : Type 0 where
-          pub given : s95 .gives (m62 (before· .before) (before· .slice-known21 .given))
+      module _ (before· : After-reverse-list) where
+        pub record After-list·own : Type 0 where
+          pub given : s82 .gives (m50 (before· .before) (before· .reverse-list .given))
 
-      pub record After-forward-ends : Type 0 where
-        pub before : After-slice-known21
-        pub forward-ends : After-forward-ends·own before
-
-      abbrev pub m64 :
-          (before : After-forward-ends) →
-          (given : s96 .gives (m63 (before .before) (before .forward-ends .given))) →
-          Typed.Mo T98
-      m64 = λ before given. s96 .next (m63 (before .before) (before .forward-ends .given)) given
-
-      module _ (before· : After-forward-ends) where
-        pub record After-slice-known22·own : Type 0 where
-          pub given : s96 .gives (m63 (before· .before) (before· .forward-ends .given))
-
-      pub record After-slice-known22 : Type 0 where
-        pub before : After-forward-ends
-        pub slice-known22 : After-slice-known22·own before
-
-      abbrev pub m65 :
-          (before : After-slice-known22) →
-          (given : s99 .gives (m64 (before .before) (before .slice-known22 .given))) →
-          Typed.Mo T101
-      m65 = λ before given. s99 .next (m64 (before .before) (before .slice-known22 .given)) given
-
-      module _ (before· : After-slice-known22) where
-        pub record After-reverse-starts·own : Type 0 where
-          pub given : s99 .gives (m64 (before· .before) (before· .slice-known22 .given))
-
-      pub record After-reverse-starts : Type 0 where
-        pub before : After-slice-known22
-        pub reverse-starts : After-reverse-starts·own before
-
-      abbrev pub m66 :
-          (before : After-reverse-starts) →
-          (given : s100 .gives (m65 (before .before) (before .reverse-starts .given))) →
-          Typed.Mo T102
-      m66 = λ before given. s100 .next (m65 (before .before) (before .reverse-starts .given)) given
-
-      module _ (before· : After-reverse-starts) where
-        pub record After-slice-known23·own : Type 0 where
-          pub given : s100 .gives (m65 (before· .before) (before· .reverse-starts .given))
-
-      pub record After-slice-known23 : Type 0 where
-        pub before : After-reverse-starts
-        pub slice-known23 : After-slice-known23·own before
-
-      abbrev pub m67 :
-          (before : After-slice-known23) →
-          (given : s103 .gives (m66 (before .before) (before .slice-known23 .given))) →
-          Typed.Mo T105
-      m67 = λ before given. s103 .next (m66 (before .before) (before .slice-known23 .given)) given
-
-      module _ (before· : After-slice-known23) where
-        pub record After-reverse-ends·own : Type 0 where
-          pub given : s103 .gives (m66 (before· .before) (before· .slice-known23 .given))
-
-      pub record After-reverse-ends : Type 0 where
-        pub before : After-slice-known23
-        pub reverse-ends : After-reverse-ends·own before
-
-      abbrev pub m68 :
-          (before : After-reverse-ends) →
-          (given : s104 .gives (m67 (before .before) (before .reverse-ends .given))) →
-          Typed.Mo T106
-      m68 = λ before given. s104 .next (m67 (before .before) (before .reverse-ends .given)) given
-
-      module _ (before· : After-reverse-ends) where
-        pub record After-slice-known24·own : Type 0 where
-          pub given : s104 .gives (m67 (before· .before) (before· .reverse-ends .given))
-
-      pub record After-slice-known24 : Type 0 where
-        pub before : After-reverse-ends
-        pub slice-known24 : After-slice-known24·own before
-
-      abbrev pub m69 :
-          (before : After-slice-known24) →
-          (given : s107 .gives (m68 (before .before) (before .slice-known24 .given))) →
-          Typed.Mo T109
-      m69 = λ before given. s107 .next (m68 (before .before) (before .slice-known24 .given)) given
-
-      module _ (before· : After-slice-known24) where
-        pub record After-starts·own : Type 0 where
-          pub given : s107 .gives (m68 (before· .before) (before· .slice-known24 .given))
-
-      pub record After-starts : Type 0 where
-        pub before : After-slice-known24
-        pub starts : After-starts·own before
-
-      abbrev pub m70 :
-          (before : After-starts) →
-          (given : s108 .gives (m69 (before .before) (before .starts .given))) →
-          Typed.Mo T110
-      m70 = λ before given. s108 .next (m69 (before .before) (before .starts .given)) given
-
-      module _ (before· : After-starts) where
-        pub record After-slice-known25·own : Type 0 where
-          pub given : s108 .gives (m69 (before· .before) (before· .starts .given))
-
-      pub record After-slice-known25 : Type 0 where
-        pub before : After-starts
-        pub slice-known25 : After-slice-known25·own before
-
-      abbrev pub m71 :
-          (before : After-slice-known25) →
-          (given : s111 .gives (m70 (before .before) (before .slice-known25 .given))) →
-          Typed.Mo T113
-      m71 = λ before given. s111 .next (m70 (before .before) (before .slice-known25 .given)) given
-
-      module _ (before· : After-slice-known25) where
-        pub record After-ends·own : Type 0 where
-          pub given : s111 .gives (m70 (before· .before) (before· .slice-known25 .given))
-
-      pub record After-ends : Type 0 where
-        pub before : After-slice-known25
-        pub ends : After-ends·own before
-
-      abbrev pub m72 :
-          (before : After-ends) →
-          (given : s112 .gives (m71 (before .before) (before .ends .given))) →
-          Typed.Mo T114
-      m72 = λ before given. s112 .next (m71 (before .before) (before .ends .given)) given
-
-      module _ (before· : After-ends) where
-        pub record After-slice-known26·own : Type 0 where
-          pub given : s112 .gives (m71 (before· .before) (before· .ends .given))
-
-      pub record After-slice-known26 : Type 0 where
-        pub before : After-ends
-        pub slice-known26 : After-slice-known26·own before
+      pub record After-list : Type 0 where
+        pub before : After-reverse-list
+        pub list : After-list·own before
 
       abbrev pub Need-flag-of-requires : Type 0
-      Need-flag-of-requires = (c : After-slice-known26) → s114 .asks (m72 (c .before) (c .slice-known26 .given))
+      Need-flag-of-requires = (c : After-list) → s84 .asks (m51 (c .before) (c .list .given))
 
-      abbrev pub m73 :
-          (before : After-slice-known26) →
-          (given : s114 .gives (m72 (before .before) (before .slice-known26 .given))) →
-          Typed.Mo T116
-      m73 = λ before given. s114 .next (m72 (before .before) (before .slice-known26 .given)) given
+      abbrev pub m52 :
+          (before : After-list) →
+          (given : s84 .gives (m51 (before .before) (before .list .given))) →
+          Typed.Mo T86
+      m52 = λ before given. s84 .next (m51 (before .before) (before .list .given)) given
 
-      module _ (before· : After-slice-known26) where
+      module _ (before· : After-list) where
         abbrev pub After-flag-of·own : Type 0
-        After-flag-of·own = Called.Called ps·2 r·2 (claims· .5) T114 (Bool.bFld 28 ((Syntax.field 2) ∷ []) 16 λ x. Answer.struct .as-values x .1 .1 .0, tt) (m72 (before· .before) (before· .slice-known26 .given))
+        After-flag-of·own = Called.Called ps·2 r·2 (claims· .5) T84 (Bool.bFld 25 ((Syntax.field 2) ∷ []) 16 λ x. Answer.struct .as-values x .1 .1 .0, tt) (m51 (before· .before) (before· .list .given))
 
       pub record After-flag-of : Type 0 where
-        pub before : After-slice-known26
+        pub before : After-list
         pub flag-of : After-flag-of·own before
 
       abbrev pub After-flag-of·gave :
-          (c : After-flag-of) →
-          s114 .gives (m72 (c .before .before) (c .before .slice-known26 .given))
-      After-flag-of·gave = λ c. Called.given ps·2 r·2 (claims· .5) T114 (Bool.bFld 28 ((Syntax.field 2) ∷ []) 16 λ x. Answer.struct .as-values x .1 .1 .0, tt) (m72 (c .before .before) (c .before .slice-known26 .given)) (c .flag-of)
+          (c : After-flag-of) → s84 .gives (m51 (c .before .before) (c .before .list .given))
+      After-flag-of·gave = λ c. Called.given ps·2 r·2 (claims· .5) T84 (Bool.bFld 25 ((Syntax.field 2) ∷ []) 16 λ x. Answer.struct .as-values x .1 .1 .0, tt) (m51 (c .before .before) (c .before .list .given)) (c .flag-of)
 
-      abbrev pub m74 :
-          (before : After-slice-known26) →
-          (given : s114 .gives (m72 (before .before) (before .slice-known26 .given))) →
-          Typed.Mo T117
-      m74 = λ before given. s115 (m73 before given)
+      abbrev pub m53 :
+          (before : After-list) →
+          (given : s84 .gives (m51 (before .before) (before .list .given))) →
+          Typed.Mo T87
+      m53 = λ before given. s85 (m52 before given)
 
-      abbrev pub m75 :
-          (before : After-slice-known26) →
-          (given : s114 .gives (m72 (before .before) (before .slice-known26 .given))) →
-          Typed.Mo T118
-      m75 = λ before given. s116 (m74 before given)
+      abbrev pub m54 :
+          (before : After-list) →
+          (given : s84 .gives (m51 (before .before) (before .list .given))) →
+          Typed.Mo T88
+      m54 = λ before given. s86 (m53 before given)
 
       abbrev pub Need-count-or-refusal-requires : Type 0
-      Need-count-or-refusal-requires = (c : After-flag-of) → s117 .asks (m75 (c .before) (After-flag-of·gave c))
+      Need-count-or-refusal-requires = (c : After-flag-of) → s87 .asks (m54 (c .before) (After-flag-of·gave c))
 
-      abbrev pub m76 :
+      abbrev pub m55 :
           (before : After-flag-of) →
-          (given : s117 .gives (m75 (before .before) (After-flag-of·gave before))) →
-          Typed.Mo T119
-      m76 = λ before given. s117 .next (m75 (before .before) (After-flag-of·gave before)) given
+          (given : s87 .gives (m54 (before .before) (After-flag-of·gave before))) →
+          Typed.Mo T89
+      m55 = λ before given. s87 .next (m54 (before .before) (After-flag-of·gave before)) given
 
       module _ (before· : After-flag-of) where
         abbrev pub After-count-or-refusal·own : Type 0
-        After-count-or-refusal·own = Called.Called ps·3 r·3 (claims· .7) T118 (Num.vFld 28 ((Syntax.field 0) ∷ []) 0 λ x. Answer.struct .as-values x .0, (Num.vFld 28 ((Syntax.field 1) ∷ []) 8 λ x. Answer.struct .as-values x .1 .0, tt)) (m75 (before· .before) (After-flag-of·gave before·))
+        After-count-or-refusal·own = Called.Called ps·3 r·3 (claims· .7) T88 (Num.vFld 25 ((Syntax.field 0) ∷ []) 0 λ x. Answer.struct .as-values x .0, (Num.vFld 25 ((Syntax.field 1) ∷ []) 8 λ x. Answer.struct .as-values x .1 .0, tt)) (m54 (before· .before) (After-flag-of·gave before·))
 
       pub record After-count-or-refusal : Type 0 where
         pub before : After-flag-of
@@ -4607,119 +3637,110 @@ module _ (claims· : Claims) where
 
       abbrev pub After-count-or-refusal·gave :
           (c : After-count-or-refusal) →
-          s117 .gives (m75 (c .before .before) (After-flag-of·gave (c .before)))
-      After-count-or-refusal·gave = λ c. Called.given ps·3 r·3 (claims· .7) T118 (Num.vFld 28 ((Syntax.field 0) ∷ []) 0 λ x. Answer.struct .as-values x .0, (Num.vFld 28 ((Syntax.field 1) ∷ []) 8 λ x. Answer.struct .as-values x .1 .0, tt)) (m75 (c .before .before) (After-flag-of·gave (c .before))) (c .count-or-refusal)
+          s87 .gives (m54 (c .before .before) (After-flag-of·gave (c .before)))
+      After-count-or-refusal·gave = λ c. Called.given ps·3 r·3 (claims· .7) T88 (Num.vFld 25 ((Syntax.field 0) ∷ []) 0 λ x. Answer.struct .as-values x .0, (Num.vFld 25 ((Syntax.field 1) ∷ []) 8 λ x. Answer.struct .as-values x .1 .0, tt)) (m54 (c .before .before) (After-flag-of·gave (c .before))) (c .count-or-refusal)
 
-      abbrev pub m77 :
+      abbrev pub m56 :
           (before : After-flag-of) →
-          (given : s117 .gives (m75 (before .before) (After-flag-of·gave before))) →
-          Typed.Mo T120
-      m77 = λ before given. s118 (m76 before given)
+          (given : s87 .gives (m54 (before .before) (After-flag-of·gave before))) →
+          Typed.Mo T90
+      m56 = λ before given. s88 (m55 before given)
 
-      abbrev pub m78 :
+      abbrev pub m57 :
           (before : After-flag-of) →
-          (given : s117 .gives (m75 (before .before) (After-flag-of·gave before))) →
-          Typed.Mo T121
-      m78 = λ before given. s119 (m77 before given)
+          (given : s87 .gives (m54 (before .before) (After-flag-of·gave before))) →
+          Typed.Mo T91
+      m57 = λ before given. s89 (m56 before given)
 
-      abbrev pub m79 :
+      abbrev pub m58 :
           (before : After-flag-of) →
-          (given : s117 .gives (m75 (before .before) (After-flag-of·gave before))) →
-          Typed.Mo T122
-      m79 = λ before given. s120 (m78 before given)
+          (given : s87 .gives (m54 (before .before) (After-flag-of·gave before))) →
+          Typed.Mo T92
+      m58 = λ before given. s90 (m57 before given)
 
-      abbrev pub m80 :
+      abbrev pub m59 :
           (before : After-flag-of) →
-          (given : s117 .gives (m75 (before .before) (After-flag-of·gave before))) →
-          Typed.Mo T123
-      m80 = λ before given. s121 (m79 before given)
+          (given : s87 .gives (m54 (before .before) (After-flag-of·gave before))) →
+          Typed.Mo T93
+      m59 = λ before given. s91 (m58 before given)
 
-      abbrev pub m81 :
+      abbrev pub m60 :
           (before : After-flag-of) →
-          (given : s117 .gives (m75 (before .before) (After-flag-of·gave before))) →
-          Typed.Mo T124
-      m81 = λ before given. s122 (m80 before given)
+          (given : s87 .gives (m54 (before .before) (After-flag-of·gave before))) →
+          Typed.Mo T94
+      m60 = λ before given. s92 (m59 before given)
 
-      abbrev pub m82 :
+      abbrev pub m61 :
           (before : After-flag-of) →
-          (given : s117 .gives (m75 (before .before) (After-flag-of·gave before))) →
-          Typed.Mo T125
-      m82 = λ before given. s123 (m81 before given)
+          (given : s87 .gives (m54 (before .before) (After-flag-of·gave before))) →
+          Typed.Mo T95
+      m61 = λ before given. s93 (m60 before given)
 
-      abbrev pub m83 :
+      abbrev pub m62 :
           (before : After-flag-of) →
-          (given : s117 .gives (m75 (before .before) (After-flag-of·gave before))) →
-          Typed.Mo T126
-      m83 = λ before given. s124 (m82 before given)
+          (given : s87 .gives (m54 (before .before) (After-flag-of·gave before))) →
+          Typed.Mo T96
+      m62 = λ before given. s94 (m61 before given)
 
-      abbrev pub m84 :
+      abbrev pub m63 :
           (before : After-flag-of) →
-          (given : s117 .gives (m75 (before .before) (After-flag-of·gave before))) →
-          Typed.Mo T127
-      m84 = λ before given. s125 (m83 before given)
+          (given : s87 .gives (m54 (before .before) (After-flag-of·gave before))) →
+          Typed.Mo T97
+      m63 = λ before given. s95 (m62 before given)
 
-      abbrev pub m85 :
+      abbrev pub m64 :
           (before : After-flag-of) →
-          (given : s117 .gives (m75 (before .before) (After-flag-of·gave before))) →
-          Typed.Mo T128
-      m85 = λ before given. s126 (m84 before given)
+          (given : s87 .gives (m54 (before .before) (After-flag-of·gave before))) →
+          Typed.Mo T98
+      m64 = λ before given. s96 (m63 before given)
 
-      abbrev pub m86 :
+      abbrev pub m65 :
           (before : After-flag-of) →
-          (given : s117 .gives (m75 (before .before) (After-flag-of·gave before))) →
-          Typed.Mo T129
-      m86 = λ before given. s127 (m85 before given)
+          (given : s87 .gives (m54 (before .before) (After-flag-of·gave before))) →
+          Typed.Mo T99
+      m65 = λ before given. s97 (m64 before given)
 
-      abbrev pub m87 :
+      abbrev pub m66 :
           (before : After-flag-of) →
-          (given : s117 .gives (m75 (before .before) (After-flag-of·gave before))) →
-          Typed.Mo T130
-      m87 = λ before given. s128 (m86 before given)
+          (given : s87 .gives (m54 (before .before) (After-flag-of·gave before))) →
+          Typed.Mo T100
+      m66 = λ before given. s98 (m65 before given)
 
       abbrev pub Need-same-length : Type 0
-      Need-same-length = (c : After-count-or-refusal) → MutSlice.SameLen (Row.get 12 (T130 .locals) (m87 (c .before) (After-count-or-refusal·gave c))) (dens (c .before .before .before .before .before .before .before .before .before .before .before .before .before .before .before .before .before .before .before .before .before .before .before .before .before .before .before .before .before .before .before .before .before .before .before .before .before .before .before .before .before .before .before .before .before .before .before .before .before .before .before .before .before .before .before .before .before .before .before .κs) (c .before .before .before .before .before .before .before .before .before .before .before .before .before .before .before .before .before .before .before .before .before .before .before .before .before .before .before .before .before .before .before .before .before .before .before .before .before .before .before .before .before .before .before .before .before .before .before .before .before .before .before .before .before .before .before .before .before .before .before .args) .1 .1 .1 .1 .1 .1 .1 .1 .1 .1 .1 .0)
+      Need-same-length = (c : After-count-or-refusal) → MutSlice.SameLen (Row.get 12 (T100 .locals) (m66 (c .before) (After-count-or-refusal·gave c))) (dens (c .before .before .before .before .before .before .before .before .before .before .before .before .before .before .before .before .before .before .before .before .before .before .before .before .before .before .before .before .before .before .before .before .before .before .before .before .before .before .before .before .before .κs) (c .before .before .before .before .before .before .before .before .before .before .before .before .before .before .before .before .before .before .before .before .before .before .before .before .before .before .before .before .before .before .before .before .before .before .before .before .before .before .before .before .before .args) .1 .1 .1 .1 .1 .1 .1 .1 .1 .1 .1 .0)
 
       abbrev pub Need-same-length-2 : Type 0
-      Need-same-length-2 = (c : After-count-or-refusal) → MutSlice.SameLen (Row.get 13 (T130 .locals) (m87 (c .before) (After-count-or-refusal·gave c))) (dens (c .before .before .before .before .before .before .before .before .before .before .before .before .before .before .before .before .before .before .before .before .before .before .before .before .before .before .before .before .before .before .before .before .before .before .before .before .before .before .before .before .before .before .before .before .before .before .before .before .before .before .before .before .before .before .before .before .before .before .before .κs) (c .before .before .before .before .before .before .before .before .before .before .before .before .before .before .before .before .before .before .before .before .before .before .before .before .before .before .before .before .before .before .before .before .before .before .before .before .before .before .before .before .before .before .before .before .before .before .before .before .before .before .before .before .before .before .before .before .before .before .before .args) .1 .1 .1 .1 .1 .1 .1 .1 .1 .1 .1 .1 .0)
+      Need-same-length-2 = (c : After-count-or-refusal) → MutSlice.SameLen (Row.get 13 (T100 .locals) (m66 (c .before) (After-count-or-refusal·gave c))) (dens (c .before .before .before .before .before .before .before .before .before .before .before .before .before .before .before .before .before .before .before .before .before .before .before .before .before .before .before .before .before .before .before .before .before .before .before .before .before .before .before .before .before .κs) (c .before .before .before .before .before .before .before .before .before .before .before .before .before .before .before .before .before .before .before .before .before .before .before .before .before .before .before .before .before .before .before .before .before .before .before .before .before .before .before .before .before .args) .1 .1 .1 .1 .1 .1 .1 .1 .1 .1 .1 .1 .0)
 
       abbrev pub Need-same-length-3 : Type 0
-      Need-same-length-3 = (c : After-count-or-refusal) → MutSlice.SameLen (Row.get 14 (T130 .locals) (m87 (c .before) (After-count-or-refusal·gave c))) (dens (c .before .before .before .before .before .before .before .before .before .before .before .before .before .before .before .before .before .before .before .before .before .before .before .before .before .before .before .before .before .before .before .before .before .before .before .before .before .before .before .before .before .before .before .before .before .before .before .before .before .before .before .before .before .before .before .before .before .before .before .κs) (c .before .before .before .before .before .before .before .before .before .before .before .before .before .before .before .before .before .before .before .before .before .before .before .before .before .before .before .before .before .before .before .before .before .before .before .before .before .before .before .before .before .before .before .before .before .before .before .before .before .before .before .before .before .before .before .before .before .before .before .args) .1 .1 .1 .1 .1 .1 .1 .1 .1 .1 .1 .1 .1 .0)
+      Need-same-length-3 = (c : After-count-or-refusal) → MutSlice.SameLen (Row.get 14 (T100 .locals) (m66 (c .before) (After-count-or-refusal·gave c))) (dens (c .before .before .before .before .before .before .before .before .before .before .before .before .before .before .before .before .before .before .before .before .before .before .before .before .before .before .before .before .before .before .before .before .before .before .before .before .before .before .before .before .before .κs) (c .before .before .before .before .before .before .before .before .before .before .before .before .before .before .before .before .before .before .before .before .before .before .before .before .before .before .before .before .before .before .before .before .before .before .before .before .before .before .before .before .before .args) .1 .1 .1 .1 .1 .1 .1 .1 .1 .1 .1 .1 .1 .0)
 
       abbrev pub Need-same-length-4 : Type 0
-      Need-same-length-4 = (c : After-count-or-refusal) → MutSlice.SameLen (Row.get 15 (T130 .locals) (m87 (c .before) (After-count-or-refusal·gave c))) (dens (c .before .before .before .before .before .before .before .before .before .before .before .before .before .before .before .before .before .before .before .before .before .before .before .before .before .before .before .before .before .before .before .before .before .before .before .before .before .before .before .before .before .before .before .before .before .before .before .before .before .before .before .before .before .before .before .before .before .before .before .κs) (c .before .before .before .before .before .before .before .before .before .before .before .before .before .before .before .before .before .before .before .before .before .before .before .before .before .before .before .before .before .before .before .before .before .before .before .before .before .before .before .before .before .before .before .before .before .before .before .before .before .before .before .before .before .before .before .before .before .before .before .args) .1 .1 .1 .1 .1 .1 .1 .1 .1 .1 .1 .1 .1 .1 .0)
+      Need-same-length-4 = (c : After-count-or-refusal) → MutSlice.SameLen (Row.get 15 (T100 .locals) (m66 (c .before) (After-count-or-refusal·gave c))) (dens (c .before .before .before .before .before .before .before .before .before .before .before .before .before .before .before .before .before .before .before .before .before .before .before .before .before .before .before .before .before .before .before .before .before .before .before .before .before .before .before .before .before .κs) (c .before .before .before .before .before .before .before .before .before .before .before .before .before .before .before .before .before .before .before .before .before .before .before .before .before .before .before .before .before .before .before .before .before .before .before .before .before .before .before .before .before .args) .1 .1 .1 .1 .1 .1 .1 .1 .1 .1 .1 .1 .1 .1 .0)
 
       abbrev pub Need-same-length-5 : Type 0
-      Need-same-length-5 = (c : After-count-or-refusal) → MutSlice.SameLen (Row.get 16 (T130 .locals) (m87 (c .before) (After-count-or-refusal·gave c))) (dens (c .before .before .before .before .before .before .before .before .before .before .before .before .before .before .before .before .before .before .before .before .before .before .before .before .before .before .before .before .before .before .before .before .before .before .before .before .before .before .before .before .before .before .before .before .before .before .before .before .before .before .before .before .before .before .before .before .before .before .before .κs) (c .before .before .before .before .before .before .before .before .before .before .before .before .before .before .before .before .before .before .before .before .before .before .before .before .before .before .before .before .before .before .before .before .before .before .before .before .before .before .before .before .before .before .before .before .before .before .before .before .before .before .before .before .before .before .before .before .before .before .before .args) .1 .1 .1 .1 .1 .1 .1 .1 .1 .1 .1 .1 .1 .1 .1 .0)
+      Need-same-length-5 = (c : After-count-or-refusal) → MutSlice.SameLen (Row.get 16 (T100 .locals) (m66 (c .before) (After-count-or-refusal·gave c))) (dens (c .before .before .before .before .before .before .before .before .before .before .before .before .before .before .before .before .before .before .before .before .before .before .before .before .before .before .before .before .before .before .before .before .before .before .before .before .before .before .before .before .before .κs) (c .before .before .before .before .before .before .before .before .before .before .before .before .before .before .before .before .before .before .before .before .before .before .before .before .before .before .before .before .before .before .before .before .before .before .before .before .before .before .before .before .before .args) .1 .1 .1 .1 .1 .1 .1 .1 .1 .1 .1 .1 .1 .1 .1 .0)
 
       abbrev pub Need-same-length-6 : Type 0
-      Need-same-length-6 = (c : After-count-or-refusal) → MutSlice.SameLen (Row.get 17 (T130 .locals) (m87 (c .before) (After-count-or-refusal·gave c))) (dens (c .before .before .before .before .before .before .before .before .before .before .before .before .before .before .before .before .before .before .before .before .before .before .before .before .before .before .before .before .before .before .before .before .before .before .before .before .before .before .before .before .before .before .before .before .before .before .before .before .before .before .before .before .before .before .before .before .before .before .before .κs) (c .before .before .before .before .before .before .before .before .before .before .before .before .before .before .before .before .before .before .before .before .before .before .before .before .before .before .before .before .before .before .before .before .before .before .before .before .before .before .before .before .before .before .before .before .before .before .before .before .before .before .before .before .before .before .before .before .before .before .before .args) .1 .1 .1 .1 .1 .1 .1 .1 .1 .1 .1 .1 .1 .1 .1 .1 .0)
+      Need-same-length-6 = (c : After-count-or-refusal) → MutSlice.SameLen (Row.get 17 (T100 .locals) (m66 (c .before) (After-count-or-refusal·gave c))) (dens (c .before .before .before .before .before .before .before .before .before .before .before .before .before .before .before .before .before .before .before .before .before .before .before .before .before .before .before .before .before .before .before .before .before .before .before .before .before .before .before .before .before .κs) (c .before .before .before .before .before .before .before .before .before .before .before .before .before .before .before .before .before .before .before .before .before .before .before .before .before .before .before .before .before .before .before .before .before .before .before .before .before .before .before .before .before .args) .1 .1 .1 .1 .1 .1 .1 .1 .1 .1 .1 .1 .1 .1 .1 .1 .0)
 
       abbrev pub Need-same-length-7 : Type 0
-      Need-same-length-7 = (c : After-count-or-refusal) → MutSlice.SameLen (Row.get 18 (T130 .locals) (m87 (c .before) (After-count-or-refusal·gave c))) (dens (c .before .before .before .before .before .before .before .before .before .before .before .before .before .before .before .before .before .before .before .before .before .before .before .before .before .before .before .before .before .before .before .before .before .before .before .before .before .before .before .before .before .before .before .before .before .before .before .before .before .before .before .before .before .before .before .before .before .before .before .κs) (c .before .before .before .before .before .before .before .before .before .before .before .before .before .before .before .before .before .before .before .before .before .before .before .before .before .before .before .before .before .before .before .before .before .before .before .before .before .before .before .before .before .before .before .before .before .before .before .before .before .before .before .before .before .before .before .before .before .before .before .args) .1 .1 .1 .1 .1 .1 .1 .1 .1 .1 .1 .1 .1 .1 .1 .1 .1 .0)
+      Need-same-length-7 = (c : After-count-or-refusal) → MutSlice.SameLen (Row.get 18 (T100 .locals) (m66 (c .before) (After-count-or-refusal·gave c))) (dens (c .before .before .before .before .before .before .before .before .before .before .before .before .before .before .before .before .before .before .before .before .before .before .before .before .before .before .before .before .before .before .before .before .before .before .before .before .before .before .before .before .before .κs) (c .before .before .before .before .before .before .before .before .before .before .before .before .before .before .before .before .before .before .before .before .before .before .before .before .before .before .before .before .before .before .before .before .before .before .before .before .before .before .before .before .before .args) .1 .1 .1 .1 .1 .1 .1 .1 .1 .1 .1 .1 .1 .1 .1 .1 .1 .0)
 
       abbrev pub Need-same-length-8 : Type 0
-      Need-same-length-8 = (c : After-count-or-refusal) → MutSlice.SameLen (Row.get 19 (T130 .locals) (m87 (c .before) (After-count-or-refusal·gave c))) (dens (c .before .before .before .before .before .before .before .before .before .before .before .before .before .before .before .before .before .before .before .before .before .before .before .before .before .before .before .before .before .before .before .before .before .before .before .before .before .before .before .before .before .before .before .before .before .before .before .before .before .before .before .before .before .before .before .before .before .before .before .κs) (c .before .before .before .before .before .before .before .before .before .before .before .before .before .before .before .before .before .before .before .before .before .before .before .before .before .before .before .before .before .before .before .before .before .before .before .before .before .before .before .before .before .before .before .before .before .before .before .before .before .before .before .before .before .before .before .before .before .before .before .args) .1 .1 .1 .1 .1 .1 .1 .1 .1 .1 .1 .1 .1 .1 .1 .1 .1 .1 .0)
+      Need-same-length-8 = (c : After-count-or-refusal) → MutSlice.SameLen (Row.get 19 (T100 .locals) (m66 (c .before) (After-count-or-refusal·gave c))) (dens (c .before .before .before .before .before .before .before .before .before .before .before .before .before .before .before .before .before .before .before .before .before .before .before .before .before .before .before .before .before .before .before .before .before .before .before .before .before .before .before .before .before .κs) (c .before .before .before .before .before .before .before .before .before .before .before .before .before .before .before .before .before .before .before .before .before .before .before .before .before .before .before .before .before .before .before .before .before .before .before .before .before .before .before .before .before .args) .1 .1 .1 .1 .1 .1 .1 .1 .1 .1 .1 .1 .1 .1 .1 .1 .1 .1 .0)
 
       abbrev pub Need-same-length-9 : Type 0
-      Need-same-length-9 = (c : After-count-or-refusal) → MutSlice.SameLen (Row.get 20 (T130 .locals) (m87 (c .before) (After-count-or-refusal·gave c))) (dens (c .before .before .before .before .before .before .before .before .before .before .before .before .before .before .before .before .before .before .before .before .before .before .before .before .before .before .before .before .before .before .before .before .before .before .before .before .before .before .before .before .before .before .before .before .before .before .before .before .before .before .before .before .before .before .before .before .before .before .before .κs) (c .before .before .before .before .before .before .before .before .before .before .before .before .before .before .before .before .before .before .before .before .before .before .before .before .before .before .before .before .before .before .before .before .before .before .before .before .before .before .before .before .before .before .before .before .before .before .before .before .before .before .before .before .before .before .before .before .before .before .before .args) .1 .1 .1 .1 .1 .1 .1 .1 .1 .1 .1 .1 .1 .1 .1 .1 .1 .1 .1 .0)
+      Need-same-length-9 = (c : After-count-or-refusal) → MutSlice.SameLen (Row.get 20 (T100 .locals) (m66 (c .before) (After-count-or-refusal·gave c))) (dens (c .before .before .before .before .before .before .before .before .before .before .before .before .before .before .before .before .before .before .before .before .before .before .before .before .before .before .before .before .before .before .before .before .before .before .before .before .before .before .before .before .before .κs) (c .before .before .before .before .before .before .before .before .before .before .before .before .before .before .before .before .before .before .before .before .before .before .before .before .before .before .before .before .before .before .before .before .before .before .before .before .before .before .before .before .before .args) .1 .1 .1 .1 .1 .1 .1 .1 .1 .1 .1 .1 .1 .1 .1 .1 .1 .1 .1 .0)
 
       abbrev pub Need-same-length-10 : Type 0
-      Need-same-length-10 = (c : After-count-or-refusal) → MutSlice.SameLen (Row.get 21 (T130 .locals) (m87 (c .before) (After-count-or-refusal·gave c))) (dens (c .before .before .before .before .before .before .before .before .before .before .before .before .before .before .before .before .before .before .before .before .before .before .before .before .before .before .before .before .before .before .before .before .before .before .before .before .before .before .before .before .before .before .before .before .before .before .before .before .before .before .before .before .before .before .before .before .before .before .before .κs) (c .before .before .before .before .before .before .before .before .before .before .before .before .before .before .before .before .before .before .before .before .before .before .before .before .before .before .before .before .before .before .before .before .before .before .before .before .before .before .before .before .before .before .before .before .before .before .before .before .before .before .before .before .before .before .before .before .before .before .before .args) .1 .1 .1 .1 .1 .1 .1 .1 .1 .1 .1 .1 .1 .1 .1 .1 .1 .1 .1 .1 .0)
+      Need-same-length-10 = (c : After-count-or-refusal) → MutSlice.SameLen (Row.get 21 (T100 .locals) (m66 (c .before) (After-count-or-refusal·gave c))) (dens (c .before .before .before .before .before .before .before .before .before .before .before .before .before .before .before .before .before .before .before .before .before .before .before .before .before .before .before .before .before .before .before .before .before .before .before .before .before .before .before .before .before .κs) (c .before .before .before .before .before .before .before .before .before .before .before .before .before .before .before .before .before .before .before .before .before .before .before .before .before .before .before .before .before .before .before .before .before .before .before .before .before .before .before .before .before .args) .1 .1 .1 .1 .1 .1 .1 .1 .1 .1 .1 .1 .1 .1 .1 .1 .1 .1 .1 .1 .0)
 
       abbrev pub Need-same-length-11 : Type 0
-      Need-same-length-11 = (c : After-count-or-refusal) → MutSlice.SameLen (Row.get 22 (T130 .locals) (m87 (c .before) (After-count-or-refusal·gave c))) (dens (c .before .before .before .before .before .before .before .before .before .before .before .before .before .before .before .before .before .before .before .before .before .before .before .before .before .before .before .before .before .before .before .before .before .before .before .before .before .before .before .before .before .before .before .before .before .before .before .before .before .before .before .before .before .before .before .before .before .before .before .κs) (c .before .before .before .before .before .before .before .before .before .before .before .before .before .before .before .before .before .before .before .before .before .before .before .before .before .before .before .before .before .before .before .before .before .before .before .before .before .before .before .before .before .before .before .before .before .before .before .before .before .before .before .before .before .before .before .before .before .before .before .args) .1 .1 .1 .1 .1 .1 .1 .1 .1 .1 .1 .1 .1 .1 .1 .1 .1 .1 .1 .1 .1 .0)
-
-      abbrev pub Need-same-length-12 : Type 0
-      Need-same-length-12 = (c : After-count-or-refusal) → MutSlice.SameLen (Row.get 23 (T130 .locals) (m87 (c .before) (After-count-or-refusal·gave c))) (dens (c .before .before .before .before .before .before .before .before .before .before .before .before .before .before .before .before .before .before .before .before .before .before .before .before .before .before .before .before .before .before .before .before .before .before .before .before .before .before .before .before .before .before .before .before .before .before .before .before .before .before .before .before .before .before .before .before .before .before .before .κs) (c .before .before .before .before .before .before .before .before .before .before .before .before .before .before .before .before .before .before .before .before .before .before .before .before .before .before .before .before .before .before .before .before .before .before .before .before .before .before .before .before .before .before .before .before .before .before .before .before .before .before .before .before .before .before .before .before .before .before .before .args) .1 .1 .1 .1 .1 .1 .1 .1 .1 .1 .1 .1 .1 .1 .1 .1 .1 .1 .1 .1 .1 .1 .0)
-
-      abbrev pub Need-same-length-13 : Type 0
-      Need-same-length-13 = (c : After-count-or-refusal) → MutSlice.SameLen (Row.get 24 (T130 .locals) (m87 (c .before) (After-count-or-refusal·gave c))) (dens (c .before .before .before .before .before .before .before .before .before .before .before .before .before .before .before .before .before .before .before .before .before .before .before .before .before .before .before .before .before .before .before .before .before .before .before .before .before .before .before .before .before .before .before .before .before .before .before .before .before .before .before .before .before .before .before .before .before .before .before .κs) (c .before .before .before .before .before .before .before .before .before .before .before .before .before .before .before .before .before .before .before .before .before .before .before .before .before .before .before .before .before .before .before .before .before .before .before .before .before .before .before .before .before .before .before .before .before .before .before .before .before .before .before .before .before .before .before .before .before .before .before .args) .1 .1 .1 .1 .1 .1 .1 .1 .1 .1 .1 .1 .1 .1 .1 .1 .1 .1 .1 .1 .1 .1 .1 .0)
-
-      abbrev pub Need-same-length-14 : Type 0
-      Need-same-length-14 = (c : After-count-or-refusal) → MutSlice.SameLen (Row.get 25 (T130 .locals) (m87 (c .before) (After-count-or-refusal·gave c))) (dens (c .before .before .before .before .before .before .before .before .before .before .before .before .before .before .before .before .before .before .before .before .before .before .before .before .before .before .before .before .before .before .before .before .before .before .before .before .before .before .before .before .before .before .before .before .before .before .before .before .before .before .before .before .before .before .before .before .before .before .before .κs) (c .before .before .before .before .before .before .before .before .before .before .before .before .before .before .before .before .before .before .before .before .before .before .before .before .before .before .before .before .before .before .before .before .before .before .before .before .before .before .before .before .before .before .before .before .before .before .before .before .before .before .before .before .before .before .before .before .before .before .before .args) .1 .1 .1 .1 .1 .1 .1 .1 .1 .1 .1 .1 .1 .1 .1 .1 .1 .1 .1 .1 .1 .1 .1 .1 .0)
+      Need-same-length-11 = (c : After-count-or-refusal) → MutSlice.SameLen (Row.get 22 (T100 .locals) (m66 (c .before) (After-count-or-refusal·gave c))) (dens (c .before .before .before .before .before .before .before .before .before .before .before .before .before .before .before .before .before .before .before .before .before .before .before .before .before .before .before .before .before .before .before .before .before .before .before .before .before .before .before .before .before .κs) (c .before .before .before .before .before .before .before .before .before .before .before .before .before .before .before .before .before .before .before .before .before .before .before .before .before .before .before .before .before .before .before .before .before .before .before .before .before .before .before .before .before .args) .1 .1 .1 .1 .1 .1 .1 .1 .1 .1 .1 .1 .1 .1 .1 .1 .1 .1 .1 .1 .1 .0)
 
       abbrev pub Need-returns : Type 0
-      Need-returns = (c : After-count-or-refusal) → Post· (c .before .before .before .before .before .before .before .before .before .before .before .before .before .before .before .before .before .before .before .before .before .before .before .before .before .before .before .before .before .before .before .before .before .before .before .before .before .before .before .before .before .before .before .before .before .before .before .before .before .before .before .before .before .before .before .before .before .before .before .κs) (dens (c .before .before .before .before .before .before .before .before .before .before .before .before .before .before .before .before .before .before .before .before .before .before .before .before .before .before .before .before .before .before .before .before .before .before .before .before .before .before .before .before .before .before .before .before .before .before .before .before .before .before .before .before .before .before .before .before .before .before .before .κs) (c .before .before .before .before .before .before .before .before .before .before .before .before .before .before .before .before .before .before .before .before .before .before .before .before .before .before .before .before .before .before .before .before .before .before .before .before .before .before .before .before .before .before .before .before .before .before .before .before .before .before .before .before .before .before .before .before .before .before .before .args)) (Function.resV r (c .before .before .before .before .before .before .before .before .before .before .before .before .before .before .before .before .before .before .before .before .before .before .before .before .before .before .before .before .before .before .before .before .before .before .before .before .before .before .before .before .before .before .before .before .before .before .before .before .before .before .before .before .before .before .before .before .before .before .before .κs) (m87 (c .before) (After-count-or-refusal·gave c) .0)) (Clauses.atExit (Kinds.endedOf 16 ps r) (c .before .before .before .before .before .before .before .before .before .before .before .before .before .before .before .before .before .before .before .before .before .before .before .before .before .before .before .before .before .before .before .before .before .before .before .before .before .before .before .before .before .before .before .before .before .before .before .before .before .before .before .before .before .before .before .before .before .before .before .κs) (dens (c .before .before .before .before .before .before .before .before .before .before .before .before .before .before .before .before .before .before .before .before .before .before .before .before .before .before .before .before .before .before .before .before .before .before .before .before .before .before .before .before .before .before .before .before .before .before .before .before .before .before .before .before .before .before .before .before .before .before .before .κs) (c .before .before .before .before .before .before .before .before .before .before .before .before .before .before .before .before .before .before .before .before .before .before .before .before .before .before .before .before .before .before .before .before .before .before .before .before .before .before .before .before .before .before .before .before .before .before .before .before .before .before .before .before .before .before .before .before .before .before .before .args)) (Enter.lastsP (c .before .before .before .before .before .before .before .before .before .before .before .before .before .before .before .before .before .before .before .before .before .before .before .before .before .before .before .before .before .before .before .before .before .before .before .before .before .before .before .before .before .before .before .before .before .before .before .before .before .before .before .before .before .before .before .before .before .before .before .κs) 1 ps xs (dens (c .before .before .before .before .before .before .before .before .before .before .before .before .before .before .before .before .before .before .before .before .before .before .before .before .before .before .before .before .before .before .before .before .before .before .before .before .before .before .before .before .before .before .before .before .before .before .before .before .before .before .before .before .before .before .before .before .before .before .before .κs) (c .before .before .before .before .before .before .before .before .before .before .before .before .before .before .before .before .before .before .before .before .before .before .before .before .before .before .before .before .before .before .before .before .before .before .before .before .before .before .before .before .before .before .before .before .before .before .before .before .before .before .before .before .before .before .before .before .before .before .before .args)) (m87 (c .before) (After-count-or-refusal·gave c) .1)))
+      Need-returns = (c : After-count-or-refusal) → Post· (c .before .before .before .before .before .before .before .before .before .before .before .before .before .before .before .before .before .before .before .before .before .before .before .before .before .before .before .before .before .before .before .before .before .before .before .before .before .before .before .before .before .κs) (dens (c .before .before .before .before .before .before .before .before .before .before .before .before .before .before .before .before .before .before .before .before .before .before .before .before .before .before .before .before .before .before .before .before .before .before .before .before .before .before .before .before .before .κs) (c .before .before .before .before .before .before .before .before .before .before .before .before .before .before .before .before .before .before .before .before .before .before .before .before .before .before .before .before .before .before .before .before .before .before .before .before .before .before .before .before .before .args)) (Function.resV r (c .before .before .before .before .before .before .before .before .before .before .before .before .before .before .before .before .before .before .before .before .before .before .before .before .before .before .before .before .before .before .before .before .before .before .before .before .before .before .before .before .before .κs) (m66 (c .before) (After-count-or-refusal·gave c) .0)) (Clauses.atExit (Kinds.endedOf 13 ps r) (c .before .before .before .before .before .before .before .before .before .before .before .before .before .before .before .before .before .before .before .before .before .before .before .before .before .before .before .before .before .before .before .before .before .before .before .before .before .before .before .before .before .κs) (dens (c .before .before .before .before .before .before .before .before .before .before .before .before .before .before .before .before .before .before .before .before .before .before .before .before .before .before .before .before .before .before .before .before .before .before .before .before .before .before .before .before .before .κs) (c .before .before .before .before .before .before .before .before .before .before .before .before .before .before .before .before .before .before .before .before .before .before .before .before .before .before .before .before .before .before .before .before .before .before .before .before .before .before .before .before .before .args)) (Enter.lastsP (c .before .before .before .before .before .before .before .before .before .before .before .before .before .before .before .before .before .before .before .before .before .before .before .before .before .before .before .before .before .before .before .before .before .before .before .before .before .before .before .before .before .κs) 1 ps xs (dens (c .before .before .before .before .before .before .before .before .before .before .before .before .before .before .before .before .before .before .before .before .before .before .before .before .before .before .before .before .before .before .before .before .before .before .before .before .before .before .before .before .before .κs) (c .before .before .before .before .before .before .before .before .before .before .before .before .before .before .before .before .before .before .before .before .before .before .before .before .before .before .before .before .before .before .before .before .before .before .before .before .before .before .before .before .before .args)) (m66 (c .before) (After-count-or-refusal·gave c) .1)))
 
       module _ (options-of-requires : Need-options-of-requires)
           (process-requires : Need-process-requires) (flag-of-requires : Need-flag-of-requires)
@@ -4729,98 +3750,84 @@ module _ (claims· : Claims) where
           (same-length-5 : Need-same-length-5) (same-length-6 : Need-same-length-6)
           (same-length-7 : Need-same-length-7) (same-length-8 : Need-same-length-8)
           (same-length-9 : Need-same-length-9) (same-length-10 : Need-same-length-10)
-          (same-length-11 : Need-same-length-11) (same-length-12 : Need-same-length-12)
-          (same-length-13 : Need-same-length-13) (same-length-14 : Need-same-length-14)
-          (returns : Need-returns) where
+          (same-length-11 : Need-same-length-11) (returns : Need-returns) where
         lay6 :
             (c : After-count-or-refusal) → at11 (W0
             (c .before .before .before .before .before .before .before .before .before .before
             .before .before .before .before .before .before .before .before .before .before .before
             .before .before .before .before .before .before .before .before .before .before .before
-            .before .before .before .before .before .before .before .before .before .before .before
-            .before .before .before .before .before .before .before .before .before .before .before
-            .before .before .before .before .before .κs)
+            .before .before .before .before .before .before .before .before .before .κs)
             (c .before .before .before .before .before .before .before .before .before .before
             .before .before .before .before .before .before .before .before .before .before .before
             .before .before .before .before .before .before .before .before .before .before .before
-            .before .before .before .before .before .before .before .before .before .before .before
-            .before .before .before .before .before .before .before .before .before .before .before
-            .before .before .before .before .before .args)) (m76 (c .before)
-            (After-count-or-refusal·gave c))
-        lay6 = λ c. ((Path'.refl, (tt, (tt, (tt, (tt, (tt, (tt, (tt, (tt, (tt, (tt, (MutSlice.fix-len (Row.get 12 (T130 .locals) (m87 (c .before) (After-count-or-refusal·gave c)) .ptr) (Row.get 12 (T130 .locals) (m87 (c .before) (After-count-or-refusal·gave c)) .name) (Row.get 12 (T130 .locals) (m87 (c .before) (After-count-or-refusal·gave c)) .now) (dens (c .before .before .before .before .before .before .before .before .before .before .before .before .before .before .before .before .before .before .before .before .before .before .before .before .before .before .before .before .before .before .before .before .before .before .before .before .before .before .before .before .before .before .before .before .before .before .before .before .before .before .before .before .before .before .before .before .before .before .before .κs) (c .before .before .before .before .before .before .before .before .before .before .before .before .before .before .before .before .before .before .before .before .before .before .before .before .before .before .before .before .before .before .before .before .before .before .before .before .before .before .before .before .before .before .before .before .before .before .before .before .before .before .before .before .before .before .before .before .before .before .before .args) .1 .1 .1 .1 .1 .1 .1 .1 .1 .1 .1 .0 .now) (same-length record { before = c .before; count-or-refusal = c .count-or-refusal }), (MutSlice.fix-len (Row.get 13 (T130 .locals) (m87 (c .before) (After-count-or-refusal·gave c)) .ptr) (Row.get 13 (T130 .locals) (m87 (c .before) (After-count-or-refusal·gave c)) .name) (Row.get 13 (T130 .locals) (m87 (c .before) (After-count-or-refusal·gave c)) .now) (dens (c .before .before .before .before .before .before .before .before .before .before .before .before .before .before .before .before .before .before .before .before .before .before .before .before .before .before .before .before .before .before .before .before .before .before .before .before .before .before .before .before .before .before .before .before .before .before .before .before .before .before .before .before .before .before .before .before .before .before .before .κs) (c .before .before .before .before .before .before .before .before .before .before .before .before .before .before .before .before .before .before .before .before .before .before .before .before .before .before .before .before .before .before .before .before .before .before .before .before .before .before .before .before .before .before .before .before .before .before .before .before .before .before .before .before .before .before .before .before .before .before .before .args) .1 .1 .1 .1 .1 .1 .1 .1 .1 .1 .1 .1 .0 .now) (same-length-2 record { before = c .before; count-or-refusal = c .count-or-refusal }), (MutSlice.fix-len (Row.get 14 (T130 .locals) (m87 (c .before) (After-count-or-refusal·gave c)) .ptr) (Row.get 14 (T130 .locals) (m87 (c .before) (After-count-or-refusal·gave c)) .name) (Row.get 14 (T130 .locals) (m87 (c .before) (After-count-or-refusal·gave c)) .now) (dens (c .before .before .before .before .before .before .before .before .before .before .before .before .before .before .before .before .before .before .before .before .before .before .before .before .before .before .before .before .before .before .before .before .before .before .before .before .before .before .before .before .before .before .before .before .before .before .before .before .before .before .before .before .before .before .before .before .before .before .before .κs) (c .before .before .before .before .before .before .before .before .before .before .before .before .before .before .before .before .before .before .before .before .before .before .before .before .before .before .before .before .before .before .before .before .before .before .before .before .before .before .before .before .before .before .before .before .before .before .before .before .before .before .before .before .before .before .before .before .before .before .before .args) .1 .1 .1 .1 .1 .1 .1 .1 .1 .1 .1 .1 .1 .0 .now) (same-length-3 record { before = c .before; count-or-refusal = c .count-or-refusal }), (MutSlice.fix-len (Row.get 15 (T130 .locals) (m87 (c .before) (After-count-or-refusal·gave c)) .ptr) (Row.get 15 (T130 .locals) (m87 (c .before) (After-count-or-refusal·gave c)) .name) (Row.get 15 (T130 .locals) (m87 (c .before) (After-count-or-refusal·gave c)) .now) (dens (c .before .before .before .before .before .before .before .before .before .before .before .before .before .before .before .before .before .before .before .before .before .before .before .before .before .before .before .before .before .before .before .before .before .before .before .before .before .before .before .before .before .before .before .before .before .before .before .before .before .before .before .before .before .before .before .before .before .before .before .κs) (c .before .before .before .before .before .before .before .before .before .before .before .before .before .before .before .before .before .before .before .before .before .before .before .before .before .before .before .before .before .before .before .before .before .before .before .before .before .before .before .before .before .before .before .before .before .before .before .before .before .before .before .before .before .before .before .before .before .before .before .args) .1 .1 .1 .1 .1 .1 .1 .1 .1 .1 .1 .1 .1 .1 .0 .now) (same-length-4 record { before = c .before; count-or-refusal = c .count-or-refusal }), (MutSlice.fix-len (Row.get 16 (T130 .locals) (m87 (c .before) (After-count-or-refusal·gave c)) .ptr) (Row.get 16 (T130 .locals) (m87 (c .before) (After-count-or-refusal·gave c)) .name) (Row.get 16 (T130 .locals) (m87 (c .before) (After-count-or-refusal·gave c)) .now) (dens (c .before .before .before .before .before .before .before .before .before .before .before .before .before .before .before .before .before .before .before .before .before .before .before .before .before .before .before .before .before .before .before .before .before .before .before .before .before .before .before .before .before .before .before .before .before .before .before .before .before .before .before .before .before .before .before .before .before .before .before .κs) (c .before .before .before .before .before .before .before .before .before .before .before .before .before .before .before .before .before .before .before .before .before .before .before .before .before .before .before .before .before .before .before .before .before .before .before .before .before .before .before .before .before .before .before .before .before .before .before .before .before .before .before .before .before .before .before .before .before .before .before .args) .1 .1 .1 .1 .1 .1 .1 .1 .1 .1 .1 .1 .1 .1 .1 .0 .now) (same-length-5 record { before = c .before; count-or-refusal = c .count-or-refusal }), (MutSlice.fix-len (Row.get 17 (T130 .locals) (m87 (c .before) (After-count-or-refusal·gave c)) .ptr) (Row.get 17 (T130 .locals) (m87 (c .before) (After-count-or-refusal·gave c)) .name) (Row.get 17 (T130 .locals) (m87 (c .before) (After-count-or-refusal·gave c)) .now) (dens (c .before .before .before .before .before .before .before .before .before .before .before .before .before .before .before .before .before .before .before .before .before .before .before .before .before .before .before .before .before .before .before .before .before .before .before .before .before .before .before .before .before .before .before .before .before .before .before .before .before .before .before .before .before .before .before .before .before .before .before .κs) (c .before .before .before .before .before .before .before .before .before .before .before .before .before .before .before .before .before .before .before .before .before .before .before .before .before .before .before .before .before .before .before .before .before .before .before .before .before .before .before .before .before .before .before .before .before .before .before .before .before .before .before .before .before .before .before .before .before .before .before .args) .1 .1 .1 .1 .1 .1 .1 .1 .1 .1 .1 .1 .1 .1 .1 .1 .0 .now) (same-length-6 record { before = c .before; count-or-refusal = c .count-or-refusal }), (MutSlice.fix-len (Row.get 18 (T130 .locals) (m87 (c .before) (After-count-or-refusal·gave c)) .ptr) (Row.get 18 (T130 .locals) (m87 (c .before) (After-count-or-refusal·gave c)) .name) (Row.get 18 (T130 .locals) (m87 (c .before) (After-count-or-refusal·gave c)) .now) (dens (c .before .before .before .before .before .before .before .before .before .before .before .before .before .before .before .before .before .before .before .before .before .before .before .before .before .before .before .before .before .before .before .before .before .before .before .before .before .before .before .before .before .before .before .before .before .before .before .before .before .before .before .before .before .before .before .before .before .before .before .κs) (c .before .before .before .before .before .before .before .before .before .before .before .before .before .before .before .before .before .before .before .before .before .before .before .before .before .before .before .before .before .before .before .before .before .before .before .before .before .before .before .before .before .before .before .before .before .before .before .before .before .before .before .before .before .before .before .before .before .before .before .args) .1 .1 .1 .1 .1 .1 .1 .1 .1 .1 .1 .1 .1 .1 .1 .1 .1 .0 .now) (same-length-7 record { before = c .before; count-or-refusal = c .count-or-refusal }), (MutSlice.fix-len (Row.get 19 (T130 .locals) (m87 (c .before) (After-count-or-refusal·gave c)) .ptr) (Row.get 19 (T130 .locals) (m87 (c .before) (After-count-or-refusal·gave c)) .name) (Row.get 19 (T130 .locals) (m87 (c .before) (After-count-or-refusal·gave c)) .now) (dens (c .before .before .before .before .before .before .before .before .before .before .before .before .before .before .before .before .before .before .before .before .before .before .before .before .before .before .before .before .before .before .before .before .before .before .before .before .before .before .before .before .before .before .before .before .before .before .before .before .before .before .before .before .before .before .before .before .before .before .before .κs) (c .before .before .before .before .before .before .before .before .before .before .before .before .before .before .before .before .before .before .before .before .before .before .before .before .before .before .before .before .before .before .before .before .before .before .before .before .before .before .before .before .before .before .before .before .before .before .before .before .before .before .before .before .before .before .before .before .before .before .before .args) .1 .1 .1 .1 .1 .1 .1 .1 .1 .1 .1 .1 .1 .1 .1 .1 .1 .1 .0 .now) (same-length-8 record { before = c .before; count-or-refusal = c .count-or-refusal }), (MutSlice.fix-len (Row.get 20 (T130 .locals) (m87 (c .before) (After-count-or-refusal·gave c)) .ptr) (Row.get 20 (T130 .locals) (m87 (c .before) (After-count-or-refusal·gave c)) .name) (Row.get 20 (T130 .locals) (m87 (c .before) (After-count-or-refusal·gave c)) .now) (dens (c .before .before .before .before .before .before .before .before .before .before .before .before .before .before .before .before .before .before .before .before .before .before .before .before .before .before .before .before .before .before .before .before .before .before .before .before .before .before .before .before .before .before .before .before .before .before .before .before .before .before .before .before .before .before .before .before .before .before .before .κs) (c .before .before .before .before .before .before .before .before .before .before .before .before .before .before .before .before .before .before .before .before .before .before .before .before .before .before .before .before .before .before .before .before .before .before .before .before .before .before .before .before .before .before .before .before .before .before .before .before .before .before .before .before .before .before .before .before .before .before .before .args) .1 .1 .1 .1 .1 .1 .1 .1 .1 .1 .1 .1 .1 .1 .1 .1 .1 .1 .1 .0 .now) (same-length-9 record { before = c .before; count-or-refusal = c .count-or-refusal }), (MutSlice.fix-len (Row.get 21 (T130 .locals) (m87 (c .before) (After-count-or-refusal·gave c)) .ptr) (Row.get 21 (T130 .locals) (m87 (c .before) (After-count-or-refusal·gave c)) .name) (Row.get 21 (T130 .locals) (m87 (c .before) (After-count-or-refusal·gave c)) .now) (dens (c .before .before .before .before .before .before .before .before .before .before .before .before .before .before .before .before .before .before .before .before .before .before .before .before .before .before .before .before .before .before .before .before .before .before .before .before .before .before .before .before .before .before .before .before .before .before .before .before .before .before .before .before .before .before .before .before .before .before .before .κs) (c .before .before .before .before .before .before .before .before .before .before .before .before .before .before .before .before .before .before .before .before .before .before .before .before .before .before .before .before .before .before .before .before .before .before .before .before .before .before .before .before .before .before .before .before .before .before .before .before .before .before .before .before .before .before .before .before .before .before .before .args) .1 .1 .1 .1 .1 .1 .1 .1 .1 .1 .1 .1 .1 .1 .1 .1 .1 .1 .1 .1 .0 .now) (same-length-10 record { before = c .before; count-or-refusal = c .count-or-refusal }), (MutSlice.fix-len (Row.get 22 (T130 .locals) (m87 (c .before) (After-count-or-refusal·gave c)) .ptr) (Row.get 22 (T130 .locals) (m87 (c .before) (After-count-or-refusal·gave c)) .name) (Row.get 22 (T130 .locals) (m87 (c .before) (After-count-or-refusal·gave c)) .now) (dens (c .before .before .before .before .before .before .before .before .before .before .before .before .before .before .before .before .before .before .before .before .before .before .before .before .before .before .before .before .before .before .before .before .before .before .before .before .before .before .before .before .before .before .before .before .before .before .before .before .before .before .before .before .before .before .before .before .before .before .before .κs) (c .before .before .before .before .before .before .before .before .before .before .before .before .before .before .before .before .before .before .before .before .before .before .before .before .before .before .before .before .before .before .before .before .before .before .before .before .before .before .before .before .before .before .before .before .before .before .before .before .before .before .before .before .before .before .before .before .before .before .before .args) .1 .1 .1 .1 .1 .1 .1 .1 .1 .1 .1 .1 .1 .1 .1 .1 .1 .1 .1 .1 .1 .0 .now) (same-length-11 record { before = c .before; count-or-refusal = c .count-or-refusal }), (MutSlice.fix-len (Row.get 23 (T130 .locals) (m87 (c .before) (After-count-or-refusal·gave c)) .ptr) (Row.get 23 (T130 .locals) (m87 (c .before) (After-count-or-refusal·gave c)) .name) (Row.get 23 (T130 .locals) (m87 (c .before) (After-count-or-refusal·gave c)) .now) (dens (c .before .before .before .before .before .before .before .before .before .before .before .before .before .before .before .before .before .before .before .before .before .before .before .before .before .before .before .before .before .before .before .before .before .before .before .before .before .before .before .before .before .before .before .before .before .before .before .before .before .before .before .before .before .before .before .before .before .before .before .κs) (c .before .before .before .before .before .before .before .before .before .before .before .before .before .before .before .before .before .before .before .before .before .before .before .before .before .before .before .before .before .before .before .before .before .before .before .before .before .before .before .before .before .before .before .before .before .before .before .before .before .before .before .before .before .before .before .before .before .before .before .args) .1 .1 .1 .1 .1 .1 .1 .1 .1 .1 .1 .1 .1 .1 .1 .1 .1 .1 .1 .1 .1 .1 .0 .now) (same-length-12 record { before = c .before; count-or-refusal = c .count-or-refusal }), (MutSlice.fix-len (Row.get 24 (T130 .locals) (m87 (c .before) (After-count-or-refusal·gave c)) .ptr) (Row.get 24 (T130 .locals) (m87 (c .before) (After-count-or-refusal·gave c)) .name) (Row.get 24 (T130 .locals) (m87 (c .before) (After-count-or-refusal·gave c)) .now) (dens (c .before .before .before .before .before .before .before .before .before .before .before .before .before .before .before .before .before .before .before .before .before .before .before .before .before .before .before .before .before .before .before .before .before .before .before .before .before .before .before .before .before .before .before .before .before .before .before .before .before .before .before .before .before .before .before .before .before .before .before .κs) (c .before .before .before .before .before .before .before .before .before .before .before .before .before .before .before .before .before .before .before .before .before .before .before .before .before .before .before .before .before .before .before .before .before .before .before .before .before .before .before .before .before .before .before .before .before .before .before .before .before .before .before .before .before .before .before .before .before .before .before .args) .1 .1 .1 .1 .1 .1 .1 .1 .1 .1 .1 .1 .1 .1 .1 .1 .1 .1 .1 .1 .1 .1 .1 .0 .now) (same-length-13 record { before = c .before; count-or-refusal = c .count-or-refusal }), (MutSlice.fix-len (Row.get 25 (T130 .locals) (m87 (c .before) (After-count-or-refusal·gave c)) .ptr) (Row.get 25 (T130 .locals) (m87 (c .before) (After-count-or-refusal·gave c)) .name) (Row.get 25 (T130 .locals) (m87 (c .before) (After-count-or-refusal·gave c)) .now) (dens (c .before .before .before .before .before .before .before .before .before .before .before .before .before .before .before .before .before .before .before .before .before .before .before .before .before .before .before .before .before .before .before .before .before .before .before .before .before .before .before .before .before .before .before .before .before .before .before .before .before .before .before .before .before .before .before .before .before .before .before .κs) (c .before .before .before .before .before .before .before .before .before .before .before .before .before .before .before .before .before .before .before .before .before .before .before .before .before .before .before .before .before .before .before .before .before .before .before .before .before .before .before .before .before .before .before .before .before .before .before .before .before .before .before .before .before .before .before .before .before .before .before .args) .1 .1 .1 .1 .1 .1 .1 .1 .1 .1 .1 .1 .1 .1 .1 .1 .1 .1 .1 .1 .1 .1 .1 .1 .0 .now) (same-length-14 record { before = c .before; count-or-refusal = c .count-or-refusal }), (Path'.refl, tt)))))))))))))))))))))))))), returns record { before = c .before; count-or-refusal = c .count-or-refusal })
+            .before .before .before .before .before .before .before .before .before .args)) (m55
+            (c .before) (After-count-or-refusal·gave c))
+        lay6 = λ c. ((Path'.refl, (tt, (tt, (tt, (tt, (tt, (tt, (tt, (tt, (tt, (tt, (MutSlice.fix-len (Row.get 12 (T100 .locals) (m66 (c .before) (After-count-or-refusal·gave c)) .ptr) (Row.get 12 (T100 .locals) (m66 (c .before) (After-count-or-refusal·gave c)) .name) (Row.get 12 (T100 .locals) (m66 (c .before) (After-count-or-refusal·gave c)) .now) (dens (c .before .before .before .before .before .before .before .before .before .before .before .before .before .before .before .before .before .before .before .before .before .before .before .before .before .before .before .before .before .before .before .before .before .before .before .before .before .before .before .before .before .κs) (c .before .before .before .before .before .before .before .before .before .before .before .before .before .before .before .before .before .before .before .before .before .before .before .before .before .before .before .before .before .before .before .before .before .before .before .before .before .before .before .before .before .args) .1 .1 .1 .1 .1 .1 .1 .1 .1 .1 .1 .0 .now) (same-length record { before = c .before; count-or-refusal = c .count-or-refusal }), (MutSlice.fix-len (Row.get 13 (T100 .locals) (m66 (c .before) (After-count-or-refusal·gave c)) .ptr) (Row.get 13 (T100 .locals) (m66 (c .before) (After-count-or-refusal·gave c)) .name) (Row.get 13 (T100 .locals) (m66 (c .before) (After-count-or-refusal·gave c)) .now) (dens (c .before .before .before .before .before .before .before .before .before .before .before .before .before .before .before .before .before .before .before .before .before .before .before .before .before .before .before .before .before .before .before .before .before .before .before .before .before .before .before .before .before .κs) (c .before .before .before .before .before .before .before .before .before .before .before .before .before .before .before .before .before .before .before .before .before .before .before .before .before .before .before .before .before .before .before .before .before .before .before .before .before .before .before .before .before .args) .1 .1 .1 .1 .1 .1 .1 .1 .1 .1 .1 .1 .0 .now) (same-length-2 record { before = c .before; count-or-refusal = c .count-or-refusal }), (MutSlice.fix-len (Row.get 14 (T100 .locals) (m66 (c .before) (After-count-or-refusal·gave c)) .ptr) (Row.get 14 (T100 .locals) (m66 (c .before) (After-count-or-refusal·gave c)) .name) (Row.get 14 (T100 .locals) (m66 (c .before) (After-count-or-refusal·gave c)) .now) (dens (c .before .before .before .before .before .before .before .before .before .before .before .before .before .before .before .before .before .before .before .before .before .before .before .before .before .before .before .before .before .before .before .before .before .before .before .before .before .before .before .before .before .κs) (c .before .before .before .before .before .before .before .before .before .before .before .before .before .before .before .before .before .before .before .before .before .before .before .before .before .before .before .before .before .before .before .before .before .before .before .before .before .before .before .before .before .args) .1 .1 .1 .1 .1 .1 .1 .1 .1 .1 .1 .1 .1 .0 .now) (same-length-3 record { before = c .before; count-or-refusal = c .count-or-refusal }), (MutSlice.fix-len (Row.get 15 (T100 .locals) (m66 (c .before) (After-count-or-refusal·gave c)) .ptr) (Row.get 15 (T100 .locals) (m66 (c .before) (After-count-or-refusal·gave c)) .name) (Row.get 15 (T100 .locals) (m66 (c .before) (After-count-or-refusal·gave c)) .now) (dens (c .before .before .before .before .before .before .before .before .before .before .before .before .before .before .before .before .before .before .before .before .before .before .before .before .before .before .before .before .before .before .before .before .before .before .before .before .before .before .before .before .before .κs) (c .before .before .before .before .before .before .before .before .before .before .before .before .before .before .before .before .before .before .before .before .before .before .before .before .before .before .before .before .before .before .before .before .before .before .before .before .before .before .before .before .before .args) .1 .1 .1 .1 .1 .1 .1 .1 .1 .1 .1 .1 .1 .1 .0 .now) (same-length-4 record { before = c .before; count-or-refusal = c .count-or-refusal }), (MutSlice.fix-len (Row.get 16 (T100 .locals) (m66 (c .before) (After-count-or-refusal·gave c)) .ptr) (Row.get 16 (T100 .locals) (m66 (c .before) (After-count-or-refusal·gave c)) .name) (Row.get 16 (T100 .locals) (m66 (c .before) (After-count-or-refusal·gave c)) .now) (dens (c .before .before .before .before .before .before .before .before .before .before .before .before .before .before .before .before .before .before .before .before .before .before .before .before .before .before .before .before .before .before .before .before .before .before .before .before .before .before .before .before .before .κs) (c .before .before .before .before .before .before .before .before .before .before .before .before .before .before .before .before .before .before .before .before .before .before .before .before .before .before .before .before .before .before .before .before .before .before .before .before .before .before .before .before .before .args) .1 .1 .1 .1 .1 .1 .1 .1 .1 .1 .1 .1 .1 .1 .1 .0 .now) (same-length-5 record { before = c .before; count-or-refusal = c .count-or-refusal }), (MutSlice.fix-len (Row.get 17 (T100 .locals) (m66 (c .before) (After-count-or-refusal·gave c)) .ptr) (Row.get 17 (T100 .locals) (m66 (c .before) (After-count-or-refusal·gave c)) .name) (Row.get 17 (T100 .locals) (m66 (c .before) (After-count-or-refusal·gave c)) .now) (dens (c .before .before .before .before .before .before .before .before .before .before .before .before .before .before .before .before .before .before .before .before .before .before .before .before .before .before .before .before .before .before .before .before .before .before .before .before .before .before .before .before .before .κs) (c .before .before .before .before .before .before .before .before .before .before .before .before .before .before .before .before .before .before .before .before .before .before .before .before .before .before .before .before .before .before .before .before .before .before .before .before .before .before .before .before .before .args) .1 .1 .1 .1 .1 .1 .1 .1 .1 .1 .1 .1 .1 .1 .1 .1 .0 .now) (same-length-6 record { before = c .before; count-or-refusal = c .count-or-refusal }), (MutSlice.fix-len (Row.get 18 (T100 .locals) (m66 (c .before) (After-count-or-refusal·gave c)) .ptr) (Row.get 18 (T100 .locals) (m66 (c .before) (After-count-or-refusal·gave c)) .name) (Row.get 18 (T100 .locals) (m66 (c .before) (After-count-or-refusal·gave c)) .now) (dens (c .before .before .before .before .before .before .before .before .before .before .before .before .before .before .before .before .before .before .before .before .before .before .before .before .before .before .before .before .before .before .before .before .before .before .before .before .before .before .before .before .before .κs) (c .before .before .before .before .before .before .before .before .before .before .before .before .before .before .before .before .before .before .before .before .before .before .before .before .before .before .before .before .before .before .before .before .before .before .before .before .before .before .before .before .before .args) .1 .1 .1 .1 .1 .1 .1 .1 .1 .1 .1 .1 .1 .1 .1 .1 .1 .0 .now) (same-length-7 record { before = c .before; count-or-refusal = c .count-or-refusal }), (MutSlice.fix-len (Row.get 19 (T100 .locals) (m66 (c .before) (After-count-or-refusal·gave c)) .ptr) (Row.get 19 (T100 .locals) (m66 (c .before) (After-count-or-refusal·gave c)) .name) (Row.get 19 (T100 .locals) (m66 (c .before) (After-count-or-refusal·gave c)) .now) (dens (c .before .before .before .before .before .before .before .before .before .before .before .before .before .before .before .before .before .before .before .before .before .before .before .before .before .before .before .before .before .before .before .before .before .before .before .before .before .before .before .before .before .κs) (c .before .before .before .before .before .before .before .before .before .before .before .before .before .before .before .before .before .before .before .before .before .before .before .before .before .before .before .before .before .before .before .before .before .before .before .before .before .before .before .before .before .args) .1 .1 .1 .1 .1 .1 .1 .1 .1 .1 .1 .1 .1 .1 .1 .1 .1 .1 .0 .now) (same-length-8 record { before = c .before; count-or-refusal = c .count-or-refusal }), (MutSlice.fix-len (Row.get 20 (T100 .locals) (m66 (c .before) (After-count-or-refusal·gave c)) .ptr) (Row.get 20 (T100 .locals) (m66 (c .before) (After-count-or-refusal·gave c)) .name) (Row.get 20 (T100 .locals) (m66 (c .before) (After-count-or-refusal·gave c)) .now) (dens (c .before .before .before .before .before .before .before .before .before .before .before .before .before .before .before .before .before .before .before .before .before .before .before .before .before .before .before .before .before .before .before .before .before .before .before .before .before .before .before .before .before .κs) (c .before .before .before .before .before .before .before .before .before .before .before .before .before .before .before .before .before .before .before .before .before .before .before .before .before .before .before .before .before .before .before .before .before .before .before .before .before .before .before .before .before .args) .1 .1 .1 .1 .1 .1 .1 .1 .1 .1 .1 .1 .1 .1 .1 .1 .1 .1 .1 .0 .now) (same-length-9 record { before = c .before; count-or-refusal = c .count-or-refusal }), (MutSlice.fix-len (Row.get 21 (T100 .locals) (m66 (c .before) (After-count-or-refusal·gave c)) .ptr) (Row.get 21 (T100 .locals) (m66 (c .before) (After-count-or-refusal·gave c)) .name) (Row.get 21 (T100 .locals) (m66 (c .before) (After-count-or-refusal·gave c)) .now) (dens (c .before .before .before .before .before .before .before .before .before .before .before .before .before .before .before .before .before .before .before .before .before .before .before .before .before .before .before .before .before .before .before .before .before .before .before .before .before .before .before .before .before .κs) (c .before .before .before .before .before .before .before .before .before .before .before .before .before .before .before .before .before .before .before .before .before .before .before .before .before .before .before .before .before .before .before .before .before .before .before .before .before .before .before .before .before .args) .1 .1 .1 .1 .1 .1 .1 .1 .1 .1 .1 .1 .1 .1 .1 .1 .1 .1 .1 .1 .0 .now) (same-length-10 record { before = c .before; count-or-refusal = c .count-or-refusal }), (MutSlice.fix-len (Row.get 22 (T100 .locals) (m66 (c .before) (After-count-or-refusal·gave c)) .ptr) (Row.get 22 (T100 .locals) (m66 (c .before) (After-count-or-refusal·gave c)) .name) (Row.get 22 (T100 .locals) (m66 (c .before) (After-count-or-refusal·gave c)) .now) (dens (c .before .before .before .before .before .before .before .before .before .before .before .before .before .before .before .before .before .before .before .before .before .before .before .before .before .before .before .before .before .before .before .before .before .before .before .before .before .before .before .before .before .κs) (c .before .before .before .before .before .before .before .before .before .before .before .before .before .before .before .before .before .before .before .before .before .before .before .before .before .before .before .before .before .before .before .before .before .before .before .before .before .before .before .before .before .args) .1 .1 .1 .1 .1 .1 .1 .1 .1 .1 .1 .1 .1 .1 .1 .1 .1 .1 .1 .1 .1 .0 .now) (same-length-11 record { before = c .before; count-or-refusal = c .count-or-refusal }), (Path'.refl, tt))))))))))))))))))))))), returns record { before = c .before; count-or-refusal = c .count-or-refusal })
 
         lay5 :
             (c : After-flag-of) → at14 (W0
             (c .before .before .before .before .before .before .before .before .before .before
             .before .before .before .before .before .before .before .before .before .before .before
             .before .before .before .before .before .before .before .before .before .before .before
+            .before .before .before .before .before .before .before .before .κs)
+            (c .before .before .before .before .before .before .before .before .before .before
+            .before .before .before .before .before .before .before .before .before .before .before
+            .before .before .before .before .before .before .before .before .before .before .before
+            .before .before .before .before .before .before .before .before .args)) (m52
+            (c .before) (After-flag-of·gave c))
+        lay5 = λ c. (count-or-refusal-requires record { before = c .before; flag-of = c .flag-of }, λ g. lay6 record { before = record { before = c .before; flag-of = c .flag-of }; count-or-refusal = Called.called ps·3 r·3 (claims· .7) T88 (Num.vFld 25 ((Syntax.field 0) ∷ []) 0 λ x. Answer.struct .as-values x .0, (Num.vFld 25 ((Syntax.field 1) ∷ []) 8 λ x. Answer.struct .as-values x .1 .0, tt)) (m54 (c .before) (After-flag-of·gave c)) g })
+
+        lay4 :
+            (c : After-slice-known14) → at24 (W0
+            (c .before .before .before .before .before .before .before .before .before .before
             .before .before .before .before .before .before .before .before .before .before .before
             .before .before .before .before .before .before .before .before .before .before .before
             .before .before .before .before .κs)
             (c .before .before .before .before .before .before .before .before .before .before
             .before .before .before .before .before .before .before .before .before .before .before
             .before .before .before .before .before .before .before .before .before .before .before
-            .before .before .before .before .before .before .before .before .before .before .before
-            .before .before .before .before .before .before .before .before .before .before .before
-            .before .before .before .before .args)) (m73 (c .before) (After-flag-of·gave c))
-        lay5 = λ c. (count-or-refusal-requires record { before = c .before; flag-of = c .flag-of }, λ g. lay6 record { before = record { before = c .before; flag-of = c .flag-of }; count-or-refusal = Called.called ps·3 r·3 (claims· .7) T118 (Num.vFld 28 ((Syntax.field 0) ∷ []) 0 λ x. Answer.struct .as-values x .0, (Num.vFld 28 ((Syntax.field 1) ∷ []) 8 λ x. Answer.struct .as-values x .1 .0, tt)) (m75 (c .before) (After-flag-of·gave c)) g })
-
-        lay4 :
-            (c : After-slice-known20) → at39 (W0
-            (c .before .before .before .before .before .before .before .before .before .before
-            .before .before .before .before .before .before .before .before .before .before .before
-            .before .before .before .before .before .before .before .before .before .before .before
-            .before .before .before .before .before .before .before .before .before .before .before
-            .before .before .κs)
-            (c .before .before .before .before .before .before .before .before .before .before
-            .before .before .before .before .before .before .before .before .before .before .before
-            .before .before .before .before .before .before .before .before .before .before .before
-            .before .before .before .before .before .before .before .before .before .before .before
-            .before .before .args)) (m60 (c .before) (c .slice-known20 .given))
-        lay4 = λ c. (Path'.refl, λ g. λ g'. (Path'.refl, λ g''. λ g'3. (Path'.refl, λ g'4. λ g'5. (Path'.refl, λ g'6. λ g'7. (Path'.refl, λ g'8. λ g'9. (Path'.refl, λ g'10. λ g'11. (flag-of-requires record { before = record { before = record { before = record { before = record { before = record { before = record { before = record { before = record { before = record { before = record { before = record { before = record { before = c .before; slice-known20 = c .slice-known20 }; forward-starts = record { given = g } }; slice-known21 = record { given = g' } }; forward-ends = record { given = g'' } }; slice-known22 = record { given = g'3 } }; reverse-starts = record { given = g'4 } }; slice-known23 = record { given = g'5 } }; reverse-ends = record { given = g'6 } }; slice-known24 = record { given = g'7 } }; starts = record { given = g'8 } }; slice-known25 = record { given = g'9 } }; ends = record { given = g'10 } }; slice-known26 = record { given = g'11 } }, λ g'12. lay5 record { before = record { before = record { before = record { before = record { before = record { before = record { before = record { before = record { before = record { before = record { before = record { before = record { before = record { before = c .before; slice-known20 = c .slice-known20 }; forward-starts = record { given = g } }; slice-known21 = record { given = g' } }; forward-ends = record { given = g'' } }; slice-known22 = record { given = g'3 } }; reverse-starts = record { given = g'4 } }; slice-known23 = record { given = g'5 } }; reverse-ends = record { given = g'6 } }; slice-known24 = record { given = g'7 } }; starts = record { given = g'8 } }; slice-known25 = record { given = g'9 } }; ends = record { given = g'10 } }; slice-known26 = record { given = g'11 } }; flag-of = Called.called ps·2 r·2 (claims· .5) T114 (Bool.bFld 28 ((Syntax.field 2) ∷ []) 16 λ x. Answer.struct .as-values x .1 .1 .0, tt) (m72 record { before = record { before = record { before = record { before = record { before = record { before = record { before = record { before = record { before = record { before = record { before = record { before = c .before; slice-known20 = c .slice-known20 }; forward-starts = record { given = g } }; slice-known21 = record { given = g' } }; forward-ends = record { given = g'' } }; slice-known22 = record { given = g'3 } }; reverse-starts = record { given = g'4 } }; slice-known23 = record { given = g'5 } }; reverse-ends = record { given = g'6 } }; slice-known24 = record { given = g'7 } }; starts = record { given = g'8 } }; slice-known25 = record { given = g'9 } }; ends = record { given = g'10 } } g'11) g'12 })))))))
+            .before .before .before .before .args)) (m48 (c .before) (c .slice-known14 .given))
+        lay4 = λ c. (Path'.refl, λ g. (Path'.refl, λ g'. (Path'.refl, λ g''. (flag-of-requires record { before = record { before = record { before = record { before = c .before; slice-known14 = c .slice-known14 }; forward-list = record { given = g } }; reverse-list = record { given = g' } }; list = record { given = g'' } }, λ g'3. lay5 record { before = record { before = record { before = record { before = record { before = c .before; slice-known14 = c .slice-known14 }; forward-list = record { given = g } }; reverse-list = record { given = g' } }; list = record { given = g'' } }; flag-of = Called.called ps·2 r·2 (claims· .5) T84 (Bool.bFld 25 ((Syntax.field 2) ∷ []) 16 λ x. Answer.struct .as-values x .1 .1 .0, tt) (m51 record { before = record { before = record { before = c .before; slice-known14 = c .slice-known14 }; forward-list = record { given = g } }; reverse-list = record { given = g' } } g'') g'3 }))))
 
         lay3 :
-            (c : After-process) → at71 (W0
+            (c : After-process) → at56 (W0
             (c .before .before .before .before .before .before .before .before .before .before
             .before .before .before .before .before .before .before .before .before .before .before
-            .before .before .before .before .before .before .before .before .before .κs)
+            .κs)
             (c .before .before .before .before .before .before .before .before .before .before
             .before .before .before .before .before .before .before .before .before .before .before
-            .before .before .before .before .before .before .before .before .before .args)) (m44
-            (c .before) (After-process·gave c))
-        lay3 = λ c. (Path'.refl, λ g. λ g'. (Path'.refl, λ g''. λ g'3. (Path'.refl, λ g'4. λ g'5. (Path'.refl, λ g'6. λ g'7. (Path'.refl, λ g'8. λ g'9. (Path'.refl, λ g'10. (Path'.refl, λ g'11. λ g'12. (Path'.refl, λ g'13. λ g'14. lay4 record { before = record { before = record { before = record { before = record { before = record { before = record { before = record { before = record { before = record { before = record { before = record { before = record { before = record { before = record { before = record { before = c .before; process = c .process }; ln = record { given = g } }; slice-known14 = record { given = g' } }; f = record { given = g'' } }; slice-known15 = record { given = g'3 } }; queue = record { given = g'4 } }; slice-known16 = record { given = g'5 } }; window-counts = record { given = g'6 } }; slice-known17 = record { given = g'7 } }; scan-counts = record { given = g'8 } }; slice-known18 = record { given = g'9 } }; candidates = record { given = g'10 } }; codes = record { given = g'11 } }; slice-known19 = record { given = g'12 } }; reverse-codes = record { given = g'13 } }; slice-known20 = record { given = g'14 } }))))))))
+            .args)) (m32 (c .before) (After-process·gave c))
+        lay3 = λ c. (Path'.refl, λ g. λ g'. (Path'.refl, λ g''. λ g'3. (Path'.refl, λ g'4. λ g'5. (Path'.refl, λ g'6. λ g'7. (Path'.refl, λ g'8. λ g'9. (Path'.refl, λ g'10. (Path'.refl, λ g'11. λ g'12. (Path'.refl, λ g'13. λ g'14. lay4 record { before = record { before = record { before = record { before = record { before = record { before = record { before = record { before = record { before = record { before = record { before = record { before = record { before = record { before = record { before = record { before = c .before; process = c .process }; ln = record { given = g } }; slice-known8 = record { given = g' } }; f = record { given = g'' } }; slice-known9 = record { given = g'3 } }; queue = record { given = g'4 } }; slice-known10 = record { given = g'5 } }; window-counts = record { given = g'6 } }; slice-known11 = record { given = g'7 } }; scan-counts = record { given = g'8 } }; slice-known12 = record { given = g'9 } }; candidates = record { given = g'10 } }; codes = record { given = g'11 } }; slice-known13 = record { given = g'12 } }; reverse-codes = record { given = g'13 } }; slice-known14 = record { given = g'14 } }))))))))
 
         lay2 :
-            (c : After-process-arg11) → at82 (W0
+            (c : After-process-arg11) → at58 (W0
             (c .before .before .before .before .before .before .before .before .before .before
-            .before .before .before .before .before .before .before .before .before .before .before
-            .before .before .before .before .before .κs)
+            .before .before .before .before .before .before .before .before .before .before .κs)
             (c .before .before .before .before .before .before .before .before .before .before
-            .before .before .before .before .before .before .before .before .before .before .before
-            .before .before .before .before .before .args)) (m36 (c .before)
-            (c .process-arg11 .given))
-        lay2 = λ c. (Path'.refl, λ g. (Path'.refl, λ g'. (Path'.refl, λ g''. (Path'.refl, (process-requires record { before = record { before = record { before = record { before = c .before; process-arg11 = c .process-arg11 }; process-arg12 = record { given = g } }; process-arg13 = record { given = g' } }; process-arg14 = record { given = g'' } }, λ g'3. lay3 record { before = record { before = record { before = record { before = record { before = c .before; process-arg11 = c .process-arg11 }; process-arg12 = record { given = g } }; process-arg13 = record { given = g' } }; process-arg14 = record { given = g'' } }; process = Called.called ps·1 r·1 (claims· .3) T58 (record { pos = 1; ty = y17; ref = λ x. x }, (record { pos = 27; st = List.[]; d = 0; at = λ x. x }, (record { pos = 30; ty = y6; ref = λ x. x }, (record { pos = 32; ty = y6; ref = λ x. x }, (record { pos = 34; ty = y8; ref = λ x. x }, (record { pos = 36; ty = y10; ref = λ x. x }, (record { pos = 38; ty = y10; ref = λ x. x }, (record { pos = 40; ty = y12; ref = λ x. x }, (record { pos = 42; ty = y15; ref = λ x. x }, (record { pos = 44; ty = y15; ref = λ x. x }, (record { pos = 46; ty = y8; ref = λ x. x }, (record { pos = 48; ty = y8; ref = λ x. x }, (record { pos = 50; ty = y8; ref = λ x. x }, (record { pos = 52; ty = y8; ref = λ x. x }, (record { pos = 54; ty = y8; ref = λ x. x }, (record { pos = 56; ty = y8; ref = λ x. x }, tt)))))))))))))))) (m43 record { before = record { before = record { before = c .before; process-arg11 = c .process-arg11 }; process-arg12 = record { given = g } }; process-arg13 = record { given = g' } } g'') g'3 })))))
+            .before .before .before .before .before .before .before .before .before .before .args))
+            (m30 (c .before) (c .process-arg11 .given))
+        lay2 = λ c. (Path'.refl, (process-requires record { before = c .before; process-arg11 = c .process-arg11 }, λ g. lay3 record { before = record { before = c .before; process-arg11 = c .process-arg11 }; process = Called.called ps·1 r·1 (claims· .3) T43 (record { pos = 1; ty = y19; ref = λ x. x }, (record { pos = 24; st = List.[]; d = 0; at = λ x. x }, (record { pos = 27; ty = y6; ref = λ x. x }, (record { pos = 29; ty = y6; ref = λ x. x }, (record { pos = 31; ty = y8; ref = λ x. x }, (record { pos = 33; ty = y10; ref = λ x. x }, (record { pos = 35; ty = y10; ref = λ x. x }, (record { pos = 37; ty = y12; ref = λ x. x }, (record { pos = 39; ty = y15; ref = λ x. x }, (record { pos = 41; ty = y15; ref = λ x. x }, (record { pos = 43; ty = y17; ref = λ x. x }, (record { pos = 45; ty = y17; ref = λ x. x }, (record { pos = 47; ty = y17; ref = λ x. x }, tt))))))))))))) (m31 (c .before) (c .process-arg11 .given)) g }))
 
         lay1 :
-            (c : After-options-of) → at114 (W0
-            (c .before .before .before .before .before .before .before .before .before .before
-            .before .before .before .before .before .κs)
-            (c .before .before .before .before .before .before .before .before .before .before
-            .before .before .before .before .before .args)) (m15 (c .before) (After-options-of·gave
-            c))
+            (c : After-options-of) →
+            at90
+            (W0
+            (c .before .before .before .before .before .before .before .before .before .κs)
+            (c .before .before .before .before .before .before .before .before .before .args))
+            (m9 (c .before) (After-options-of·gave c))
         lay1 = λ c. λ g. (Path'.refl, λ g'. (Path'.refl, λ g''. (Path'.refl, λ g'3. (Path'.refl, λ g'4. (Path'.refl, λ g'5. (Path'.refl, λ g'6. (Path'.refl, λ g'7. (Path'.refl, λ g'8. (Path'.refl, λ g'9. (Path'.refl, λ g'10. lay2 record { before = record { before = record { before = record { before = record { before = record { before = record { before = record { before = record { before = record { before = record { before = record { before = c .before; options-of = c .options-of }; process-arg = record { given = g } }; process-arg2 = record { given = g' } }; process-arg3 = record { given = g'' } }; process-arg4 = record { given = g'3 } }; process-arg5 = record { given = g'4 } }; process-arg6 = record { given = g'5 } }; process-arg7 = record { given = g'6 } }; process-arg8 = record { given = g'7 } }; process-arg9 = record { given = g'8 } }; process-arg10 = record { given = g'9 } }; process-arg11 = record { given = g'10 } }))))))))))
 
-        pub laid : (c : Start) → at129 (W0 (c .κs) (c .args)) (m0 (c .κs) (c .args))
-        laid = λ c. λ g. λ g'. λ g''. λ g'3. λ g'4. λ g'5. λ g'6. λ g'7. λ g'8. λ g'9. λ g'10. λ g'11. λ g'12. λ g'13. (options-of-requires record { before = record { before = record { before = record { before = record { before = record { before = record { before = record { before = record { before = record { before = record { before = record { before = record { before = record { before = c; shared-slice-known = record { given = g } }; slice-known = record { given = g' } }; slice-known2 = record { given = g'' } }; slice-known3 = record { given = g'3 } }; slice-known4 = record { given = g'4 } }; slice-known5 = record { given = g'5 } }; slice-known6 = record { given = g'6 } }; slice-known7 = record { given = g'7 } }; slice-known8 = record { given = g'8 } }; slice-known9 = record { given = g'9 } }; slice-known10 = record { given = g'10 } }; slice-known11 = record { given = g'11 } }; slice-known12 = record { given = g'12 } }; slice-known13 = record { given = g'13 } }, λ g'14. lay1 record { before = record { before = record { before = record { before = record { before = record { before = record { before = record { before = record { before = record { before = record { before = record { before = record { before = record { before = record { before = c; shared-slice-known = record { given = g } }; slice-known = record { given = g' } }; slice-known2 = record { given = g'' } }; slice-known3 = record { given = g'3 } }; slice-known4 = record { given = g'4 } }; slice-known5 = record { given = g'5 } }; slice-known6 = record { given = g'6 } }; slice-known7 = record { given = g'7 } }; slice-known8 = record { given = g'8 } }; slice-known9 = record { given = g'9 } }; slice-known10 = record { given = g'10 } }; slice-known11 = record { given = g'11 } }; slice-known12 = record { given = g'12 } }; slice-known13 = record { given = g'13 } }; options-of = Called.called ps·0 r·0 (claims· .1) T15 (Num.vAt 2 λ x. x, (Num.vAt 3 λ x. x, (Float.fAt 4 λ x. x, (Num.vAt 5 λ x. x, (Float.fAt 6 λ x. x, (Num.vAt 7 λ x. x, (Num.vAt 8 λ x. x, (Num.vAt 9 λ x. x, (Num.vAt 10 λ x. x, (Num.vAt 11 λ x. x, tt)))))))))) (m14 record { before = record { before = record { before = record { before = record { before = record { before = record { before = record { before = record { before = record { before = record { before = record { before = record { before = c; shared-slice-known = record { given = g } }; slice-known = record { given = g' } }; slice-known2 = record { given = g'' } }; slice-known3 = record { given = g'3 } }; slice-known4 = record { given = g'4 } }; slice-known5 = record { given = g'5 } }; slice-known6 = record { given = g'6 } }; slice-known7 = record { given = g'7 } }; slice-known8 = record { given = g'8 } }; slice-known9 = record { given = g'9 } }; slice-known10 = record { given = g'10 } }; slice-known11 = record { given = g'11 } }; slice-known12 = record { given = g'12 } } g'13) g'14 })
+        pub laid : (c : Start) → at99 (W0 (c .κs) (c .args)) (m0 (c .κs) (c .args))
+        laid = λ c. λ g. λ g'. λ g''. λ g'3. λ g'4. λ g'5. λ g'6. λ g'7. (options-of-requires record { before = record { before = record { before = record { before = record { before = record { before = record { before = record { before = c; shared-slice-known = record { given = g } }; slice-known = record { given = g' } }; slice-known2 = record { given = g'' } }; slice-known3 = record { given = g'3 } }; slice-known4 = record { given = g'4 } }; slice-known5 = record { given = g'5 } }; slice-known6 = record { given = g'6 } }; slice-known7 = record { given = g'7 } }, λ g'8. lay1 record { before = record { before = record { before = record { before = record { before = record { before = record { before = record { before = record { before = c; shared-slice-known = record { given = g } }; slice-known = record { given = g' } }; slice-known2 = record { given = g'' } }; slice-known3 = record { given = g'3 } }; slice-known4 = record { given = g'4 } }; slice-known5 = record { given = g'5 } }; slice-known6 = record { given = g'6 } }; slice-known7 = record { given = g'7 } }; options-of = Called.called ps·0 r·0 (claims· .1) T9 (Num.vAt 2 λ x. x, (Num.vAt 3 λ x. x, (Float.fAt 4 λ x. x, (Num.vAt 5 λ x. x, (Float.fAt 6 λ x. x, (Num.vAt 7 λ x. x, (Num.vAt 8 λ x. x, (Num.vAt 9 λ x. x, (Num.vAt 10 λ x. x, (Num.vAt 11 λ x. x, tt)))))))))) (m8 record { before = record { before = record { before = record { before = record { before = record { before = record { before = c; shared-slice-known = record { given = g } }; slice-known = record { given = g' } }; slice-known2 = record { given = g'' } }; slice-known3 = record { given = g'3 } }; slice-known4 = record { given = g'4 } }; slice-known5 = record { given = g'5 } }; slice-known6 = record { given = g'6 } } g'7) g'8 })
 
-        module _ (κs : Lifetimes.Lfts 16) (qs : Lifetimes.Shares 16) where
+        module _ (κs : Lifetimes.Lfts 13) (qs : Lifetimes.Shares 13) where
           pub asked :
               (a : Kinds.Dens κs ps) →
               (good : Kinds.GoodsP κs ps a) →
               (pre : Pre· κs a) →
               (bs : List.List Nat.ℕ) →
-              Φ (Any.wantQ 16 ps r xs m κs qs a (Post· κs a)) (Function.init 16 ps r xs m κs qs a)
-          asked = λ a good pre bs. laid record { κs = κs; args = record { sequence = a .0; kmer = a .1 .0; window-size = a .1 .1 .0; score-threshold = a .1 .1 .1 .0; gc-kind = a .1 .1 .1 .1 .0; gc-value = a .1 .1 .1 .1 .1 .0; xdrop-set = a .1 .1 .1 .1 .1 .1 .0; xdrop-length = a .1 .1 .1 .1 .1 .1 .1 .0; min-start-cnt = a .1 .1 .1 .1 .1 .1 .1 .1 .0; approx = a .1 .1 .1 .1 .1 .1 .1 .1 .1 .0; forward-only = a .1 .1 .1 .1 .1 .1 .1 .1 .1 .1 .0; ln = a .1 .1 .1 .1 .1 .1 .1 .1 .1 .1 .1 .0; f = a .1 .1 .1 .1 .1 .1 .1 .1 .1 .1 .1 .1 .0; queue = a .1 .1 .1 .1 .1 .1 .1 .1 .1 .1 .1 .1 .1 .0; window-counts = a .1 .1 .1 .1 .1 .1 .1 .1 .1 .1 .1 .1 .1 .1 .0; scan-counts = a .1 .1 .1 .1 .1 .1 .1 .1 .1 .1 .1 .1 .1 .1 .1 .0; candidates = a .1 .1 .1 .1 .1 .1 .1 .1 .1 .1 .1 .1 .1 .1 .1 .1 .0; codes = a .1 .1 .1 .1 .1 .1 .1 .1 .1 .1 .1 .1 .1 .1 .1 .1 .1 .0; reverse-codes = a .1 .1 .1 .1 .1 .1 .1 .1 .1 .1 .1 .1 .1 .1 .1 .1 .1 .1 .0; forward-starts = a .1 .1 .1 .1 .1 .1 .1 .1 .1 .1 .1 .1 .1 .1 .1 .1 .1 .1 .1 .0; forward-ends = a .1 .1 .1 .1 .1 .1 .1 .1 .1 .1 .1 .1 .1 .1 .1 .1 .1 .1 .1 .1 .0; reverse-starts = a .1 .1 .1 .1 .1 .1 .1 .1 .1 .1 .1 .1 .1 .1 .1 .1 .1 .1 .1 .1 .1 .0; reverse-ends = a .1 .1 .1 .1 .1 .1 .1 .1 .1 .1 .1 .1 .1 .1 .1 .1 .1 .1 .1 .1 .1 .1 .0; starts = a .1 .1 .1 .1 .1 .1 .1 .1 .1 .1 .1 .1 .1 .1 .1 .1 .1 .1 .1 .1 .1 .1 .1 .0; ends = a .1 .1 .1 .1 .1 .1 .1 .1 .1 .1 .1 .1 .1 .1 .1 .1 .1 .1 .1 .1 .1 .1 .1 .1 .0; in-range = a .1 .1 .1 .1 .1 .1 .1 .1 .1 .1 .1 .1 .1 .1 .1 .1 .1 .1 .1 .1 .1 .1 .1 .1 .1 .0 }; good = good; fits = record { kmer = record { fits = good .1 .0 .1 }; window-size = record { fits = good .1 .1 .0 .1 }; gc-kind = record { fits = good .1 .1 .1 .1 .0 .1 }; xdrop-set = record { fits = good .1 .1 .1 .1 .1 .1 .0 .1 }; xdrop-length = record { fits = good .1 .1 .1 .1 .1 .1 .1 .0 .1 }; min-start-cnt = record { fits = good .1 .1 .1 .1 .1 .1 .1 .1 .0 .1 }; approx = record { fits = good .1 .1 .1 .1 .1 .1 .1 .1 .1 .0 .1 }; forward-only = record { fits = good .1 .1 .1 .1 .1 .1 .1 .1 .1 .1 .0 .1 } }; pre = pre }
+              Φ (Any.wantQ 13 ps r xs m κs qs a (Post· κs a)) (Function.init 13 ps r xs m κs qs a)
+          asked = λ a good pre bs. laid record { κs = κs; args = record { sequence = a .0; kmer = a .1 .0; window-size = a .1 .1 .0; score-threshold = a .1 .1 .1 .0; gc-kind = a .1 .1 .1 .1 .0; gc-value = a .1 .1 .1 .1 .1 .0; xdrop-set = a .1 .1 .1 .1 .1 .1 .0; xdrop-length = a .1 .1 .1 .1 .1 .1 .1 .0; min-start-cnt = a .1 .1 .1 .1 .1 .1 .1 .1 .0; approx = a .1 .1 .1 .1 .1 .1 .1 .1 .1 .0; forward-only = a .1 .1 .1 .1 .1 .1 .1 .1 .1 .1 .0; ln = a .1 .1 .1 .1 .1 .1 .1 .1 .1 .1 .1 .0; f = a .1 .1 .1 .1 .1 .1 .1 .1 .1 .1 .1 .1 .0; queue = a .1 .1 .1 .1 .1 .1 .1 .1 .1 .1 .1 .1 .1 .0; window-counts = a .1 .1 .1 .1 .1 .1 .1 .1 .1 .1 .1 .1 .1 .1 .0; scan-counts = a .1 .1 .1 .1 .1 .1 .1 .1 .1 .1 .1 .1 .1 .1 .1 .0; candidates = a .1 .1 .1 .1 .1 .1 .1 .1 .1 .1 .1 .1 .1 .1 .1 .1 .0; codes = a .1 .1 .1 .1 .1 .1 .1 .1 .1 .1 .1 .1 .1 .1 .1 .1 .1 .0; reverse-codes = a .1 .1 .1 .1 .1 .1 .1 .1 .1 .1 .1 .1 .1 .1 .1 .1 .1 .1 .0; forward-list = a .1 .1 .1 .1 .1 .1 .1 .1 .1 .1 .1 .1 .1 .1 .1 .1 .1 .1 .1 .0; reverse-list = a .1 .1 .1 .1 .1 .1 .1 .1 .1 .1 .1 .1 .1 .1 .1 .1 .1 .1 .1 .1 .0; list = a .1 .1 .1 .1 .1 .1 .1 .1 .1 .1 .1 .1 .1 .1 .1 .1 .1 .1 .1 .1 .1 .0; in-range = a .1 .1 .1 .1 .1 .1 .1 .1 .1 .1 .1 .1 .1 .1 .1 .1 .1 .1 .1 .1 .1 .1 .0 }; good = good; fits = record { kmer = record { fits = good .1 .0 .1 }; window-size = record { fits = good .1 .1 .0 .1 }; gc-kind = record { fits = good .1 .1 .1 .1 .0 .1 }; xdrop-set = record { fits = good .1 .1 .1 .1 .1 .1 .0 .1 }; xdrop-length = record { fits = good .1 .1 .1 .1 .1 .1 .1 .0 .1 }; min-start-cnt = record { fits = good .1 .1 .1 .1 .1 .1 .1 .1 .0 .1 }; approx = record { fits = good .1 .1 .1 .1 .1 .1 .1 .1 .1 .0 .1 }; forward-only = record { fits = good .1 .1 .1 .1 .1 .1 .1 .1 .1 .1 .0 .1 } }; pre = pre }
 
         module _ {M : Type 1} (𝓤 : URA.URA M) (H : Wp.Heap 𝓤) (A : Atoms.Atoms 𝓤)
             (W : Kit.Given 𝓤 H A) (𝓣 : Wp.Tables 𝓤 H)
@@ -4842,12 +3849,12 @@ module _ (claims· : Claims) where
             A
             W
             𝓣
-            15
+            12
             ps·1
             r·1
             (claims· .2)
             (claims· .3)
-            "longdust::filled_tables::process")
+            "longdust::calls::process::process")
             (known2 : Plain.Known
             𝓤
             H
@@ -4875,6 +3882,6 @@ module _ (claims· : Claims) where
           pub spec :
               Statement.Triple
               𝓤
-              (Wp.WpFn 𝓤 H (𝓣 .C) (𝓣 .Λ) (Function.fnOf 16 ps r xs m hs body))
-              (Function.plainOf 𝓤 H A 16 ps r Pre· Post·)
-          spec = Plain.t-fn-plain 𝓤 H A W 𝓣 16 ps r xs m hs body (λ κs qs bs. Φ) (λ κs qs bs bd. typed κs qs 𝓤 H A W 𝓣 (known0, known1, known2, known3) bs bd) Pre· Post· asked
+              (Wp.WpFn 𝓤 H (𝓣 .C) (𝓣 .Λ) (Function.fnOf 13 ps r xs m hs body))
+              (Function.plainOf 𝓤 H A 13 ps r Pre· Post·)
+          spec = Plain.t-fn-plain 𝓤 H A W 𝓣 13 ps r xs m hs body (λ κs qs bs. Φ) (λ κs qs bs bd. typed κs qs 𝓤 H A W 𝓣 (known0, known1, known2, known3) bs bd) Pre· Post· asked

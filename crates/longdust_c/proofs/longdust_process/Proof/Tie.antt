@@ -1,6 +1,6 @@
 -- Made by tools/lift from the prover's `Tie` of `longdust_process` over a slice of `[u64; 2]`; not to be edited.
 use Rattle.longdust.proofs.process.Met
-use Rattle.longdust.proofs.FilledTablesProcessReads as Reads
+use Rattle.longdust.proofs.CallsProcessProcessReads as Reads
 use Rattle.longdust.proofs.process.Symbol
 use Rattle.longdust_c.proofs.count_or_refusal.Met as Met'
 use Rattle.longdust_c.proofs.count_or_refusal.Reads as Reads'
@@ -119,78 +119,6 @@ After-slice-known6 = Lts.After-slice-known6 (
 
 abbrev pub After-slice-known7 : Type 0
 After-slice-known7 = Lts.After-slice-known7 (
-  Reads'4.Asked,
-  Reads'4.Learnt,
-  Reads.Asked,
-  Reads.Learnt,
-  Reads''.Asked,
-  Reads''.Learnt,
-  Reads'.Asked,
-  Reads'.Learnt,
-) Reads'3.Pre Reads'3.Post
-
-abbrev pub After-slice-known8 : Type 0
-After-slice-known8 = Lts.After-slice-known8 (
-  Reads'4.Asked,
-  Reads'4.Learnt,
-  Reads.Asked,
-  Reads.Learnt,
-  Reads''.Asked,
-  Reads''.Learnt,
-  Reads'.Asked,
-  Reads'.Learnt,
-) Reads'3.Pre Reads'3.Post
-
-abbrev pub After-slice-known9 : Type 0
-After-slice-known9 = Lts.After-slice-known9 (
-  Reads'4.Asked,
-  Reads'4.Learnt,
-  Reads.Asked,
-  Reads.Learnt,
-  Reads''.Asked,
-  Reads''.Learnt,
-  Reads'.Asked,
-  Reads'.Learnt,
-) Reads'3.Pre Reads'3.Post
-
-abbrev pub After-slice-known10 : Type 0
-After-slice-known10 = Lts.After-slice-known10 (
-  Reads'4.Asked,
-  Reads'4.Learnt,
-  Reads.Asked,
-  Reads.Learnt,
-  Reads''.Asked,
-  Reads''.Learnt,
-  Reads'.Asked,
-  Reads'.Learnt,
-) Reads'3.Pre Reads'3.Post
-
-abbrev pub After-slice-known11 : Type 0
-After-slice-known11 = Lts.After-slice-known11 (
-  Reads'4.Asked,
-  Reads'4.Learnt,
-  Reads.Asked,
-  Reads.Learnt,
-  Reads''.Asked,
-  Reads''.Learnt,
-  Reads'.Asked,
-  Reads'.Learnt,
-) Reads'3.Pre Reads'3.Post
-
-abbrev pub After-slice-known12 : Type 0
-After-slice-known12 = Lts.After-slice-known12 (
-  Reads'4.Asked,
-  Reads'4.Learnt,
-  Reads.Asked,
-  Reads.Learnt,
-  Reads''.Asked,
-  Reads''.Learnt,
-  Reads'.Asked,
-  Reads'.Learnt,
-) Reads'3.Pre Reads'3.Post
-
-abbrev pub After-slice-known13 : Type 0
-After-slice-known13 = Lts.After-slice-known13 (
   Reads'4.Asked,
   Reads'4.Learnt,
   Reads.Asked,
@@ -345,42 +273,6 @@ After-process-arg11 = Lts.After-process-arg11 (
   Reads'.Learnt,
 ) Reads'3.Pre Reads'3.Post
 
-abbrev pub After-process-arg12 : Type 0
-After-process-arg12 = Lts.After-process-arg12 (
-  Reads'4.Asked,
-  Reads'4.Learnt,
-  Reads.Asked,
-  Reads.Learnt,
-  Reads''.Asked,
-  Reads''.Learnt,
-  Reads'.Asked,
-  Reads'.Learnt,
-) Reads'3.Pre Reads'3.Post
-
-abbrev pub After-process-arg13 : Type 0
-After-process-arg13 = Lts.After-process-arg13 (
-  Reads'4.Asked,
-  Reads'4.Learnt,
-  Reads.Asked,
-  Reads.Learnt,
-  Reads''.Asked,
-  Reads''.Learnt,
-  Reads'.Asked,
-  Reads'.Learnt,
-) Reads'3.Pre Reads'3.Post
-
-abbrev pub After-process-arg14 : Type 0
-After-process-arg14 = Lts.After-process-arg14 (
-  Reads'4.Asked,
-  Reads'4.Learnt,
-  Reads.Asked,
-  Reads.Learnt,
-  Reads''.Asked,
-  Reads''.Learnt,
-  Reads'.Asked,
-  Reads'.Learnt,
-) Reads'3.Pre Reads'3.Post
-
 abbrev pub After-process : Type 0
 After-process = Lts.After-process (
   Reads'4.Asked,
@@ -405,8 +297,8 @@ After-ln = Lts.After-ln (
   Reads'.Learnt,
 ) Reads'3.Pre Reads'3.Post
 
-abbrev pub After-slice-known14 : Type 0
-After-slice-known14 = Lts.After-slice-known14 (
+abbrev pub After-slice-known8 : Type 0
+After-slice-known8 = Lts.After-slice-known8 (
   Reads'4.Asked,
   Reads'4.Learnt,
   Reads.Asked,
@@ -429,8 +321,8 @@ After-f = Lts.After-f (
   Reads'.Learnt,
 ) Reads'3.Pre Reads'3.Post
 
-abbrev pub After-slice-known15 : Type 0
-After-slice-known15 = Lts.After-slice-known15 (
+abbrev pub After-slice-known9 : Type 0
+After-slice-known9 = Lts.After-slice-known9 (
   Reads'4.Asked,
   Reads'4.Learnt,
   Reads.Asked,
@@ -453,8 +345,8 @@ After-queue = Lts.After-queue (
   Reads'.Learnt,
 ) Reads'3.Pre Reads'3.Post
 
-abbrev pub After-slice-known16 : Type 0
-After-slice-known16 = Lts.After-slice-known16 (
+abbrev pub After-slice-known10 : Type 0
+After-slice-known10 = Lts.After-slice-known10 (
   Reads'4.Asked,
   Reads'4.Learnt,
   Reads.Asked,
@@ -477,8 +369,8 @@ After-window-counts = Lts.After-window-counts (
   Reads'.Learnt,
 ) Reads'3.Pre Reads'3.Post
 
-abbrev pub After-slice-known17 : Type 0
-After-slice-known17 = Lts.After-slice-known17 (
+abbrev pub After-slice-known11 : Type 0
+After-slice-known11 = Lts.After-slice-known11 (
   Reads'4.Asked,
   Reads'4.Learnt,
   Reads.Asked,
@@ -501,8 +393,8 @@ After-scan-counts = Lts.After-scan-counts (
   Reads'.Learnt,
 ) Reads'3.Pre Reads'3.Post
 
-abbrev pub After-slice-known18 : Type 0
-After-slice-known18 = Lts.After-slice-known18 (
+abbrev pub After-slice-known12 : Type 0
+After-slice-known12 = Lts.After-slice-known12 (
   Reads'4.Asked,
   Reads'4.Learnt,
   Reads.Asked,
@@ -537,8 +429,8 @@ After-codes = Lts.After-codes (
   Reads'.Learnt,
 ) Reads'3.Pre Reads'3.Post
 
-abbrev pub After-slice-known19 : Type 0
-After-slice-known19 = Lts.After-slice-known19 (
+abbrev pub After-slice-known13 : Type 0
+After-slice-known13 = Lts.After-slice-known13 (
   Reads'4.Asked,
   Reads'4.Learnt,
   Reads.Asked,
@@ -561,8 +453,8 @@ After-reverse-codes = Lts.After-reverse-codes (
   Reads'.Learnt,
 ) Reads'3.Pre Reads'3.Post
 
-abbrev pub After-slice-known20 : Type 0
-After-slice-known20 = Lts.After-slice-known20 (
+abbrev pub After-slice-known14 : Type 0
+After-slice-known14 = Lts.After-slice-known14 (
   Reads'4.Asked,
   Reads'4.Learnt,
   Reads.Asked,
@@ -573,8 +465,8 @@ After-slice-known20 = Lts.After-slice-known20 (
   Reads'.Learnt,
 ) Reads'3.Pre Reads'3.Post
 
-abbrev pub After-forward-starts : Type 0
-After-forward-starts = Lts.After-forward-starts (
+abbrev pub After-forward-list : Type 0
+After-forward-list = Lts.After-forward-list (
   Reads'4.Asked,
   Reads'4.Learnt,
   Reads.Asked,
@@ -585,8 +477,8 @@ After-forward-starts = Lts.After-forward-starts (
   Reads'.Learnt,
 ) Reads'3.Pre Reads'3.Post
 
-abbrev pub After-slice-known21 : Type 0
-After-slice-known21 = Lts.After-slice-known21 (
+abbrev pub After-reverse-list : Type 0
+After-reverse-list = Lts.After-reverse-list (
   Reads'4.Asked,
   Reads'4.Learnt,
   Reads.Asked,
@@ -597,116 +489,8 @@ After-slice-known21 = Lts.After-slice-known21 (
   Reads'.Learnt,
 ) Reads'3.Pre Reads'3.Post
 
-abbrev pub After-forward-ends : Type 0
-After-forward-ends = Lts.After-forward-ends (
-  Reads'4.Asked,
-  Reads'4.Learnt,
-  Reads.Asked,
-  Reads.Learnt,
-  Reads''.Asked,
-  Reads''.Learnt,
-  Reads'.Asked,
-  Reads'.Learnt,
-) Reads'3.Pre Reads'3.Post
-
-abbrev pub After-slice-known22 : Type 0
-After-slice-known22 = Lts.After-slice-known22 (
-  Reads'4.Asked,
-  Reads'4.Learnt,
-  Reads.Asked,
-  Reads.Learnt,
-  Reads''.Asked,
-  Reads''.Learnt,
-  Reads'.Asked,
-  Reads'.Learnt,
-) Reads'3.Pre Reads'3.Post
-
-abbrev pub After-reverse-starts : Type 0
-After-reverse-starts = Lts.After-reverse-starts (
-  Reads'4.Asked,
-  Reads'4.Learnt,
-  Reads.Asked,
-  Reads.Learnt,
-  Reads''.Asked,
-  Reads''.Learnt,
-  Reads'.Asked,
-  Reads'.Learnt,
-) Reads'3.Pre Reads'3.Post
-
-abbrev pub After-slice-known23 : Type 0
-After-slice-known23 = Lts.After-slice-known23 (
-  Reads'4.Asked,
-  Reads'4.Learnt,
-  Reads.Asked,
-  Reads.Learnt,
-  Reads''.Asked,
-  Reads''.Learnt,
-  Reads'.Asked,
-  Reads'.Learnt,
-) Reads'3.Pre Reads'3.Post
-
-abbrev pub After-reverse-ends : Type 0
-After-reverse-ends = Lts.After-reverse-ends (
-  Reads'4.Asked,
-  Reads'4.Learnt,
-  Reads.Asked,
-  Reads.Learnt,
-  Reads''.Asked,
-  Reads''.Learnt,
-  Reads'.Asked,
-  Reads'.Learnt,
-) Reads'3.Pre Reads'3.Post
-
-abbrev pub After-slice-known24 : Type 0
-After-slice-known24 = Lts.After-slice-known24 (
-  Reads'4.Asked,
-  Reads'4.Learnt,
-  Reads.Asked,
-  Reads.Learnt,
-  Reads''.Asked,
-  Reads''.Learnt,
-  Reads'.Asked,
-  Reads'.Learnt,
-) Reads'3.Pre Reads'3.Post
-
-abbrev pub After-starts : Type 0
-After-starts = Lts.After-starts (
-  Reads'4.Asked,
-  Reads'4.Learnt,
-  Reads.Asked,
-  Reads.Learnt,
-  Reads''.Asked,
-  Reads''.Learnt,
-  Reads'.Asked,
-  Reads'.Learnt,
-) Reads'3.Pre Reads'3.Post
-
-abbrev pub After-slice-known25 : Type 0
-After-slice-known25 = Lts.After-slice-known25 (
-  Reads'4.Asked,
-  Reads'4.Learnt,
-  Reads.Asked,
-  Reads.Learnt,
-  Reads''.Asked,
-  Reads''.Learnt,
-  Reads'.Asked,
-  Reads'.Learnt,
-) Reads'3.Pre Reads'3.Post
-
-abbrev pub After-ends : Type 0
-After-ends = Lts.After-ends (
-  Reads'4.Asked,
-  Reads'4.Learnt,
-  Reads.Asked,
-  Reads.Learnt,
-  Reads''.Asked,
-  Reads''.Learnt,
-  Reads'.Asked,
-  Reads'.Learnt,
-) Reads'3.Pre Reads'3.Post
-
-abbrev pub After-slice-known26 : Type 0
-After-slice-known26 = Lts.After-slice-known26 (
+abbrev pub After-list : Type 0
+After-list = Lts.After-list (
   Reads'4.Asked,
   Reads'4.Learnt,
   Reads.Asked,
@@ -921,42 +705,6 @@ Need-same-length-11 = Lts.Need-same-length-11 (
   Reads'.Learnt,
 ) Reads'3.Pre Reads'3.Post
 
-abbrev pub Need-same-length-12 : Type 0
-Need-same-length-12 = Lts.Need-same-length-12 (
-  Reads'4.Asked,
-  Reads'4.Learnt,
-  Reads.Asked,
-  Reads.Learnt,
-  Reads''.Asked,
-  Reads''.Learnt,
-  Reads'.Asked,
-  Reads'.Learnt,
-) Reads'3.Pre Reads'3.Post
-
-abbrev pub Need-same-length-13 : Type 0
-Need-same-length-13 = Lts.Need-same-length-13 (
-  Reads'4.Asked,
-  Reads'4.Learnt,
-  Reads.Asked,
-  Reads.Learnt,
-  Reads''.Asked,
-  Reads''.Learnt,
-  Reads'.Asked,
-  Reads'.Learnt,
-) Reads'3.Pre Reads'3.Post
-
-abbrev pub Need-same-length-14 : Type 0
-Need-same-length-14 = Lts.Need-same-length-14 (
-  Reads'4.Asked,
-  Reads'4.Learnt,
-  Reads.Asked,
-  Reads.Learnt,
-  Reads''.Asked,
-  Reads''.Learnt,
-  Reads'.Asked,
-  Reads'.Learnt,
-) Reads'3.Pre Reads'3.Post
-
 abbrev pub Need-returns : Type 0
 Need-returns = Lts.Need-returns (
   Reads'4.Asked,
@@ -986,9 +734,6 @@ module _ {M : Type 1} where
       (answer : Need-same-length-9) →
       (answer : Need-same-length-10) →
       (answer : Need-same-length-11) →
-      (answer : Need-same-length-12) →
-      (answer : Need-same-length-13) →
-      (answer : Need-same-length-14) →
       (answer : Need-returns) →
       Lts.Closed (
         Reads'4.Asked,
@@ -1002,8 +747,7 @@ module _ {M : Type 1} where
       ) Reads'3.Pre Reads'3.Post M
   spec =
       λ answer answer' answer'' answer'3 answer'4 answer'5 answer'6 answer'7 answer'8 answer'9
-      answer'10 answer'11 answer'12 answer'13 answer'14 answer'15 answer'16 answer'17
-      answer'18. Lts.spec (
+      answer'10 answer'11 answer'12 answer'13 answer'14 answer'15. Lts.spec (
         Reads'4.Asked,
         Reads'4.Learnt,
         Reads.Asked,
@@ -1031,9 +775,6 @@ module _ {M : Type 1} where
       answer'13
       answer'14
       answer'15
-      answer'16
-      answer'17
-      answer'18
 
   pub close : Lts.Closed (
     Reads'4.Asked,
@@ -1048,7 +789,7 @@ module _ {M : Type 1} where
   unfolding Code.routine Running.tablesOf
   close =
       λ closed 𝓤 H 𝓜 𝓖 𝓡. Written.close
-      16
+      13
       Kinds.ps
       Kinds.r
       Reads'3.Ghost

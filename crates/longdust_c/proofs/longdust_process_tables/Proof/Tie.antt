@@ -1,6 +1,6 @@
 -- Made by tools/lift from the prover's `Tie` of `longdust_process_tables` over a slice of `[u64; 2]`; not to be edited.
 use Rattle.longdust.proofs.process_tables.Met
-use Rattle.longdust.proofs.LentTablesProcessTablesReads as Reads
+use Rattle.longdust.proofs.CallsProcessTablesProcessTablesReads as Reads
 use Rattle.longdust.proofs.process_tables.Symbol
 use Rattle.longdust_c.proofs.count_or_refusal.Met as Met'
 use Rattle.longdust_c.proofs.count_or_refusal.Reads as Reads'
@@ -119,78 +119,6 @@ After-slice-known4 = Lts.After-slice-known4 (
 
 abbrev pub After-slice-known5 : Type 0
 After-slice-known5 = Lts.After-slice-known5 (
-  Reads'4.Asked,
-  Reads'4.Learnt,
-  Reads.Asked,
-  Reads.Learnt,
-  Reads''.Asked,
-  Reads''.Learnt,
-  Reads'.Asked,
-  Reads'.Learnt,
-) Reads'3.Pre Reads'3.Post
-
-abbrev pub After-slice-known6 : Type 0
-After-slice-known6 = Lts.After-slice-known6 (
-  Reads'4.Asked,
-  Reads'4.Learnt,
-  Reads.Asked,
-  Reads.Learnt,
-  Reads''.Asked,
-  Reads''.Learnt,
-  Reads'.Asked,
-  Reads'.Learnt,
-) Reads'3.Pre Reads'3.Post
-
-abbrev pub After-slice-known7 : Type 0
-After-slice-known7 = Lts.After-slice-known7 (
-  Reads'4.Asked,
-  Reads'4.Learnt,
-  Reads.Asked,
-  Reads.Learnt,
-  Reads''.Asked,
-  Reads''.Learnt,
-  Reads'.Asked,
-  Reads'.Learnt,
-) Reads'3.Pre Reads'3.Post
-
-abbrev pub After-slice-known8 : Type 0
-After-slice-known8 = Lts.After-slice-known8 (
-  Reads'4.Asked,
-  Reads'4.Learnt,
-  Reads.Asked,
-  Reads.Learnt,
-  Reads''.Asked,
-  Reads''.Learnt,
-  Reads'.Asked,
-  Reads'.Learnt,
-) Reads'3.Pre Reads'3.Post
-
-abbrev pub After-slice-known9 : Type 0
-After-slice-known9 = Lts.After-slice-known9 (
-  Reads'4.Asked,
-  Reads'4.Learnt,
-  Reads.Asked,
-  Reads.Learnt,
-  Reads''.Asked,
-  Reads''.Learnt,
-  Reads'.Asked,
-  Reads'.Learnt,
-) Reads'3.Pre Reads'3.Post
-
-abbrev pub After-slice-known10 : Type 0
-After-slice-known10 = Lts.After-slice-known10 (
-  Reads'4.Asked,
-  Reads'4.Learnt,
-  Reads.Asked,
-  Reads.Learnt,
-  Reads''.Asked,
-  Reads''.Learnt,
-  Reads'.Asked,
-  Reads'.Learnt,
-) Reads'3.Pre Reads'3.Post
-
-abbrev pub After-slice-known11 : Type 0
-After-slice-known11 = Lts.After-slice-known11 (
   Reads'4.Asked,
   Reads'4.Learnt,
   Reads.Asked,
@@ -321,42 +249,6 @@ After-process-tables-arg9 = Lts.After-process-tables-arg9 (
   Reads'.Learnt,
 ) Reads'3.Pre Reads'3.Post
 
-abbrev pub After-process-tables-arg10 : Type 0
-After-process-tables-arg10 = Lts.After-process-tables-arg10 (
-  Reads'4.Asked,
-  Reads'4.Learnt,
-  Reads.Asked,
-  Reads.Learnt,
-  Reads''.Asked,
-  Reads''.Learnt,
-  Reads'.Asked,
-  Reads'.Learnt,
-) Reads'3.Pre Reads'3.Post
-
-abbrev pub After-process-tables-arg11 : Type 0
-After-process-tables-arg11 = Lts.After-process-tables-arg11 (
-  Reads'4.Asked,
-  Reads'4.Learnt,
-  Reads.Asked,
-  Reads.Learnt,
-  Reads''.Asked,
-  Reads''.Learnt,
-  Reads'.Asked,
-  Reads'.Learnt,
-) Reads'3.Pre Reads'3.Post
-
-abbrev pub After-process-tables-arg12 : Type 0
-After-process-tables-arg12 = Lts.After-process-tables-arg12 (
-  Reads'4.Asked,
-  Reads'4.Learnt,
-  Reads.Asked,
-  Reads.Learnt,
-  Reads''.Asked,
-  Reads''.Learnt,
-  Reads'.Asked,
-  Reads'.Learnt,
-) Reads'3.Pre Reads'3.Post
-
 abbrev pub After-process-tables : Type 0
 After-process-tables = Lts.After-process-tables (
   Reads'4.Asked,
@@ -381,8 +273,8 @@ After-queue = Lts.After-queue (
   Reads'.Learnt,
 ) Reads'3.Pre Reads'3.Post
 
-abbrev pub After-slice-known12 : Type 0
-After-slice-known12 = Lts.After-slice-known12 (
+abbrev pub After-slice-known6 : Type 0
+After-slice-known6 = Lts.After-slice-known6 (
   Reads'4.Asked,
   Reads'4.Learnt,
   Reads.Asked,
@@ -405,8 +297,8 @@ After-window-counts = Lts.After-window-counts (
   Reads'.Learnt,
 ) Reads'3.Pre Reads'3.Post
 
-abbrev pub After-slice-known13 : Type 0
-After-slice-known13 = Lts.After-slice-known13 (
+abbrev pub After-slice-known7 : Type 0
+After-slice-known7 = Lts.After-slice-known7 (
   Reads'4.Asked,
   Reads'4.Learnt,
   Reads.Asked,
@@ -429,8 +321,8 @@ After-scan-counts = Lts.After-scan-counts (
   Reads'.Learnt,
 ) Reads'3.Pre Reads'3.Post
 
-abbrev pub After-slice-known14 : Type 0
-After-slice-known14 = Lts.After-slice-known14 (
+abbrev pub After-slice-known8 : Type 0
+After-slice-known8 = Lts.After-slice-known8 (
   Reads'4.Asked,
   Reads'4.Learnt,
   Reads.Asked,
@@ -465,8 +357,8 @@ After-codes = Lts.After-codes (
   Reads'.Learnt,
 ) Reads'3.Pre Reads'3.Post
 
-abbrev pub After-slice-known15 : Type 0
-After-slice-known15 = Lts.After-slice-known15 (
+abbrev pub After-slice-known9 : Type 0
+After-slice-known9 = Lts.After-slice-known9 (
   Reads'4.Asked,
   Reads'4.Learnt,
   Reads.Asked,
@@ -489,8 +381,8 @@ After-reverse-codes = Lts.After-reverse-codes (
   Reads'.Learnt,
 ) Reads'3.Pre Reads'3.Post
 
-abbrev pub After-slice-known16 : Type 0
-After-slice-known16 = Lts.After-slice-known16 (
+abbrev pub After-slice-known10 : Type 0
+After-slice-known10 = Lts.After-slice-known10 (
   Reads'4.Asked,
   Reads'4.Learnt,
   Reads.Asked,
@@ -501,8 +393,8 @@ After-slice-known16 = Lts.After-slice-known16 (
   Reads'.Learnt,
 ) Reads'3.Pre Reads'3.Post
 
-abbrev pub After-forward-starts : Type 0
-After-forward-starts = Lts.After-forward-starts (
+abbrev pub After-forward-list : Type 0
+After-forward-list = Lts.After-forward-list (
   Reads'4.Asked,
   Reads'4.Learnt,
   Reads.Asked,
@@ -513,8 +405,8 @@ After-forward-starts = Lts.After-forward-starts (
   Reads'.Learnt,
 ) Reads'3.Pre Reads'3.Post
 
-abbrev pub After-slice-known17 : Type 0
-After-slice-known17 = Lts.After-slice-known17 (
+abbrev pub After-reverse-list : Type 0
+After-reverse-list = Lts.After-reverse-list (
   Reads'4.Asked,
   Reads'4.Learnt,
   Reads.Asked,
@@ -525,116 +417,8 @@ After-slice-known17 = Lts.After-slice-known17 (
   Reads'.Learnt,
 ) Reads'3.Pre Reads'3.Post
 
-abbrev pub After-forward-ends : Type 0
-After-forward-ends = Lts.After-forward-ends (
-  Reads'4.Asked,
-  Reads'4.Learnt,
-  Reads.Asked,
-  Reads.Learnt,
-  Reads''.Asked,
-  Reads''.Learnt,
-  Reads'.Asked,
-  Reads'.Learnt,
-) Reads'3.Pre Reads'3.Post
-
-abbrev pub After-slice-known18 : Type 0
-After-slice-known18 = Lts.After-slice-known18 (
-  Reads'4.Asked,
-  Reads'4.Learnt,
-  Reads.Asked,
-  Reads.Learnt,
-  Reads''.Asked,
-  Reads''.Learnt,
-  Reads'.Asked,
-  Reads'.Learnt,
-) Reads'3.Pre Reads'3.Post
-
-abbrev pub After-reverse-starts : Type 0
-After-reverse-starts = Lts.After-reverse-starts (
-  Reads'4.Asked,
-  Reads'4.Learnt,
-  Reads.Asked,
-  Reads.Learnt,
-  Reads''.Asked,
-  Reads''.Learnt,
-  Reads'.Asked,
-  Reads'.Learnt,
-) Reads'3.Pre Reads'3.Post
-
-abbrev pub After-slice-known19 : Type 0
-After-slice-known19 = Lts.After-slice-known19 (
-  Reads'4.Asked,
-  Reads'4.Learnt,
-  Reads.Asked,
-  Reads.Learnt,
-  Reads''.Asked,
-  Reads''.Learnt,
-  Reads'.Asked,
-  Reads'.Learnt,
-) Reads'3.Pre Reads'3.Post
-
-abbrev pub After-reverse-ends : Type 0
-After-reverse-ends = Lts.After-reverse-ends (
-  Reads'4.Asked,
-  Reads'4.Learnt,
-  Reads.Asked,
-  Reads.Learnt,
-  Reads''.Asked,
-  Reads''.Learnt,
-  Reads'.Asked,
-  Reads'.Learnt,
-) Reads'3.Pre Reads'3.Post
-
-abbrev pub After-slice-known20 : Type 0
-After-slice-known20 = Lts.After-slice-known20 (
-  Reads'4.Asked,
-  Reads'4.Learnt,
-  Reads.Asked,
-  Reads.Learnt,
-  Reads''.Asked,
-  Reads''.Learnt,
-  Reads'.Asked,
-  Reads'.Learnt,
-) Reads'3.Pre Reads'3.Post
-
-abbrev pub After-starts : Type 0
-After-starts = Lts.After-starts (
-  Reads'4.Asked,
-  Reads'4.Learnt,
-  Reads.Asked,
-  Reads.Learnt,
-  Reads''.Asked,
-  Reads''.Learnt,
-  Reads'.Asked,
-  Reads'.Learnt,
-) Reads'3.Pre Reads'3.Post
-
-abbrev pub After-slice-known21 : Type 0
-After-slice-known21 = Lts.After-slice-known21 (
-  Reads'4.Asked,
-  Reads'4.Learnt,
-  Reads.Asked,
-  Reads.Learnt,
-  Reads''.Asked,
-  Reads''.Learnt,
-  Reads'.Asked,
-  Reads'.Learnt,
-) Reads'3.Pre Reads'3.Post
-
-abbrev pub After-ends : Type 0
-After-ends = Lts.After-ends (
-  Reads'4.Asked,
-  Reads'4.Learnt,
-  Reads.Asked,
-  Reads.Learnt,
-  Reads''.Asked,
-  Reads''.Learnt,
-  Reads'.Asked,
-  Reads'.Learnt,
-) Reads'3.Pre Reads'3.Post
-
-abbrev pub After-slice-known22 : Type 0
-After-slice-known22 = Lts.After-slice-known22 (
+abbrev pub After-list : Type 0
+After-list = Lts.After-list (
   Reads'4.Asked,
   Reads'4.Learnt,
   Reads.Asked,
@@ -825,42 +609,6 @@ Need-same-length-9 = Lts.Need-same-length-9 (
   Reads'.Learnt,
 ) Reads'3.Pre Reads'3.Post
 
-abbrev pub Need-same-length-10 : Type 0
-Need-same-length-10 = Lts.Need-same-length-10 (
-  Reads'4.Asked,
-  Reads'4.Learnt,
-  Reads.Asked,
-  Reads.Learnt,
-  Reads''.Asked,
-  Reads''.Learnt,
-  Reads'.Asked,
-  Reads'.Learnt,
-) Reads'3.Pre Reads'3.Post
-
-abbrev pub Need-same-length-11 : Type 0
-Need-same-length-11 = Lts.Need-same-length-11 (
-  Reads'4.Asked,
-  Reads'4.Learnt,
-  Reads.Asked,
-  Reads.Learnt,
-  Reads''.Asked,
-  Reads''.Learnt,
-  Reads'.Asked,
-  Reads'.Learnt,
-) Reads'3.Pre Reads'3.Post
-
-abbrev pub Need-same-length-12 : Type 0
-Need-same-length-12 = Lts.Need-same-length-12 (
-  Reads'4.Asked,
-  Reads'4.Learnt,
-  Reads.Asked,
-  Reads.Learnt,
-  Reads''.Asked,
-  Reads''.Learnt,
-  Reads'.Asked,
-  Reads'.Learnt,
-) Reads'3.Pre Reads'3.Post
-
 abbrev pub Need-returns : Type 0
 Need-returns = Lts.Need-returns (
   Reads'4.Asked,
@@ -888,9 +636,6 @@ module _ {M : Type 1} where
       (answer : Need-same-length-7) →
       (answer : Need-same-length-8) →
       (answer : Need-same-length-9) →
-      (answer : Need-same-length-10) →
-      (answer : Need-same-length-11) →
-      (answer : Need-same-length-12) →
       (answer : Need-returns) →
       Lts.Closed (
         Reads'4.Asked,
@@ -904,7 +649,7 @@ module _ {M : Type 1} where
       ) Reads'3.Pre Reads'3.Post M
   spec =
       λ answer answer' answer'' answer'3 answer'4 answer'5 answer'6 answer'7 answer'8 answer'9
-      answer'10 answer'11 answer'12 answer'13 answer'14 answer'15 answer'16. Lts.spec (
+      answer'10 answer'11 answer'12 answer'13. Lts.spec (
         Reads'4.Asked,
         Reads'4.Learnt,
         Reads.Asked,
@@ -930,9 +675,6 @@ module _ {M : Type 1} where
       answer'11
       answer'12
       answer'13
-      answer'14
-      answer'15
-      answer'16
 
   pub close : Lts.Closed (
     Reads'4.Asked,
@@ -947,7 +689,7 @@ module _ {M : Type 1} where
   unfolding Code.routine Running.tablesOf
   close =
       λ closed 𝓤 H 𝓜 𝓖 𝓡. Written.close
-      16
+      13
       Kinds.ps
       Kinds.r
       Reads'3.Ghost

@@ -12,26 +12,11 @@ entry c = c .before .before .before .before .before .before .before
 abbrev start : tie.After-count-entry → tie.Start
 start c = c .before .before .before .before .before
 
-count-entry-requires : tie.Need-count-entry-requires
-count-entry-requires c κs = search needs
-
-mul-sl : tie.Need-mul-sl
-mul-sl c = search needs
-
-shared-slice-read-sl : tie.Need-shared-slice-read-sl
-shared-slice-read-sl c = search needs
-
-same-length : tie.Need-same-length
-same-length c = search needs
-
 returns : tie.Need-returns
 returns c =
     let n = entry (c .before) in
     let a = start n in
     carries-on (setupOf (a .args .p) (a .args .ln .now) (a .args .f .now)) (a .args .l) _ (a .args .self) _ _ _ (n .count-entry .ensures) (decode-below _ (a .args .entry) (a .pre .0)) true (c .if1 .taken)
-
-same-length-2 : tie.Need-same-length-2
-same-length-2 c = search needs
 
 returns-2 : tie.Need-returns-2
 returns-2 c =
@@ -43,10 +28,10 @@ pub next-spec : {M : Type 1} → statement M
 next-spec =
     tie.close
     (tie.spec
-    count-entry-requires
-    mul-sl
-    shared-slice-read-sl
-    same-length
+    (λ c κs. search needs)
+    (λ c. search needs)
+    (λ c. search needs)
+    (λ c. search needs)
     returns
-    same-length-2
+    (λ c. search needs)
     returns-2)

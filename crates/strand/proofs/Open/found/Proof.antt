@@ -12,53 +12,25 @@ use Rattle.strand.proofs.Open.found.Statement.{statement}
 use Rattle.strand.proofs.Open.found.Tie as tie
 
 returns : tie.Need-returns
-returns c = found-none (c .if1 .taken)
-
-first-letter-requires : tie.Need-first-letter-requires
-first-letter-requires c κs = search needs
-
-close-before-requires : tie.Need-close-before-requires
-close-before-requires c κs = search needs
-
-start-after-requires : tie.Need-start-after-requires
-start-after-requires c κs = search needs
-
-add-self : tie.Need-add-self
-add-self c = search needs
-
-cast-self : tie.Need-cast-self
-cast-self c = search needs
-
-same-length : tie.Need-same-length
-same-length c = search needs
-
-same-length-2 : tie.Need-same-length-2
-same-length-2 c = search needs
+returns c = (found-none (c .if1 .taken), c .before .pre .1 .room)
 
 returns-2 : tie.Need-returns-2
 returns-2 c =
-    let l = c .before .before .before .before .before .before .before in
-    let f = l .before .before .before in
-    let b = f .before .before .before .before in
+    let l = c .before .before .before .before in
+    let f = l .before .before in
+    let b = f .before .before in
     let a = b .args in
     let n = b .pre .0 in
     let fits = st2-fits (a .k) (a .i) (a .len) (a .r) (omega (arith, f .before .if1 .left)) (n .0) (n .1) (n .2) (n .3) in
-    let back = toZ-ofZ (subst (λ (z : ℤ). SFits w64 z) (sym (f .first-letter .ensures)) fits) in
-    found-at (f .before .if1 .left) (f .first-letter .ensures) back back
-    (toZ-ofZ {w = w64} {z = a .self .start} (record { sfits = c .before .before .struct-told .given .0 .1 }))
-    (toZ-ofZ {w = w64} {z = a .self .end} (record { sfits = c .before .struct-told2 .given .1 .0 .1 }))
-    (c .start-after .ensures) (toZ-pos w64 {n = a .i + 1} (omega (arith, n .0))) (l .close-before .ensures)
+    let back = toZ-ofZ (subst (λ (z : ℤ). SFits w64 z) (sym (f .first-letter .ensures)) fits) in (
+      found-at (f .before .if1 .left) (f .first-letter .ensures) back back
+          (toZ-ofZ {w = w64} {z = a .self .start} (record { sfits = c .before .before .struct-told .given .0 .1 }))
+          (toZ-ofZ {w = w64} {z = a .self .end} (record { sfits = c .before .struct-told2 .given .1 .0 .1 }))
+          (c .start-after .ensures) (toZ-pos w64 {n = a .i + 1} (omega (arith, n .0))) (l .close-before .ensures .0),
+      l .close-before .ensures .1,
+    )
 
 pub found-spec : {M : Type 1} → statement M
 found-spec =
     tie.close
-    (tie.spec
-    returns
-    first-letter-requires
-    close-before-requires
-    start-after-requires
-    add-self
-    cast-self
-    same-length
-    same-length-2
-    returns-2)
+    (tie.spec returns (λ c κs. search needs) (λ c κs. search needs) (λ c κs. search needs) (λ c. search needs) (λ c. search needs) (λ c. search needs) returns-2)

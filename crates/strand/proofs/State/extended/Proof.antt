@@ -1,25 +1,22 @@
+use mathlib.Core.Path.{ap, sym}
+use native.Mathlib.Omega.{arith}
 use borrow.Author.Needs.{needs}
-use Rattle.strand.proofs.Searching.{extended-tried, extended-untried}
+use Rattle.strand.specs.declared.Window.{Window}
 use Rattle.strand.proofs.State.extended.Statement.{statement}
 use Rattle.strand.proofs.State.extended.Tie as tie
 
-extend-tried-requires : tie.Need-extend-tried-requires
-extend-tried-requires c κs = search needs
-
-extend-requires : tie.Need-extend-requires
-extend-requires c κs = search needs
-
-same-length : tie.Need-same-length
-same-length c = search needs
+settled-requires : tie.Need-settled-requires
+settled-requires c κs =
+    let x = c .before in
+    let b = x .before in
+    let len = ap (λ (w : Window). w .len) (x .extended .ensures) in
+    ((b .pre .0 .0, omega (arith, len, b .pre .0 .1), omega (arith, len, b .pre .0 .2), b .pre .0 .3), b .pre .1)
 
 returns : tie.Need-returns
 returns c =
-    let x = c .before .before in
-    extended-tried (x .before .before .before .extend-tried .ensures) (x .before .before .if1 .taken) (x .extend .ensures)
-
-returns-2 : tie.Need-returns-2
-returns-2 c = extended-untried (c .before .extend-tried .ensures) (c .if1 .left)
+    let s = c .before in
+    let x = s .before .before in
+    rw (sym (x .extended .ensures)) (s .settled .ensures)
 
 pub extended-spec : {M : Type 1} → statement M
-extended-spec =
-    tie.close (tie.spec extend-tried-requires extend-requires same-length returns returns-2)
+extended-spec = tie.close (tie.spec (λ c κs. search needs) settled-requires (λ c. search needs) returns)

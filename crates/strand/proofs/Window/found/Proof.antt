@@ -3,23 +3,14 @@ use native.Mathlib.Omega.{arith}
 use mir.Syntax.{w64}
 use mir.Facts.{toZ-pos}
 use borrow.Author.Needs.{needs}
-use Rattle.strand.proofs.Hand.{last-found}
+use Rattle.strand.proofs.Hand.{last-q-found}
 use Rattle.strand.proofs.Window.found.Statement.{statement}
 use Rattle.strand.proofs.Window.found.Tie as tie
-
-returns : tie.Need-returns
-returns c = search needs
-
-sub-self : tie.Need-sub-self
-sub-self c = search needs
-
-cast-self : tie.Need-cast-self
-cast-self c = search needs
 
 returns-2 : tie.Need-returns-2
 returns-2 c =
     let b = c .before in
-    last-found (b .args .self) (b .args .r) (c .if1 .left) (toZ-pos w64 {n = b .args .r - 1} (omega arith))
+    last-q-found (b .args .self) (b .args .found) (c .if1 .left) (toZ-pos w64 {n = b .args .found - 1} (omega arith))
 
 pub found-spec : {M : Type 1} → statement M
-found-spec = tie.close (tie.spec returns sub-self cast-self returns-2)
+found-spec = tie.close (tie.spec (λ c. search needs) (λ c. search needs) (λ c. search needs) returns-2)

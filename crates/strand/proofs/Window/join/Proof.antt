@@ -11,9 +11,6 @@ start c = c .before .before .before .before
 inside : (c : tie.After-ring-index) → c .ring-index .result < length (start c .args .queue .now)
 inside c = next-in (start c .pre .1) (start c .pre .0 .0) (c .ring-index .ensures)
 
-ring-index-requires : tie.Need-ring-index-requires
-ring-index-requires c κs = search needs
-
 mul-queue : tie.Need-mul-queue
 mul-queue c = let h = inside c in search needs
 
@@ -26,15 +23,6 @@ sum-with-requires c κs =
     let n = count-room (b .pre .1) (b .pre .0 .0) (b .args .entry / 2) in
     (rw (b .pre .1 .counts-long) (b .pre .0 .1), n .0, n .1)
 
-add-self : tie.Need-add-self
-add-self c = search needs
-
-same-length : tie.Need-same-length
-same-length c = search needs
-
-same-length-2 : tie.Need-same-length-2
-same-length-2 c = search needs
-
 returns : tie.Need-returns
 returns c =
     let s = c .before .before .before in
@@ -46,11 +34,11 @@ pub join-spec : {M : Type 1} → statement M
 join-spec =
     tie.close
     (tie.spec
-    ring-index-requires
+    (λ c κs. search needs)
     mul-queue
     slice-write-queue
     sum-with-requires
-    add-self
-    same-length
-    same-length-2
+    (λ c. search needs)
+    (λ c. search needs)
+    (λ c. search needs)
     returns)

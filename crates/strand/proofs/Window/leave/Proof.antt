@@ -9,9 +9,9 @@ use mir.Facts.{toZ-ofZ}
 use borrow.Author.Needs.{needs}
 use Rattle.letters.specs.Entry.{decode}
 use Rattle.scans.proofs.Windows.{count-in}
-use Rattle.strand.specs.Step.{lastWithout, countsWithout}
+use Rattle.strand.specs.Step.{lastQWithout, countsWithout}
 use Rattle.strand.specs.declared.Window.{Window}
-use Rattle.strand.specs.Kept.{carryWithout}
+use Rattle.strand.specs.Terms.KnownCounts.{carryWithout}
 use Rattle.strand.proofs.Signed.{counts-fall, counts-stay, carry-ends, carry-stays}
 use Rattle.strand.proofs.Moving.{oldest-below, oldest-counted, lessOldest, left}
 use Rattle.strand.proofs.Window.leave.Statement.{statement}
@@ -26,34 +26,28 @@ summed c = c .before .before
 abbrev start-of : tie.After-slice-known3 → tie.Start
 start-of c = start (summed c .before)
 
-last-fits : (c : tie.After-slice-known3) → SFits w64 (start-of c .args .self .last)
+last-fits : (c : tie.After-slice-known3) → SFits w64 (start-of c .args .self .«last_q»)
 last-fits c = record { sfits = summed c .before .before .before .struct-told .given .1 .0 .1 }
 
 -- The window where both ways meet, and the scan counts.
 met-window : (c : tie.Joined1) → let w = start-of (c .before) .args .self in
-    c .if1 .self ≡ lessOldest w (summed (c .before) .sum-without .result) (carryWithout (w .last) (w .carry))
+    c .if1 .self ≡ lessOldest w (summed (c .before) .sum-without .result) (carryWithout (w .«last_q») (w .carry))
 met-window c =
     let w = start-of (c .before) .args .self in
     let by = lessOldest w (summed (c .before) .sum-without .result) in
-    ⊎-elim (λ t. t .6 ∙ ap by (t .5 .ensures ∙ carry-ends (w .last) (w .carry) (last-fits (c .before)) (t .0 .taken))) (λ e. e .1 ∙ ap by (carry-stays (w .last) (w .carry) (e .0 .left)))
+    ⊎-elim (λ t. t .6 ∙ ap by (t .5 .ensures ∙ carry-ends (w .«last_q») (w .carry) (last-fits (c .before)) (t .0 .taken))) (λ e. e .1 ∙ ap by (carry-stays (w .«last_q») (w .carry) (e .0 .left)))
     (c .if1 .came)
 
 met-counts : (c : tie.Joined1) → let a = start-of (c .before) .args in
-    c .if1 .scan-counts ≡ countsWithout (a .self .last) (a .scan-counts .now) (decode (getD (a .queue .now) (a .self .head) 0))
+    c .if1 .scan-counts ≡ countsWithout (a .self .«last_q») (a .scan-counts .now) (decode (getD (a .queue .now) (a .self .head) 0))
 met-counts c =
     let a = start-of (c .before) .args in
     let e = decode (getD (a .queue .now) (a .self .head) 0) in
-    ⊎-elim (λ t. t .7 ∙ t .2 .ensures ∙ counts-fall (a .scan-counts .now) e (a .self .last) (last-fits (c .before)) (t .0 .taken))
-    (λ s. s .2 ∙ counts-stay (a .scan-counts .now) e (a .self .last) (s .0 .left)) (c .if1 .came)
+    ⊎-elim (λ t. t .7 ∙ t .2 .ensures ∙ counts-fall (a .scan-counts .now) e (a .self .«last_q») (last-fits (c .before)) (t .0 .taken))
+    (λ s. s .2 ∙ counts-stay (a .scan-counts .now) e (a .self .«last_q») (s .0 .left)) (c .if1 .came)
 
 met-length : (c : tie.Joined1) → length (c .if1 .scan-counts) ≡ length (start-of (c .before) .args .scan-counts .now)
 met-length c = ⊎-elim (λ t. ap length (t .7) ∙ t .2 .kept .0) (λ e. ap length (e .2)) (c .if1 .came)
-
-mul-entry : tie.Need-mul-entry
-mul-entry c = search needs
-
-shared-slice-read-entry : tie.Need-shared-slice-read-entry
-shared-slice-read-entry c = search needs
 
 sum-without-requires : tie.Need-sum-without-requires
 sum-without-requires c κs =
@@ -69,12 +63,6 @@ lower-entry-requires c κs =
     let b = start-of (c .before .before) in
     rw (b .pre .0 .1) (oldest-below (b .pre .1) (b .pre .0 .0))
 
-none-requires : tie.Need-none-requires
-none-requires c κs = search needs
-
-last-without-requires : tie.Need-last-without-requires
-last-without-requires c κs = search needs
-
 ring-index-requires : tie.Need-ring-index-requires
 ring-index-requires c κs =
     let w = start-of (c .before .before) .pre .1 in
@@ -86,9 +74,6 @@ sub-self c =
     let b = start-of (m .before) in
     omega (arith, ap (λ (w : Window). w .len) (met-window m), b .pre .0 .0, b .pre .1 .wide)
 
-same-length : tie.Need-same-length
-same-length c = search needs
-
 same-length-2 : tie.Need-same-length-2
 same-length-2 c = met-length (c .before .before .before)
 
@@ -98,21 +83,21 @@ returns c =
     let m = l .before in
     let s = summed (m .before) in
     let b = start-of (m .before) in
-    left (b .pre .1) (b .pre .0 .0) (met-window m) (s .sum-without .ensures .0) (l .last-without .ensures ∙ ap lastWithout (toZ-ofZ (last-fits (m .before))))
+    left (b .pre .1) (b .pre .0 .0) (met-window m) (s .sum-without .ensures .0) (l .last-q-without .ensures ∙ ap lastQWithout (toZ-ofZ (last-fits (m .before))))
     (c .before .ring-index .ensures) (s .sum-without .ensures .1) (met-counts m)
 
 pub leave-spec : {M : Type 1} → statement M
 leave-spec =
     tie.close
     (tie.spec
-    mul-entry
-    shared-slice-read-entry
+    (λ c. search needs)
+    (λ c. search needs)
     sum-without-requires
     lower-entry-requires
-    none-requires
-    last-without-requires
+    (λ c κs. search needs)
+    (λ c κs. search needs)
     ring-index-requires
     sub-self
-    same-length
+    (λ c. search needs)
     same-length-2
     returns)

@@ -1,25 +1,28 @@
 -- Made by tools/lift from the prover's `Tie` of `inner_process` over a slice of `[u64; 2]`; not to be edited.
 use Rattle.scans.proofs.dust_backward.Met
-use Rattle.scans.proofs.DustBackwardReads as Reads
+use Rattle.scans.proofs.DustDustBackwardReads as Reads
 use Rattle.scans.proofs.dust_backward.Symbol
-use Rattle.strand.proofs.Going.answered.Met as Met'
-use Rattle.strand.proofs.Going.answered.Reads as Reads'
-use Rattle.strand.proofs.Going.answered.Symbol as Symbol'
-use Rattle.strand.proofs.Open.close.Met as Met''
-use Rattle.strand.proofs.Open.close.Reads as Reads''
-use Rattle.strand.proofs.Open.close.Symbol as Symbol''
-use Rattle.strand.proofs.begin.Met as Met'3
-use Rattle.strand.proofs.begin.Reads as Reads'3
-use Rattle.strand.proofs.begin.Symbol as Symbol'3
+use Rattle.strand.proofs.Open.close.Met as Met'
+use Rattle.strand.proofs.Open.close.Reads as Reads'
+use Rattle.strand.proofs.Open.close.Symbol as Symbol'
+use Rattle.strand.proofs.State.answered.Met as Met''
+use Rattle.strand.proofs.State.answered.Reads as Reads''
+use Rattle.strand.proofs.State.answered.Symbol as Symbol''
+use Rattle.strand.proofs.Window.last_q_index.Met as Met'3
+use Rattle.strand.proofs.Window.last_q_index.Reads as Reads'3
+use Rattle.strand.proofs.Window.last_q_index.Symbol as Symbol'3
+use Rattle.strand.proofs.begin.Met as Met'4
+use Rattle.strand.proofs.begin.Reads as Reads'4
+use Rattle.strand.proofs.begin.Symbol as Symbol'4
 use Rattle.strand.proofs.inner_process.Code
 use Rattle.strand.proofs.inner_process.Key
 use Rattle.strand.proofs.InnerProcessKinds as Kinds
 use Rattle.strand.proofs.inner_process.Proof.Lts
-use Rattle.strand.proofs.InnerProcessReads as Reads'4
+use Rattle.strand.proofs.InnerProcessReads as Reads'5
 use Rattle.strand.proofs.inner_process.Statement
-use Rattle.strand.proofs.until_scan.Met as Met'4
-use Rattle.strand.proofs.until_scan.Reads as Reads'5
-use Rattle.strand.proofs.until_scan.Symbol as Symbol'4
+use Rattle.strand.proofs.until_scan.Met as Met'5
+use Rattle.strand.proofs.until_scan.Reads as Reads'6
+use Rattle.strand.proofs.until_scan.Symbol as Symbol'5
 use borrow.Fn.Run
 use borrow.Fn.Written
 use contract.Running
@@ -32,1025 +35,963 @@ MeasureT-loop = Lts.MeasureT-loop
 
 abbrev pub Start : (Inv : InvT-loop) → (μ : MeasureT-loop) → Type 0
 Start = λ Inv μ. Lts.Start (
-  Reads'3.Asked,
-  Reads'3.Learnt,
-  Reads'5.Asked,
-  Reads'5.Learnt,
-  Reads''.Asked,
-  Reads''.Learnt,
-  Reads.Asked,
-  Reads.Learnt,
+  Reads'4.Asked,
+  Reads'4.Learnt,
+  Reads'6.Asked,
+  Reads'6.Learnt,
   Reads'.Asked,
   Reads'.Learnt,
-) Reads'4.Pre Reads'4.Post Inv μ
+  Reads'3.Asked,
+  Reads'3.Learnt,
+  Reads.Asked,
+  Reads.Learnt,
+  Reads''.Asked,
+  Reads''.Learnt,
+) Reads'5.Pre Reads'5.Post Inv μ
 
 abbrev pub After-shared-slice-known : (Inv : InvT-loop) → (μ : MeasureT-loop) → Type 0
 After-shared-slice-known = λ Inv μ. Lts.After-shared-slice-known (
-  Reads'3.Asked,
-  Reads'3.Learnt,
-  Reads'5.Asked,
-  Reads'5.Learnt,
-  Reads''.Asked,
-  Reads''.Learnt,
-  Reads.Asked,
-  Reads.Learnt,
+  Reads'4.Asked,
+  Reads'4.Learnt,
+  Reads'6.Asked,
+  Reads'6.Learnt,
   Reads'.Asked,
   Reads'.Learnt,
-) Reads'4.Pre Reads'4.Post Inv μ
+  Reads'3.Asked,
+  Reads'3.Learnt,
+  Reads.Asked,
+  Reads.Learnt,
+  Reads''.Asked,
+  Reads''.Learnt,
+) Reads'5.Pre Reads'5.Post Inv μ
 
 abbrev pub After-shared-slice-known2 : (Inv : InvT-loop) → (μ : MeasureT-loop) → Type 0
 After-shared-slice-known2 = λ Inv μ. Lts.After-shared-slice-known2 (
-  Reads'3.Asked,
-  Reads'3.Learnt,
-  Reads'5.Asked,
-  Reads'5.Learnt,
-  Reads''.Asked,
-  Reads''.Learnt,
-  Reads.Asked,
-  Reads.Learnt,
+  Reads'4.Asked,
+  Reads'4.Learnt,
+  Reads'6.Asked,
+  Reads'6.Learnt,
   Reads'.Asked,
   Reads'.Learnt,
-) Reads'4.Pre Reads'4.Post Inv μ
+  Reads'3.Asked,
+  Reads'3.Learnt,
+  Reads.Asked,
+  Reads.Learnt,
+  Reads''.Asked,
+  Reads''.Learnt,
+) Reads'5.Pre Reads'5.Post Inv μ
 
 abbrev pub After-shared-slice-known3 : (Inv : InvT-loop) → (μ : MeasureT-loop) → Type 0
 After-shared-slice-known3 = λ Inv μ. Lts.After-shared-slice-known3 (
-  Reads'3.Asked,
-  Reads'3.Learnt,
-  Reads'5.Asked,
-  Reads'5.Learnt,
-  Reads''.Asked,
-  Reads''.Learnt,
-  Reads.Asked,
-  Reads.Learnt,
+  Reads'4.Asked,
+  Reads'4.Learnt,
+  Reads'6.Asked,
+  Reads'6.Learnt,
   Reads'.Asked,
   Reads'.Learnt,
-) Reads'4.Pre Reads'4.Post Inv μ
+  Reads'3.Asked,
+  Reads'3.Learnt,
+  Reads.Asked,
+  Reads.Learnt,
+  Reads''.Asked,
+  Reads''.Learnt,
+) Reads'5.Pre Reads'5.Post Inv μ
 
 abbrev pub After-slice-known : (Inv : InvT-loop) → (μ : MeasureT-loop) → Type 0
 After-slice-known = λ Inv μ. Lts.After-slice-known (
-  Reads'3.Asked,
-  Reads'3.Learnt,
-  Reads'5.Asked,
-  Reads'5.Learnt,
-  Reads''.Asked,
-  Reads''.Learnt,
-  Reads.Asked,
-  Reads.Learnt,
+  Reads'4.Asked,
+  Reads'4.Learnt,
+  Reads'6.Asked,
+  Reads'6.Learnt,
   Reads'.Asked,
   Reads'.Learnt,
-) Reads'4.Pre Reads'4.Post Inv μ
+  Reads'3.Asked,
+  Reads'3.Learnt,
+  Reads.Asked,
+  Reads.Learnt,
+  Reads''.Asked,
+  Reads''.Learnt,
+) Reads'5.Pre Reads'5.Post Inv μ
 
 abbrev pub After-slice-known2 : (Inv : InvT-loop) → (μ : MeasureT-loop) → Type 0
 After-slice-known2 = λ Inv μ. Lts.After-slice-known2 (
-  Reads'3.Asked,
-  Reads'3.Learnt,
-  Reads'5.Asked,
-  Reads'5.Learnt,
-  Reads''.Asked,
-  Reads''.Learnt,
-  Reads.Asked,
-  Reads.Learnt,
+  Reads'4.Asked,
+  Reads'4.Learnt,
+  Reads'6.Asked,
+  Reads'6.Learnt,
   Reads'.Asked,
   Reads'.Learnt,
-) Reads'4.Pre Reads'4.Post Inv μ
+  Reads'3.Asked,
+  Reads'3.Learnt,
+  Reads.Asked,
+  Reads.Learnt,
+  Reads''.Asked,
+  Reads''.Learnt,
+) Reads'5.Pre Reads'5.Post Inv μ
 
 abbrev pub After-slice-known3 : (Inv : InvT-loop) → (μ : MeasureT-loop) → Type 0
 After-slice-known3 = λ Inv μ. Lts.After-slice-known3 (
-  Reads'3.Asked,
-  Reads'3.Learnt,
-  Reads'5.Asked,
-  Reads'5.Learnt,
-  Reads''.Asked,
-  Reads''.Learnt,
-  Reads.Asked,
-  Reads.Learnt,
+  Reads'4.Asked,
+  Reads'4.Learnt,
+  Reads'6.Asked,
+  Reads'6.Learnt,
   Reads'.Asked,
   Reads'.Learnt,
-) Reads'4.Pre Reads'4.Post Inv μ
-
-abbrev pub After-slice-known4 : (Inv : InvT-loop) → (μ : MeasureT-loop) → Type 0
-After-slice-known4 = λ Inv μ. Lts.After-slice-known4 (
   Reads'3.Asked,
   Reads'3.Learnt,
-  Reads'5.Asked,
-  Reads'5.Learnt,
-  Reads''.Asked,
-  Reads''.Learnt,
   Reads.Asked,
   Reads.Learnt,
-  Reads'.Asked,
-  Reads'.Learnt,
-) Reads'4.Pre Reads'4.Post Inv μ
-
-abbrev pub After-slice-known5 : (Inv : InvT-loop) → (μ : MeasureT-loop) → Type 0
-After-slice-known5 = λ Inv μ. Lts.After-slice-known5 (
-  Reads'3.Asked,
-  Reads'3.Learnt,
-  Reads'5.Asked,
-  Reads'5.Learnt,
   Reads''.Asked,
   Reads''.Learnt,
-  Reads.Asked,
-  Reads.Learnt,
-  Reads'.Asked,
-  Reads'.Learnt,
-) Reads'4.Pre Reads'4.Post Inv μ
+) Reads'5.Pre Reads'5.Post Inv μ
 
 abbrev pub After-begin-arg : (Inv : InvT-loop) → (μ : MeasureT-loop) → Type 0
 After-begin-arg = λ Inv μ. Lts.After-begin-arg (
-  Reads'3.Asked,
-  Reads'3.Learnt,
-  Reads'5.Asked,
-  Reads'5.Learnt,
-  Reads''.Asked,
-  Reads''.Learnt,
-  Reads.Asked,
-  Reads.Learnt,
+  Reads'4.Asked,
+  Reads'4.Learnt,
+  Reads'6.Asked,
+  Reads'6.Learnt,
   Reads'.Asked,
   Reads'.Learnt,
-) Reads'4.Pre Reads'4.Post Inv μ
+  Reads'3.Asked,
+  Reads'3.Learnt,
+  Reads.Asked,
+  Reads.Learnt,
+  Reads''.Asked,
+  Reads''.Learnt,
+) Reads'5.Pre Reads'5.Post Inv μ
 
 abbrev pub After-begin-arg2 : (Inv : InvT-loop) → (μ : MeasureT-loop) → Type 0
 After-begin-arg2 = λ Inv μ. Lts.After-begin-arg2 (
-  Reads'3.Asked,
-  Reads'3.Learnt,
-  Reads'5.Asked,
-  Reads'5.Learnt,
-  Reads''.Asked,
-  Reads''.Learnt,
-  Reads.Asked,
-  Reads.Learnt,
+  Reads'4.Asked,
+  Reads'4.Learnt,
+  Reads'6.Asked,
+  Reads'6.Learnt,
   Reads'.Asked,
   Reads'.Learnt,
-) Reads'4.Pre Reads'4.Post Inv μ
+  Reads'3.Asked,
+  Reads'3.Learnt,
+  Reads.Asked,
+  Reads.Learnt,
+  Reads''.Asked,
+  Reads''.Learnt,
+) Reads'5.Pre Reads'5.Post Inv μ
 
 abbrev pub After-begin : (Inv : InvT-loop) → (μ : MeasureT-loop) → Type 0
 After-begin = λ Inv μ. Lts.After-begin (
-  Reads'3.Asked,
-  Reads'3.Learnt,
-  Reads'5.Asked,
-  Reads'5.Learnt,
-  Reads''.Asked,
-  Reads''.Learnt,
-  Reads.Asked,
-  Reads.Learnt,
+  Reads'4.Asked,
+  Reads'4.Learnt,
+  Reads'6.Asked,
+  Reads'6.Learnt,
   Reads'.Asked,
   Reads'.Learnt,
-) Reads'4.Pre Reads'4.Post Inv μ
+  Reads'3.Asked,
+  Reads'3.Learnt,
+  Reads.Asked,
+  Reads.Learnt,
+  Reads''.Asked,
+  Reads''.Learnt,
+) Reads'5.Pre Reads'5.Post Inv μ
 
 abbrev pub After-window-counts : (Inv : InvT-loop) → (μ : MeasureT-loop) → Type 0
 After-window-counts = λ Inv μ. Lts.After-window-counts (
-  Reads'3.Asked,
-  Reads'3.Learnt,
-  Reads'5.Asked,
-  Reads'5.Learnt,
-  Reads''.Asked,
-  Reads''.Learnt,
-  Reads.Asked,
-  Reads.Learnt,
+  Reads'4.Asked,
+  Reads'4.Learnt,
+  Reads'6.Asked,
+  Reads'6.Learnt,
   Reads'.Asked,
   Reads'.Learnt,
-) Reads'4.Pre Reads'4.Post Inv μ
+  Reads'3.Asked,
+  Reads'3.Learnt,
+  Reads.Asked,
+  Reads.Learnt,
+  Reads''.Asked,
+  Reads''.Learnt,
+) Reads'5.Pre Reads'5.Post Inv μ
 
-abbrev pub After-slice-known6 : (Inv : InvT-loop) → (μ : MeasureT-loop) → Type 0
-After-slice-known6 = λ Inv μ. Lts.After-slice-known6 (
-  Reads'3.Asked,
-  Reads'3.Learnt,
-  Reads'5.Asked,
-  Reads'5.Learnt,
-  Reads''.Asked,
-  Reads''.Learnt,
-  Reads.Asked,
-  Reads.Learnt,
+abbrev pub After-slice-known4 : (Inv : InvT-loop) → (μ : MeasureT-loop) → Type 0
+After-slice-known4 = λ Inv μ. Lts.After-slice-known4 (
+  Reads'4.Asked,
+  Reads'4.Learnt,
+  Reads'6.Asked,
+  Reads'6.Learnt,
   Reads'.Asked,
   Reads'.Learnt,
-) Reads'4.Pre Reads'4.Post Inv μ
+  Reads'3.Asked,
+  Reads'3.Learnt,
+  Reads.Asked,
+  Reads.Learnt,
+  Reads''.Asked,
+  Reads''.Learnt,
+) Reads'5.Pre Reads'5.Post Inv μ
 
 abbrev pub After-scan-counts : (Inv : InvT-loop) → (μ : MeasureT-loop) → Type 0
 After-scan-counts = λ Inv μ. Lts.After-scan-counts (
-  Reads'3.Asked,
-  Reads'3.Learnt,
-  Reads'5.Asked,
-  Reads'5.Learnt,
-  Reads''.Asked,
-  Reads''.Learnt,
-  Reads.Asked,
-  Reads.Learnt,
+  Reads'4.Asked,
+  Reads'4.Learnt,
+  Reads'6.Asked,
+  Reads'6.Learnt,
   Reads'.Asked,
   Reads'.Learnt,
-) Reads'4.Pre Reads'4.Post Inv μ
+  Reads'3.Asked,
+  Reads'3.Learnt,
+  Reads.Asked,
+  Reads.Learnt,
+  Reads''.Asked,
+  Reads''.Learnt,
+) Reads'5.Pre Reads'5.Post Inv μ
 
-abbrev pub After-slice-known7 : (Inv : InvT-loop) → (μ : MeasureT-loop) → Type 0
-After-slice-known7 = λ Inv μ. Lts.After-slice-known7 (
-  Reads'3.Asked,
-  Reads'3.Learnt,
-  Reads'5.Asked,
-  Reads'5.Learnt,
-  Reads''.Asked,
-  Reads''.Learnt,
-  Reads.Asked,
-  Reads.Learnt,
+abbrev pub After-slice-known5 : (Inv : InvT-loop) → (μ : MeasureT-loop) → Type 0
+After-slice-known5 = λ Inv μ. Lts.After-slice-known5 (
+  Reads'4.Asked,
+  Reads'4.Learnt,
+  Reads'6.Asked,
+  Reads'6.Learnt,
   Reads'.Asked,
   Reads'.Learnt,
-) Reads'4.Pre Reads'4.Post Inv μ
+  Reads'3.Asked,
+  Reads'3.Learnt,
+  Reads.Asked,
+  Reads.Learnt,
+  Reads''.Asked,
+  Reads''.Learnt,
+) Reads'5.Pre Reads'5.Post Inv μ
 
 abbrev pub At-loop : (Inv : InvT-loop) → (μ : MeasureT-loop) → Type 0
 At-loop = λ Inv μ. Lts.At-loop (
-  Reads'3.Asked,
-  Reads'3.Learnt,
-  Reads'5.Asked,
-  Reads'5.Learnt,
-  Reads''.Asked,
-  Reads''.Learnt,
-  Reads.Asked,
-  Reads.Learnt,
+  Reads'4.Asked,
+  Reads'4.Learnt,
+  Reads'6.Asked,
+  Reads'6.Learnt,
   Reads'.Asked,
   Reads'.Learnt,
-) Reads'4.Pre Reads'4.Post Inv μ
+  Reads'3.Asked,
+  Reads'3.Learnt,
+  Reads.Asked,
+  Reads.Learnt,
+  Reads''.Asked,
+  Reads''.Learnt,
+) Reads'5.Pre Reads'5.Post Inv μ
 
 abbrev pub After-until-scan-arg : (Inv : InvT-loop) → (μ : MeasureT-loop) → Type 0
 After-until-scan-arg = λ Inv μ. Lts.After-until-scan-arg (
-  Reads'3.Asked,
-  Reads'3.Learnt,
-  Reads'5.Asked,
-  Reads'5.Learnt,
-  Reads''.Asked,
-  Reads''.Learnt,
-  Reads.Asked,
-  Reads.Learnt,
+  Reads'4.Asked,
+  Reads'4.Learnt,
+  Reads'6.Asked,
+  Reads'6.Learnt,
   Reads'.Asked,
   Reads'.Learnt,
-) Reads'4.Pre Reads'4.Post Inv μ
+  Reads'3.Asked,
+  Reads'3.Learnt,
+  Reads.Asked,
+  Reads.Learnt,
+  Reads''.Asked,
+  Reads''.Learnt,
+) Reads'5.Pre Reads'5.Post Inv μ
 
 abbrev pub After-until-scan-arg2 : (Inv : InvT-loop) → (μ : MeasureT-loop) → Type 0
 After-until-scan-arg2 = λ Inv μ. Lts.After-until-scan-arg2 (
-  Reads'3.Asked,
-  Reads'3.Learnt,
-  Reads'5.Asked,
-  Reads'5.Learnt,
-  Reads''.Asked,
-  Reads''.Learnt,
-  Reads.Asked,
-  Reads.Learnt,
+  Reads'4.Asked,
+  Reads'4.Learnt,
+  Reads'6.Asked,
+  Reads'6.Learnt,
   Reads'.Asked,
   Reads'.Learnt,
-) Reads'4.Pre Reads'4.Post Inv μ
+  Reads'3.Asked,
+  Reads'3.Learnt,
+  Reads.Asked,
+  Reads.Learnt,
+  Reads''.Asked,
+  Reads''.Learnt,
+) Reads'5.Pre Reads'5.Post Inv μ
 
 abbrev pub After-until-scan-arg3 : (Inv : InvT-loop) → (μ : MeasureT-loop) → Type 0
 After-until-scan-arg3 = λ Inv μ. Lts.After-until-scan-arg3 (
-  Reads'3.Asked,
-  Reads'3.Learnt,
-  Reads'5.Asked,
-  Reads'5.Learnt,
-  Reads''.Asked,
-  Reads''.Learnt,
-  Reads.Asked,
-  Reads.Learnt,
+  Reads'4.Asked,
+  Reads'4.Learnt,
+  Reads'6.Asked,
+  Reads'6.Learnt,
   Reads'.Asked,
   Reads'.Learnt,
-) Reads'4.Pre Reads'4.Post Inv μ
+  Reads'3.Asked,
+  Reads'3.Learnt,
+  Reads.Asked,
+  Reads.Learnt,
+  Reads''.Asked,
+  Reads''.Learnt,
+) Reads'5.Pre Reads'5.Post Inv μ
 
 abbrev pub After-until-scan-arg4 : (Inv : InvT-loop) → (μ : MeasureT-loop) → Type 0
 After-until-scan-arg4 = λ Inv μ. Lts.After-until-scan-arg4 (
-  Reads'3.Asked,
-  Reads'3.Learnt,
-  Reads'5.Asked,
-  Reads'5.Learnt,
-  Reads''.Asked,
-  Reads''.Learnt,
-  Reads.Asked,
-  Reads.Learnt,
+  Reads'4.Asked,
+  Reads'4.Learnt,
+  Reads'6.Asked,
+  Reads'6.Learnt,
   Reads'.Asked,
   Reads'.Learnt,
-) Reads'4.Pre Reads'4.Post Inv μ
-
-abbrev pub After-until-scan-arg5 : (Inv : InvT-loop) → (μ : MeasureT-loop) → Type 0
-After-until-scan-arg5 = λ Inv μ. Lts.After-until-scan-arg5 (
   Reads'3.Asked,
   Reads'3.Learnt,
-  Reads'5.Asked,
-  Reads'5.Learnt,
-  Reads''.Asked,
-  Reads''.Learnt,
   Reads.Asked,
   Reads.Learnt,
-  Reads'.Asked,
-  Reads'.Learnt,
-) Reads'4.Pre Reads'4.Post Inv μ
+  Reads''.Asked,
+  Reads''.Learnt,
+) Reads'5.Pre Reads'5.Post Inv μ
 
 abbrev pub After-until-scan : (Inv : InvT-loop) → (μ : MeasureT-loop) → Type 0
 After-until-scan = λ Inv μ. Lts.After-until-scan (
-  Reads'3.Asked,
-  Reads'3.Learnt,
-  Reads'5.Asked,
-  Reads'5.Learnt,
-  Reads''.Asked,
-  Reads''.Learnt,
-  Reads.Asked,
-  Reads.Learnt,
+  Reads'4.Asked,
+  Reads'4.Learnt,
+  Reads'6.Asked,
+  Reads'6.Learnt,
   Reads'.Asked,
   Reads'.Learnt,
-) Reads'4.Pre Reads'4.Post Inv μ
+  Reads'3.Asked,
+  Reads'3.Learnt,
+  Reads.Asked,
+  Reads.Learnt,
+  Reads''.Asked,
+  Reads''.Learnt,
+) Reads'5.Pre Reads'5.Post Inv μ
 
 abbrev pub After-queue : (Inv : InvT-loop) → (μ : MeasureT-loop) → Type 0
 After-queue = λ Inv μ. Lts.After-queue (
-  Reads'3.Asked,
-  Reads'3.Learnt,
-  Reads'5.Asked,
-  Reads'5.Learnt,
-  Reads''.Asked,
-  Reads''.Learnt,
-  Reads.Asked,
-  Reads.Learnt,
+  Reads'4.Asked,
+  Reads'4.Learnt,
+  Reads'6.Asked,
+  Reads'6.Learnt,
   Reads'.Asked,
   Reads'.Learnt,
-) Reads'4.Pre Reads'4.Post Inv μ
+  Reads'3.Asked,
+  Reads'3.Learnt,
+  Reads.Asked,
+  Reads.Learnt,
+  Reads''.Asked,
+  Reads''.Learnt,
+) Reads'5.Pre Reads'5.Post Inv μ
 
-abbrev pub After-slice-known8 : (Inv : InvT-loop) → (μ : MeasureT-loop) → Type 0
-After-slice-known8 = λ Inv μ. Lts.After-slice-known8 (
-  Reads'3.Asked,
-  Reads'3.Learnt,
-  Reads'5.Asked,
-  Reads'5.Learnt,
-  Reads''.Asked,
-  Reads''.Learnt,
-  Reads.Asked,
-  Reads.Learnt,
+abbrev pub After-slice-known6 : (Inv : InvT-loop) → (μ : MeasureT-loop) → Type 0
+After-slice-known6 = λ Inv μ. Lts.After-slice-known6 (
+  Reads'4.Asked,
+  Reads'4.Learnt,
+  Reads'6.Asked,
+  Reads'6.Learnt,
   Reads'.Asked,
   Reads'.Learnt,
-) Reads'4.Pre Reads'4.Post Inv μ
+  Reads'3.Asked,
+  Reads'3.Learnt,
+  Reads.Asked,
+  Reads.Learnt,
+  Reads''.Asked,
+  Reads''.Learnt,
+) Reads'5.Pre Reads'5.Post Inv μ
 
 abbrev pub After-window-counts2 : (Inv : InvT-loop) → (μ : MeasureT-loop) → Type 0
 After-window-counts2 = λ Inv μ. Lts.After-window-counts2 (
-  Reads'3.Asked,
-  Reads'3.Learnt,
-  Reads'5.Asked,
-  Reads'5.Learnt,
-  Reads''.Asked,
-  Reads''.Learnt,
-  Reads.Asked,
-  Reads.Learnt,
+  Reads'4.Asked,
+  Reads'4.Learnt,
+  Reads'6.Asked,
+  Reads'6.Learnt,
   Reads'.Asked,
   Reads'.Learnt,
-) Reads'4.Pre Reads'4.Post Inv μ
+  Reads'3.Asked,
+  Reads'3.Learnt,
+  Reads.Asked,
+  Reads.Learnt,
+  Reads''.Asked,
+  Reads''.Learnt,
+) Reads'5.Pre Reads'5.Post Inv μ
 
-abbrev pub After-slice-known9 : (Inv : InvT-loop) → (μ : MeasureT-loop) → Type 0
-After-slice-known9 = λ Inv μ. Lts.After-slice-known9 (
-  Reads'3.Asked,
-  Reads'3.Learnt,
-  Reads'5.Asked,
-  Reads'5.Learnt,
-  Reads''.Asked,
-  Reads''.Learnt,
-  Reads.Asked,
-  Reads.Learnt,
+abbrev pub After-slice-known7 : (Inv : InvT-loop) → (μ : MeasureT-loop) → Type 0
+After-slice-known7 = λ Inv μ. Lts.After-slice-known7 (
+  Reads'4.Asked,
+  Reads'4.Learnt,
+  Reads'6.Asked,
+  Reads'6.Learnt,
   Reads'.Asked,
   Reads'.Learnt,
-) Reads'4.Pre Reads'4.Post Inv μ
+  Reads'3.Asked,
+  Reads'3.Learnt,
+  Reads.Asked,
+  Reads.Learnt,
+  Reads''.Asked,
+  Reads''.Learnt,
+) Reads'5.Pre Reads'5.Post Inv μ
 
 abbrev pub After-scan-counts2 : (Inv : InvT-loop) → (μ : MeasureT-loop) → Type 0
 After-scan-counts2 = λ Inv μ. Lts.After-scan-counts2 (
-  Reads'3.Asked,
-  Reads'3.Learnt,
-  Reads'5.Asked,
-  Reads'5.Learnt,
-  Reads''.Asked,
-  Reads''.Learnt,
-  Reads.Asked,
-  Reads.Learnt,
+  Reads'4.Asked,
+  Reads'4.Learnt,
+  Reads'6.Asked,
+  Reads'6.Learnt,
   Reads'.Asked,
   Reads'.Learnt,
-) Reads'4.Pre Reads'4.Post Inv μ
+  Reads'3.Asked,
+  Reads'3.Learnt,
+  Reads.Asked,
+  Reads.Learnt,
+  Reads''.Asked,
+  Reads''.Learnt,
+) Reads'5.Pre Reads'5.Post Inv μ
 
-abbrev pub After-slice-known10 : (Inv : InvT-loop) → (μ : MeasureT-loop) → Type 0
-After-slice-known10 = λ Inv μ. Lts.After-slice-known10 (
-  Reads'3.Asked,
-  Reads'3.Learnt,
-  Reads'5.Asked,
-  Reads'5.Learnt,
-  Reads''.Asked,
-  Reads''.Learnt,
-  Reads.Asked,
-  Reads.Learnt,
+abbrev pub After-slice-known8 : (Inv : InvT-loop) → (μ : MeasureT-loop) → Type 0
+After-slice-known8 = λ Inv μ. Lts.After-slice-known8 (
+  Reads'4.Asked,
+  Reads'4.Learnt,
+  Reads'6.Asked,
+  Reads'6.Learnt,
   Reads'.Asked,
   Reads'.Learnt,
-) Reads'4.Pre Reads'4.Post Inv μ
+  Reads'3.Asked,
+  Reads'3.Learnt,
+  Reads.Asked,
+  Reads.Learnt,
+  Reads''.Asked,
+  Reads''.Learnt,
+) Reads'5.Pre Reads'5.Post Inv μ
 
-abbrev pub After-starts : (Inv : InvT-loop) → (μ : MeasureT-loop) → Type 0
-After-starts = λ Inv μ. Lts.After-starts (
-  Reads'3.Asked,
-  Reads'3.Learnt,
-  Reads'5.Asked,
-  Reads'5.Learnt,
-  Reads''.Asked,
-  Reads''.Learnt,
-  Reads.Asked,
-  Reads.Learnt,
+abbrev pub After-list : (Inv : InvT-loop) → (μ : MeasureT-loop) → Type 0
+After-list = λ Inv μ. Lts.After-list (
+  Reads'4.Asked,
+  Reads'4.Learnt,
+  Reads'6.Asked,
+  Reads'6.Learnt,
   Reads'.Asked,
   Reads'.Learnt,
-) Reads'4.Pre Reads'4.Post Inv μ
-
-abbrev pub After-slice-known11 : (Inv : InvT-loop) → (μ : MeasureT-loop) → Type 0
-After-slice-known11 = λ Inv μ. Lts.After-slice-known11 (
   Reads'3.Asked,
   Reads'3.Learnt,
-  Reads'5.Asked,
-  Reads'5.Learnt,
-  Reads''.Asked,
-  Reads''.Learnt,
   Reads.Asked,
   Reads.Learnt,
-  Reads'.Asked,
-  Reads'.Learnt,
-) Reads'4.Pre Reads'4.Post Inv μ
-
-abbrev pub After-ends : (Inv : InvT-loop) → (μ : MeasureT-loop) → Type 0
-After-ends = λ Inv μ. Lts.After-ends (
-  Reads'3.Asked,
-  Reads'3.Learnt,
-  Reads'5.Asked,
-  Reads'5.Learnt,
   Reads''.Asked,
   Reads''.Learnt,
-  Reads.Asked,
-  Reads.Learnt,
-  Reads'.Asked,
-  Reads'.Learnt,
-) Reads'4.Pre Reads'4.Post Inv μ
-
-abbrev pub After-slice-known12 : (Inv : InvT-loop) → (μ : MeasureT-loop) → Type 0
-After-slice-known12 = λ Inv μ. Lts.After-slice-known12 (
-  Reads'3.Asked,
-  Reads'3.Learnt,
-  Reads'5.Asked,
-  Reads'5.Learnt,
-  Reads''.Asked,
-  Reads''.Learnt,
-  Reads.Asked,
-  Reads.Learnt,
-  Reads'.Asked,
-  Reads'.Learnt,
-) Reads'4.Pre Reads'4.Post Inv μ
+) Reads'5.Pre Reads'5.Post Inv μ
 
 abbrev pub After-struct-known : (Inv : InvT-loop) → (μ : MeasureT-loop) → Type 0
 After-struct-known = λ Inv μ. Lts.After-struct-known (
-  Reads'3.Asked,
-  Reads'3.Learnt,
-  Reads'5.Asked,
-  Reads'5.Learnt,
-  Reads''.Asked,
-  Reads''.Learnt,
-  Reads.Asked,
-  Reads.Learnt,
+  Reads'4.Asked,
+  Reads'4.Learnt,
+  Reads'6.Asked,
+  Reads'6.Learnt,
   Reads'.Asked,
   Reads'.Learnt,
-) Reads'4.Pre Reads'4.Post Inv μ
+  Reads'3.Asked,
+  Reads'3.Learnt,
+  Reads.Asked,
+  Reads.Learnt,
+  Reads''.Asked,
+  Reads''.Learnt,
+) Reads'5.Pre Reads'5.Post Inv μ
 
 abbrev pub Then1 : (Inv : InvT-loop) → (μ : MeasureT-loop) → Type 0
 Then1 = λ Inv μ. Lts.Then1 (
-  Reads'3.Asked,
-  Reads'3.Learnt,
-  Reads'5.Asked,
-  Reads'5.Learnt,
-  Reads''.Asked,
-  Reads''.Learnt,
-  Reads.Asked,
-  Reads.Learnt,
+  Reads'4.Asked,
+  Reads'4.Learnt,
+  Reads'6.Asked,
+  Reads'6.Learnt,
   Reads'.Asked,
   Reads'.Learnt,
-) Reads'4.Pre Reads'4.Post Inv μ
+  Reads'3.Asked,
+  Reads'3.Learnt,
+  Reads.Asked,
+  Reads.Learnt,
+  Reads''.Asked,
+  Reads''.Learnt,
+) Reads'5.Pre Reads'5.Post Inv μ
 
 abbrev pub After-close-arg : (Inv : InvT-loop) → (μ : MeasureT-loop) → Type 0
 After-close-arg = λ Inv μ. Lts.After-close-arg (
-  Reads'3.Asked,
-  Reads'3.Learnt,
-  Reads'5.Asked,
-  Reads'5.Learnt,
-  Reads''.Asked,
-  Reads''.Learnt,
-  Reads.Asked,
-  Reads.Learnt,
+  Reads'4.Asked,
+  Reads'4.Learnt,
+  Reads'6.Asked,
+  Reads'6.Learnt,
   Reads'.Asked,
   Reads'.Learnt,
-) Reads'4.Pre Reads'4.Post Inv μ
-
-abbrev pub After-close-arg2 : (Inv : InvT-loop) → (μ : MeasureT-loop) → Type 0
-After-close-arg2 = λ Inv μ. Lts.After-close-arg2 (
   Reads'3.Asked,
   Reads'3.Learnt,
-  Reads'5.Asked,
-  Reads'5.Learnt,
-  Reads''.Asked,
-  Reads''.Learnt,
   Reads.Asked,
   Reads.Learnt,
-  Reads'.Asked,
-  Reads'.Learnt,
-) Reads'4.Pre Reads'4.Post Inv μ
+  Reads''.Asked,
+  Reads''.Learnt,
+) Reads'5.Pre Reads'5.Post Inv μ
 
 abbrev pub After-close : (Inv : InvT-loop) → (μ : MeasureT-loop) → Type 0
 After-close = λ Inv μ. Lts.After-close (
-  Reads'3.Asked,
-  Reads'3.Learnt,
-  Reads'5.Asked,
-  Reads'5.Learnt,
-  Reads''.Asked,
-  Reads''.Learnt,
-  Reads.Asked,
-  Reads.Learnt,
+  Reads'4.Asked,
+  Reads'4.Learnt,
+  Reads'6.Asked,
+  Reads'6.Learnt,
   Reads'.Asked,
   Reads'.Learnt,
-) Reads'4.Pre Reads'4.Post Inv μ
+  Reads'3.Asked,
+  Reads'3.Learnt,
+  Reads.Asked,
+  Reads.Learnt,
+  Reads''.Asked,
+  Reads''.Learnt,
+) Reads'5.Pre Reads'5.Post Inv μ
 
-abbrev pub After-starts2 : (Inv : InvT-loop) → (μ : MeasureT-loop) → Type 0
-After-starts2 = λ Inv μ. Lts.After-starts2 (
-  Reads'3.Asked,
-  Reads'3.Learnt,
-  Reads'5.Asked,
-  Reads'5.Learnt,
-  Reads''.Asked,
-  Reads''.Learnt,
-  Reads.Asked,
-  Reads.Learnt,
+abbrev pub After-list2 : (Inv : InvT-loop) → (μ : MeasureT-loop) → Type 0
+After-list2 = λ Inv μ. Lts.After-list2 (
+  Reads'4.Asked,
+  Reads'4.Learnt,
+  Reads'6.Asked,
+  Reads'6.Learnt,
   Reads'.Asked,
   Reads'.Learnt,
-) Reads'4.Pre Reads'4.Post Inv μ
-
-abbrev pub After-slice-known13 : (Inv : InvT-loop) → (μ : MeasureT-loop) → Type 0
-After-slice-known13 = λ Inv μ. Lts.After-slice-known13 (
   Reads'3.Asked,
   Reads'3.Learnt,
-  Reads'5.Asked,
-  Reads'5.Learnt,
-  Reads''.Asked,
-  Reads''.Learnt,
   Reads.Asked,
   Reads.Learnt,
-  Reads'.Asked,
-  Reads'.Learnt,
-) Reads'4.Pre Reads'4.Post Inv μ
-
-abbrev pub After-ends2 : (Inv : InvT-loop) → (μ : MeasureT-loop) → Type 0
-After-ends2 = λ Inv μ. Lts.After-ends2 (
-  Reads'3.Asked,
-  Reads'3.Learnt,
-  Reads'5.Asked,
-  Reads'5.Learnt,
   Reads''.Asked,
   Reads''.Learnt,
-  Reads.Asked,
-  Reads.Learnt,
-  Reads'.Asked,
-  Reads'.Learnt,
-) Reads'4.Pre Reads'4.Post Inv μ
-
-abbrev pub After-slice-known14 : (Inv : InvT-loop) → (μ : MeasureT-loop) → Type 0
-After-slice-known14 = λ Inv μ. Lts.After-slice-known14 (
-  Reads'3.Asked,
-  Reads'3.Learnt,
-  Reads'5.Asked,
-  Reads'5.Learnt,
-  Reads''.Asked,
-  Reads''.Learnt,
-  Reads.Asked,
-  Reads.Learnt,
-  Reads'.Asked,
-  Reads'.Learnt,
-) Reads'4.Pre Reads'4.Post Inv μ
+) Reads'5.Pre Reads'5.Post Inv μ
 
 abbrev pub Else1 : (Inv : InvT-loop) → (μ : MeasureT-loop) → Type 0
 Else1 = λ Inv μ. Lts.Else1 (
-  Reads'3.Asked,
-  Reads'3.Learnt,
-  Reads'5.Asked,
-  Reads'5.Learnt,
-  Reads''.Asked,
-  Reads''.Learnt,
-  Reads.Asked,
-  Reads.Learnt,
+  Reads'4.Asked,
+  Reads'4.Learnt,
+  Reads'6.Asked,
+  Reads'6.Learnt,
   Reads'.Asked,
   Reads'.Learnt,
-) Reads'4.Pre Reads'4.Post Inv μ
+  Reads'3.Asked,
+  Reads'3.Learnt,
+  Reads.Asked,
+  Reads.Learnt,
+  Reads''.Asked,
+  Reads''.Learnt,
+) Reads'5.Pre Reads'5.Post Inv μ
+
+abbrev pub After-last-q-index : (Inv : InvT-loop) → (μ : MeasureT-loop) → Type 0
+After-last-q-index = λ Inv μ. Lts.After-last-q-index (
+  Reads'4.Asked,
+  Reads'4.Learnt,
+  Reads'6.Asked,
+  Reads'6.Learnt,
+  Reads'.Asked,
+  Reads'.Learnt,
+  Reads'3.Asked,
+  Reads'3.Learnt,
+  Reads.Asked,
+  Reads.Learnt,
+  Reads''.Asked,
+  Reads''.Learnt,
+) Reads'5.Pre Reads'5.Post Inv μ
 
 abbrev pub After-dust-backward-arg : (Inv : InvT-loop) → (μ : MeasureT-loop) → Type 0
 After-dust-backward-arg = λ Inv μ. Lts.After-dust-backward-arg (
-  Reads'3.Asked,
-  Reads'3.Learnt,
-  Reads'5.Asked,
-  Reads'5.Learnt,
-  Reads''.Asked,
-  Reads''.Learnt,
-  Reads.Asked,
-  Reads.Learnt,
+  Reads'4.Asked,
+  Reads'4.Learnt,
+  Reads'6.Asked,
+  Reads'6.Learnt,
   Reads'.Asked,
   Reads'.Learnt,
-) Reads'4.Pre Reads'4.Post Inv μ
+  Reads'3.Asked,
+  Reads'3.Learnt,
+  Reads.Asked,
+  Reads.Learnt,
+  Reads''.Asked,
+  Reads''.Learnt,
+) Reads'5.Pre Reads'5.Post Inv μ
 
 abbrev pub After-dust-backward-arg2 : (Inv : InvT-loop) → (μ : MeasureT-loop) → Type 0
 After-dust-backward-arg2 = λ Inv μ. Lts.After-dust-backward-arg2 (
-  Reads'3.Asked,
-  Reads'3.Learnt,
-  Reads'5.Asked,
-  Reads'5.Learnt,
-  Reads''.Asked,
-  Reads''.Learnt,
-  Reads.Asked,
-  Reads.Learnt,
+  Reads'4.Asked,
+  Reads'4.Learnt,
+  Reads'6.Asked,
+  Reads'6.Learnt,
   Reads'.Asked,
   Reads'.Learnt,
-) Reads'4.Pre Reads'4.Post Inv μ
+  Reads'3.Asked,
+  Reads'3.Learnt,
+  Reads.Asked,
+  Reads.Learnt,
+  Reads''.Asked,
+  Reads''.Learnt,
+) Reads'5.Pre Reads'5.Post Inv μ
 
 abbrev pub After-dust-backward-arg3 : (Inv : InvT-loop) → (μ : MeasureT-loop) → Type 0
 After-dust-backward-arg3 = λ Inv μ. Lts.After-dust-backward-arg3 (
-  Reads'3.Asked,
-  Reads'3.Learnt,
-  Reads'5.Asked,
-  Reads'5.Learnt,
-  Reads''.Asked,
-  Reads''.Learnt,
-  Reads.Asked,
-  Reads.Learnt,
+  Reads'4.Asked,
+  Reads'4.Learnt,
+  Reads'6.Asked,
+  Reads'6.Learnt,
   Reads'.Asked,
   Reads'.Learnt,
-) Reads'4.Pre Reads'4.Post Inv μ
+  Reads'3.Asked,
+  Reads'3.Learnt,
+  Reads.Asked,
+  Reads.Learnt,
+  Reads''.Asked,
+  Reads''.Learnt,
+) Reads'5.Pre Reads'5.Post Inv μ
 
 abbrev pub After-dust-backward-arg4 : (Inv : InvT-loop) → (μ : MeasureT-loop) → Type 0
 After-dust-backward-arg4 = λ Inv μ. Lts.After-dust-backward-arg4 (
-  Reads'3.Asked,
-  Reads'3.Learnt,
-  Reads'5.Asked,
-  Reads'5.Learnt,
-  Reads''.Asked,
-  Reads''.Learnt,
-  Reads.Asked,
-  Reads.Learnt,
+  Reads'4.Asked,
+  Reads'4.Learnt,
+  Reads'6.Asked,
+  Reads'6.Learnt,
   Reads'.Asked,
   Reads'.Learnt,
-) Reads'4.Pre Reads'4.Post Inv μ
+  Reads'3.Asked,
+  Reads'3.Learnt,
+  Reads.Asked,
+  Reads.Learnt,
+  Reads''.Asked,
+  Reads''.Learnt,
+) Reads'5.Pre Reads'5.Post Inv μ
 
 abbrev pub After-dust-backward : (Inv : InvT-loop) → (μ : MeasureT-loop) → Type 0
 After-dust-backward = λ Inv μ. Lts.After-dust-backward (
-  Reads'3.Asked,
-  Reads'3.Learnt,
-  Reads'5.Asked,
-  Reads'5.Learnt,
-  Reads''.Asked,
-  Reads''.Learnt,
-  Reads.Asked,
-  Reads.Learnt,
+  Reads'4.Asked,
+  Reads'4.Learnt,
+  Reads'6.Asked,
+  Reads'6.Learnt,
   Reads'.Asked,
   Reads'.Learnt,
-) Reads'4.Pre Reads'4.Post Inv μ
+  Reads'3.Asked,
+  Reads'3.Learnt,
+  Reads.Asked,
+  Reads.Learnt,
+  Reads''.Asked,
+  Reads''.Learnt,
+) Reads'5.Pre Reads'5.Post Inv μ
 
 abbrev pub After-scan-counts3 : (Inv : InvT-loop) → (μ : MeasureT-loop) → Type 0
 After-scan-counts3 = λ Inv μ. Lts.After-scan-counts3 (
-  Reads'3.Asked,
-  Reads'3.Learnt,
-  Reads'5.Asked,
-  Reads'5.Learnt,
-  Reads''.Asked,
-  Reads''.Learnt,
-  Reads.Asked,
-  Reads.Learnt,
+  Reads'4.Asked,
+  Reads'4.Learnt,
+  Reads'6.Asked,
+  Reads'6.Learnt,
   Reads'.Asked,
   Reads'.Learnt,
-) Reads'4.Pre Reads'4.Post Inv μ
+  Reads'3.Asked,
+  Reads'3.Learnt,
+  Reads.Asked,
+  Reads.Learnt,
+  Reads''.Asked,
+  Reads''.Learnt,
+) Reads'5.Pre Reads'5.Post Inv μ
 
-abbrev pub After-slice-known15 : (Inv : InvT-loop) → (μ : MeasureT-loop) → Type 0
-After-slice-known15 = λ Inv μ. Lts.After-slice-known15 (
-  Reads'3.Asked,
-  Reads'3.Learnt,
-  Reads'5.Asked,
-  Reads'5.Learnt,
-  Reads''.Asked,
-  Reads''.Learnt,
-  Reads.Asked,
-  Reads.Learnt,
+abbrev pub After-slice-known9 : (Inv : InvT-loop) → (μ : MeasureT-loop) → Type 0
+After-slice-known9 = λ Inv μ. Lts.After-slice-known9 (
+  Reads'4.Asked,
+  Reads'4.Learnt,
+  Reads'6.Asked,
+  Reads'6.Learnt,
   Reads'.Asked,
   Reads'.Learnt,
-) Reads'4.Pre Reads'4.Post Inv μ
+  Reads'3.Asked,
+  Reads'3.Learnt,
+  Reads.Asked,
+  Reads.Learnt,
+  Reads''.Asked,
+  Reads''.Learnt,
+) Reads'5.Pre Reads'5.Post Inv μ
 
 abbrev pub After-candidates : (Inv : InvT-loop) → (μ : MeasureT-loop) → Type 0
 After-candidates = λ Inv μ. Lts.After-candidates (
-  Reads'3.Asked,
-  Reads'3.Learnt,
-  Reads'5.Asked,
-  Reads'5.Learnt,
-  Reads''.Asked,
-  Reads''.Learnt,
-  Reads.Asked,
-  Reads.Learnt,
+  Reads'4.Asked,
+  Reads'4.Learnt,
+  Reads'6.Asked,
+  Reads'6.Learnt,
   Reads'.Asked,
   Reads'.Learnt,
-) Reads'4.Pre Reads'4.Post Inv μ
+  Reads'3.Asked,
+  Reads'3.Learnt,
+  Reads.Asked,
+  Reads.Learnt,
+  Reads''.Asked,
+  Reads''.Learnt,
+) Reads'5.Pre Reads'5.Post Inv μ
 
 abbrev pub After-answered-arg : (Inv : InvT-loop) → (μ : MeasureT-loop) → Type 0
 After-answered-arg = λ Inv μ. Lts.After-answered-arg (
-  Reads'3.Asked,
-  Reads'3.Learnt,
-  Reads'5.Asked,
-  Reads'5.Learnt,
-  Reads''.Asked,
-  Reads''.Learnt,
-  Reads.Asked,
-  Reads.Learnt,
+  Reads'4.Asked,
+  Reads'4.Learnt,
+  Reads'6.Asked,
+  Reads'6.Learnt,
   Reads'.Asked,
   Reads'.Learnt,
-) Reads'4.Pre Reads'4.Post Inv μ
-
-abbrev pub After-answered-arg2 : (Inv : InvT-loop) → (μ : MeasureT-loop) → Type 0
-After-answered-arg2 = λ Inv μ. Lts.After-answered-arg2 (
   Reads'3.Asked,
   Reads'3.Learnt,
-  Reads'5.Asked,
-  Reads'5.Learnt,
-  Reads''.Asked,
-  Reads''.Learnt,
   Reads.Asked,
   Reads.Learnt,
-  Reads'.Asked,
-  Reads'.Learnt,
-) Reads'4.Pre Reads'4.Post Inv μ
+  Reads''.Asked,
+  Reads''.Learnt,
+) Reads'5.Pre Reads'5.Post Inv μ
 
 abbrev pub After-answered : (Inv : InvT-loop) → (μ : MeasureT-loop) → Type 0
 After-answered = λ Inv μ. Lts.After-answered (
-  Reads'3.Asked,
-  Reads'3.Learnt,
-  Reads'5.Asked,
-  Reads'5.Learnt,
-  Reads''.Asked,
-  Reads''.Learnt,
-  Reads.Asked,
-  Reads.Learnt,
+  Reads'4.Asked,
+  Reads'4.Learnt,
+  Reads'6.Asked,
+  Reads'6.Learnt,
   Reads'.Asked,
   Reads'.Learnt,
-) Reads'4.Pre Reads'4.Post Inv μ
+  Reads'3.Asked,
+  Reads'3.Learnt,
+  Reads.Asked,
+  Reads.Learnt,
+  Reads''.Asked,
+  Reads''.Learnt,
+) Reads'5.Pre Reads'5.Post Inv μ
 
-abbrev pub After-starts3 : (Inv : InvT-loop) → (μ : MeasureT-loop) → Type 0
-After-starts3 = λ Inv μ. Lts.After-starts3 (
-  Reads'3.Asked,
-  Reads'3.Learnt,
-  Reads'5.Asked,
-  Reads'5.Learnt,
-  Reads''.Asked,
-  Reads''.Learnt,
-  Reads.Asked,
-  Reads.Learnt,
+abbrev pub After-list3 : (Inv : InvT-loop) → (μ : MeasureT-loop) → Type 0
+After-list3 = λ Inv μ. Lts.After-list3 (
+  Reads'4.Asked,
+  Reads'4.Learnt,
+  Reads'6.Asked,
+  Reads'6.Learnt,
   Reads'.Asked,
   Reads'.Learnt,
-) Reads'4.Pre Reads'4.Post Inv μ
-
-abbrev pub After-slice-known16 : (Inv : InvT-loop) → (μ : MeasureT-loop) → Type 0
-After-slice-known16 = λ Inv μ. Lts.After-slice-known16 (
   Reads'3.Asked,
   Reads'3.Learnt,
-  Reads'5.Asked,
-  Reads'5.Learnt,
-  Reads''.Asked,
-  Reads''.Learnt,
   Reads.Asked,
   Reads.Learnt,
-  Reads'.Asked,
-  Reads'.Learnt,
-) Reads'4.Pre Reads'4.Post Inv μ
-
-abbrev pub After-ends3 : (Inv : InvT-loop) → (μ : MeasureT-loop) → Type 0
-After-ends3 = λ Inv μ. Lts.After-ends3 (
-  Reads'3.Asked,
-  Reads'3.Learnt,
-  Reads'5.Asked,
-  Reads'5.Learnt,
   Reads''.Asked,
   Reads''.Learnt,
-  Reads.Asked,
-  Reads.Learnt,
-  Reads'.Asked,
-  Reads'.Learnt,
-) Reads'4.Pre Reads'4.Post Inv μ
-
-abbrev pub After-slice-known17 : (Inv : InvT-loop) → (μ : MeasureT-loop) → Type 0
-After-slice-known17 = λ Inv μ. Lts.After-slice-known17 (
-  Reads'3.Asked,
-  Reads'3.Learnt,
-  Reads'5.Asked,
-  Reads'5.Learnt,
-  Reads''.Asked,
-  Reads''.Learnt,
-  Reads.Asked,
-  Reads.Learnt,
-  Reads'.Asked,
-  Reads'.Learnt,
-) Reads'4.Pre Reads'4.Post Inv μ
+) Reads'5.Pre Reads'5.Post Inv μ
 
 abbrev pub Need-begin-requires : (Inv : InvT-loop) → (μ : MeasureT-loop) → Type 0
 Need-begin-requires = λ Inv μ. Lts.Need-begin-requires (
-  Reads'3.Asked,
-  Reads'3.Learnt,
-  Reads'5.Asked,
-  Reads'5.Learnt,
-  Reads''.Asked,
-  Reads''.Learnt,
-  Reads.Asked,
-  Reads.Learnt,
+  Reads'4.Asked,
+  Reads'4.Learnt,
+  Reads'6.Asked,
+  Reads'6.Learnt,
   Reads'.Asked,
   Reads'.Learnt,
-) Reads'4.Pre Reads'4.Post Inv μ
+  Reads'3.Asked,
+  Reads'3.Learnt,
+  Reads.Asked,
+  Reads.Learnt,
+  Reads''.Asked,
+  Reads''.Learnt,
+) Reads'5.Pre Reads'5.Post Inv μ
 
 abbrev pub Need-loop-holds : (Inv : InvT-loop) → (μ : MeasureT-loop) → Type 0
 Need-loop-holds = λ Inv μ. Lts.Need-loop-holds (
-  Reads'3.Asked,
-  Reads'3.Learnt,
-  Reads'5.Asked,
-  Reads'5.Learnt,
-  Reads''.Asked,
-  Reads''.Learnt,
-  Reads.Asked,
-  Reads.Learnt,
+  Reads'4.Asked,
+  Reads'4.Learnt,
+  Reads'6.Asked,
+  Reads'6.Learnt,
   Reads'.Asked,
   Reads'.Learnt,
-) Reads'4.Pre Reads'4.Post Inv μ
+  Reads'3.Asked,
+  Reads'3.Learnt,
+  Reads.Asked,
+  Reads.Learnt,
+  Reads''.Asked,
+  Reads''.Learnt,
+) Reads'5.Pre Reads'5.Post Inv μ
 
 abbrev pub Need-until-scan-requires : (Inv : InvT-loop) → (μ : MeasureT-loop) → Type 0
 Need-until-scan-requires = λ Inv μ. Lts.Need-until-scan-requires (
-  Reads'3.Asked,
-  Reads'3.Learnt,
-  Reads'5.Asked,
-  Reads'5.Learnt,
-  Reads''.Asked,
-  Reads''.Learnt,
-  Reads.Asked,
-  Reads.Learnt,
+  Reads'4.Asked,
+  Reads'4.Learnt,
+  Reads'6.Asked,
+  Reads'6.Learnt,
   Reads'.Asked,
   Reads'.Learnt,
-) Reads'4.Pre Reads'4.Post Inv μ
+  Reads'3.Asked,
+  Reads'3.Learnt,
+  Reads.Asked,
+  Reads.Learnt,
+  Reads''.Asked,
+  Reads''.Learnt,
+) Reads'5.Pre Reads'5.Post Inv μ
 
 abbrev pub Need-close-requires : (Inv : InvT-loop) → (μ : MeasureT-loop) → Type 0
 Need-close-requires = λ Inv μ. Lts.Need-close-requires (
-  Reads'3.Asked,
-  Reads'3.Learnt,
-  Reads'5.Asked,
-  Reads'5.Learnt,
-  Reads''.Asked,
-  Reads''.Learnt,
-  Reads.Asked,
-  Reads.Learnt,
+  Reads'4.Asked,
+  Reads'4.Learnt,
+  Reads'6.Asked,
+  Reads'6.Learnt,
   Reads'.Asked,
   Reads'.Learnt,
-) Reads'4.Pre Reads'4.Post Inv μ
+  Reads'3.Asked,
+  Reads'3.Learnt,
+  Reads.Asked,
+  Reads.Learnt,
+  Reads''.Asked,
+  Reads''.Learnt,
+) Reads'5.Pre Reads'5.Post Inv μ
 
 abbrev pub Need-same-length : (Inv : InvT-loop) → (μ : MeasureT-loop) → Type 0
 Need-same-length = λ Inv μ. Lts.Need-same-length (
-  Reads'3.Asked,
-  Reads'3.Learnt,
-  Reads'5.Asked,
-  Reads'5.Learnt,
-  Reads''.Asked,
-  Reads''.Learnt,
-  Reads.Asked,
-  Reads.Learnt,
+  Reads'4.Asked,
+  Reads'4.Learnt,
+  Reads'6.Asked,
+  Reads'6.Learnt,
   Reads'.Asked,
   Reads'.Learnt,
-) Reads'4.Pre Reads'4.Post Inv μ
+  Reads'3.Asked,
+  Reads'3.Learnt,
+  Reads.Asked,
+  Reads.Learnt,
+  Reads''.Asked,
+  Reads''.Learnt,
+) Reads'5.Pre Reads'5.Post Inv μ
 
 abbrev pub Need-same-length-2 : (Inv : InvT-loop) → (μ : MeasureT-loop) → Type 0
 Need-same-length-2 = λ Inv μ. Lts.Need-same-length-2 (
-  Reads'3.Asked,
-  Reads'3.Learnt,
-  Reads'5.Asked,
-  Reads'5.Learnt,
-  Reads''.Asked,
-  Reads''.Learnt,
-  Reads.Asked,
-  Reads.Learnt,
+  Reads'4.Asked,
+  Reads'4.Learnt,
+  Reads'6.Asked,
+  Reads'6.Learnt,
   Reads'.Asked,
   Reads'.Learnt,
-) Reads'4.Pre Reads'4.Post Inv μ
+  Reads'3.Asked,
+  Reads'3.Learnt,
+  Reads.Asked,
+  Reads.Learnt,
+  Reads''.Asked,
+  Reads''.Learnt,
+) Reads'5.Pre Reads'5.Post Inv μ
 
 abbrev pub Need-same-length-3 : (Inv : InvT-loop) → (μ : MeasureT-loop) → Type 0
 Need-same-length-3 = λ Inv μ. Lts.Need-same-length-3 (
-  Reads'3.Asked,
-  Reads'3.Learnt,
-  Reads'5.Asked,
-  Reads'5.Learnt,
-  Reads''.Asked,
-  Reads''.Learnt,
-  Reads.Asked,
-  Reads.Learnt,
+  Reads'4.Asked,
+  Reads'4.Learnt,
+  Reads'6.Asked,
+  Reads'6.Learnt,
   Reads'.Asked,
   Reads'.Learnt,
-) Reads'4.Pre Reads'4.Post Inv μ
+  Reads'3.Asked,
+  Reads'3.Learnt,
+  Reads.Asked,
+  Reads.Learnt,
+  Reads''.Asked,
+  Reads''.Learnt,
+) Reads'5.Pre Reads'5.Post Inv μ
 
 abbrev pub Need-same-length-4 : (Inv : InvT-loop) → (μ : MeasureT-loop) → Type 0
 Need-same-length-4 = λ Inv μ. Lts.Need-same-length-4 (
-  Reads'3.Asked,
-  Reads'3.Learnt,
-  Reads'5.Asked,
-  Reads'5.Learnt,
-  Reads''.Asked,
-  Reads''.Learnt,
-  Reads.Asked,
-  Reads.Learnt,
+  Reads'4.Asked,
+  Reads'4.Learnt,
+  Reads'6.Asked,
+  Reads'6.Learnt,
   Reads'.Asked,
   Reads'.Learnt,
-) Reads'4.Pre Reads'4.Post Inv μ
+  Reads'3.Asked,
+  Reads'3.Learnt,
+  Reads.Asked,
+  Reads.Learnt,
+  Reads''.Asked,
+  Reads''.Learnt,
+) Reads'5.Pre Reads'5.Post Inv μ
 
 abbrev pub Need-same-length-5 : (Inv : InvT-loop) → (μ : MeasureT-loop) → Type 0
 Need-same-length-5 = λ Inv μ. Lts.Need-same-length-5 (
-  Reads'3.Asked,
-  Reads'3.Learnt,
-  Reads'5.Asked,
-  Reads'5.Learnt,
-  Reads''.Asked,
-  Reads''.Learnt,
-  Reads.Asked,
-  Reads.Learnt,
+  Reads'4.Asked,
+  Reads'4.Learnt,
+  Reads'6.Asked,
+  Reads'6.Learnt,
   Reads'.Asked,
   Reads'.Learnt,
-) Reads'4.Pre Reads'4.Post Inv μ
-
-abbrev pub Need-same-length-6 : (Inv : InvT-loop) → (μ : MeasureT-loop) → Type 0
-Need-same-length-6 = λ Inv μ. Lts.Need-same-length-6 (
   Reads'3.Asked,
   Reads'3.Learnt,
-  Reads'5.Asked,
-  Reads'5.Learnt,
-  Reads''.Asked,
-  Reads''.Learnt,
   Reads.Asked,
   Reads.Learnt,
-  Reads'.Asked,
-  Reads'.Learnt,
-) Reads'4.Pre Reads'4.Post Inv μ
+  Reads''.Asked,
+  Reads''.Learnt,
+) Reads'5.Pre Reads'5.Post Inv μ
 
 abbrev pub Need-returns : (Inv : InvT-loop) → (μ : MeasureT-loop) → Type 0
 Need-returns = λ Inv μ. Lts.Need-returns (
-  Reads'3.Asked,
-  Reads'3.Learnt,
-  Reads'5.Asked,
-  Reads'5.Learnt,
-  Reads''.Asked,
-  Reads''.Learnt,
-  Reads.Asked,
-  Reads.Learnt,
+  Reads'4.Asked,
+  Reads'4.Learnt,
+  Reads'6.Asked,
+  Reads'6.Learnt,
   Reads'.Asked,
   Reads'.Learnt,
-) Reads'4.Pre Reads'4.Post Inv μ
+  Reads'3.Asked,
+  Reads'3.Learnt,
+  Reads.Asked,
+  Reads.Learnt,
+  Reads''.Asked,
+  Reads''.Learnt,
+) Reads'5.Pre Reads'5.Post Inv μ
+
+abbrev pub Need-last-q-index-requires : (Inv : InvT-loop) → (μ : MeasureT-loop) → Type 0
+Need-last-q-index-requires = λ Inv μ. Lts.Need-last-q-index-requires (
+  Reads'4.Asked,
+  Reads'4.Learnt,
+  Reads'6.Asked,
+  Reads'6.Learnt,
+  Reads'.Asked,
+  Reads'.Learnt,
+  Reads'3.Asked,
+  Reads'3.Learnt,
+  Reads.Asked,
+  Reads.Learnt,
+  Reads''.Asked,
+  Reads''.Learnt,
+) Reads'5.Pre Reads'5.Post Inv μ
 
 abbrev pub Need-dust-backward-requires : (Inv : InvT-loop) → (μ : MeasureT-loop) → Type 0
 Need-dust-backward-requires = λ Inv μ. Lts.Need-dust-backward-requires (
-  Reads'3.Asked,
-  Reads'3.Learnt,
-  Reads'5.Asked,
-  Reads'5.Learnt,
-  Reads''.Asked,
-  Reads''.Learnt,
-  Reads.Asked,
-  Reads.Learnt,
+  Reads'4.Asked,
+  Reads'4.Learnt,
+  Reads'6.Asked,
+  Reads'6.Learnt,
   Reads'.Asked,
   Reads'.Learnt,
-) Reads'4.Pre Reads'4.Post Inv μ
+  Reads'3.Asked,
+  Reads'3.Learnt,
+  Reads.Asked,
+  Reads.Learnt,
+  Reads''.Asked,
+  Reads''.Learnt,
+) Reads'5.Pre Reads'5.Post Inv μ
 
 abbrev pub Need-answered-requires : (Inv : InvT-loop) → (μ : MeasureT-loop) → Type 0
 Need-answered-requires = λ Inv μ. Lts.Need-answered-requires (
-  Reads'3.Asked,
-  Reads'3.Learnt,
-  Reads'5.Asked,
-  Reads'5.Learnt,
-  Reads''.Asked,
-  Reads''.Learnt,
-  Reads.Asked,
-  Reads.Learnt,
+  Reads'4.Asked,
+  Reads'4.Learnt,
+  Reads'6.Asked,
+  Reads'6.Learnt,
   Reads'.Asked,
   Reads'.Learnt,
-) Reads'4.Pre Reads'4.Post Inv μ
+  Reads'3.Asked,
+  Reads'3.Learnt,
+  Reads.Asked,
+  Reads.Learnt,
+  Reads''.Asked,
+  Reads''.Learnt,
+) Reads'5.Pre Reads'5.Post Inv μ
 
 abbrev pub Need-loop-less : (Inv : InvT-loop) → (μ : MeasureT-loop) → Type 0
 Need-loop-less = λ Inv μ. Lts.Need-loop-less (
-  Reads'3.Asked,
-  Reads'3.Learnt,
-  Reads'5.Asked,
-  Reads'5.Learnt,
-  Reads''.Asked,
-  Reads''.Learnt,
-  Reads.Asked,
-  Reads.Learnt,
+  Reads'4.Asked,
+  Reads'4.Learnt,
+  Reads'6.Asked,
+  Reads'6.Learnt,
   Reads'.Asked,
   Reads'.Learnt,
-) Reads'4.Pre Reads'4.Post Inv μ
+  Reads'3.Asked,
+  Reads'3.Learnt,
+  Reads.Asked,
+  Reads.Learnt,
+  Reads''.Asked,
+  Reads''.Learnt,
+) Reads'5.Pre Reads'5.Post Inv μ
 
 abbrev pub Need-loop-again : (Inv : InvT-loop) → (μ : MeasureT-loop) → Type 0
 Need-loop-again = λ Inv μ. Lts.Need-loop-again (
-  Reads'3.Asked,
-  Reads'3.Learnt,
-  Reads'5.Asked,
-  Reads'5.Learnt,
-  Reads''.Asked,
-  Reads''.Learnt,
-  Reads.Asked,
-  Reads.Learnt,
+  Reads'4.Asked,
+  Reads'4.Learnt,
+  Reads'6.Asked,
+  Reads'6.Learnt,
   Reads'.Asked,
   Reads'.Learnt,
-) Reads'4.Pre Reads'4.Post Inv μ
+  Reads'3.Asked,
+  Reads'3.Learnt,
+  Reads.Asked,
+  Reads.Learnt,
+  Reads''.Asked,
+  Reads''.Learnt,
+) Reads'5.Pre Reads'5.Post Inv μ
 
 module _ {M : Type 1} where
   pub spec :
@@ -1065,40 +1006,44 @@ module _ {M : Type 1} where
       (answer : Need-same-length-3 Inv μ) →
       (answer : Need-same-length-4 Inv μ) →
       (answer : Need-same-length-5 Inv μ) →
-      (answer : Need-same-length-6 Inv μ) →
       (answer : Need-returns Inv μ) →
+      (answer : Need-last-q-index-requires Inv μ) →
       (answer : Need-dust-backward-requires Inv μ) →
       (answer : Need-answered-requires Inv μ) →
       (answer : Need-loop-less Inv μ) →
       (answer : Need-loop-again Inv μ) →
       Lts.Closed (
-        Reads'3.Asked,
-        Reads'3.Learnt,
-        Reads'5.Asked,
-        Reads'5.Learnt,
-        Reads''.Asked,
-        Reads''.Learnt,
-        Reads.Asked,
-        Reads.Learnt,
+        Reads'4.Asked,
+        Reads'4.Learnt,
+        Reads'6.Asked,
+        Reads'6.Learnt,
         Reads'.Asked,
         Reads'.Learnt,
-      ) Reads'4.Pre Reads'4.Post M
+        Reads'3.Asked,
+        Reads'3.Learnt,
+        Reads.Asked,
+        Reads.Learnt,
+        Reads''.Asked,
+        Reads''.Learnt,
+      ) Reads'5.Pre Reads'5.Post M
   spec =
       λ Inv μ answer answer' answer'' answer'3 answer'4 answer'5 answer'6 answer'7 answer'8
       answer'9 answer'10 answer'11 answer'12 answer'13 answer'14. Lts.spec (
-        Reads'3.Asked,
-        Reads'3.Learnt,
-        Reads'5.Asked,
-        Reads'5.Learnt,
-        Reads''.Asked,
-        Reads''.Learnt,
-        Reads.Asked,
-        Reads.Learnt,
+        Reads'4.Asked,
+        Reads'4.Learnt,
+        Reads'6.Asked,
+        Reads'6.Learnt,
         Reads'.Asked,
         Reads'.Learnt,
+        Reads'3.Asked,
+        Reads'3.Learnt,
+        Reads.Asked,
+        Reads.Learnt,
+        Reads''.Asked,
+        Reads''.Learnt,
       )
-      Reads'4.Pre
-      Reads'4.Post
+      Reads'5.Pre
+      Reads'5.Post
       Inv
       μ
       answer
@@ -1118,65 +1063,74 @@ module _ {M : Type 1} where
       answer'14
 
   pub close : Lts.Closed (
-    Reads'3.Asked,
-    Reads'3.Learnt,
-    Reads'5.Asked,
-    Reads'5.Learnt,
-    Reads''.Asked,
-    Reads''.Learnt,
-    Reads.Asked,
-    Reads.Learnt,
+    Reads'4.Asked,
+    Reads'4.Learnt,
+    Reads'6.Asked,
+    Reads'6.Learnt,
     Reads'.Asked,
     Reads'.Learnt,
-  ) Reads'4.Pre Reads'4.Post M → Statement.statement M
+    Reads'3.Asked,
+    Reads'3.Learnt,
+    Reads.Asked,
+    Reads.Learnt,
+    Reads''.Asked,
+    Reads''.Learnt,
+  ) Reads'5.Pre Reads'5.Post M → Statement.statement M
   unfolding Code.routine Running.tablesOf
   close =
       λ closed 𝓤 H 𝓜 𝓖 𝓡. Written.close
-      9
+      8
       Kinds.ps
       Kinds.r
-      Reads'4.Ghost
-      Reads'4.requires
-      Reads'4.ensures
-      Reads'4.pre-read
-      Reads'4.Pinned
-      Reads'4.Owned
-      Reads'4.post-read
+      Reads'5.Ghost
+      Reads'5.requires
+      Reads'5.ensures
+      Reads'5.pre-read
+      Reads'5.Pinned
+      Reads'5.Owned
+      Reads'5.post-read
       record { M = M; 𝓤 = 𝓤; H = H; 𝓜 = 𝓜; 𝓖 = 𝓖; 𝓡 = 𝓡 }
       Code.env
       Key.name
       Code.function
       (Code.unfolded 𝓤 H 𝓜 𝓡)
       (λ κs a g. tt)
-      (λ κs. Reads'4.owns κs record { M = M; 𝓤 = 𝓤; H = H; 𝓜 = 𝓜; 𝓖 = 𝓖; 𝓡 = 𝓡 })
-      (Reads'4.passes record { M = M; 𝓤 = 𝓤; H = H; 𝓜 = 𝓜; 𝓖 = 𝓖; 𝓡 = 𝓡 })
+      (λ κs. Reads'5.owns κs record { M = M; 𝓤 = 𝓤; H = H; 𝓜 = 𝓜; 𝓖 = 𝓖; 𝓡 = 𝓡 })
+      (Reads'5.passes record { M = M; 𝓤 = 𝓤; H = H; 𝓜 = 𝓜; 𝓖 = 𝓖; 𝓡 = 𝓡 })
       λ g. closed
       𝓤
       H
       (𝓖 .A)
       (Running.givenOf 𝓤 H 𝓜 𝓖)
       (Run.Over 𝓤 H 𝓜 𝓖 𝓡 Code.env)
+      (Reads'4.known
+      record { M = M; 𝓤 = 𝓤; H = H; 𝓜 = 𝓜; 𝓖 = 𝓖; 𝓡 = 𝓡 }
+      Code.env
+      Symbol'4.name
+      Symbol'4.routine
+      Code.calls-strand·begin
+      (Met'4.met 𝓤 H 𝓜 𝓖 𝓡))
+      (Reads'6.known
+      record { M = M; 𝓤 = 𝓤; H = H; 𝓜 = 𝓜; 𝓖 = 𝓖; 𝓡 = 𝓡 }
+      Code.env
+      Symbol'5.name
+      Symbol'5.routine
+      Code.calls-strand·until-scan
+      (Met'5.met 𝓤 H 𝓜 𝓖 𝓡))
+      (Reads'.known
+      record { M = M; 𝓤 = 𝓤; H = H; 𝓜 = 𝓜; 𝓖 = 𝓖; 𝓡 = 𝓡 }
+      Code.env
+      Symbol'.name
+      Symbol'.routine
+      Code.calls-strand·Open·close
+      (Met'.met 𝓤 H 𝓜 𝓖 𝓡))
       (Reads'3.known
       record { M = M; 𝓤 = 𝓤; H = H; 𝓜 = 𝓜; 𝓖 = 𝓖; 𝓡 = 𝓡 }
       Code.env
       Symbol'3.name
       Symbol'3.routine
-      Code.calls-strand·begin
+      Code.calls-strand·Window·last-q-index
       (Met'3.met 𝓤 H 𝓜 𝓖 𝓡))
-      (Reads'5.known
-      record { M = M; 𝓤 = 𝓤; H = H; 𝓜 = 𝓜; 𝓖 = 𝓖; 𝓡 = 𝓡 }
-      Code.env
-      Symbol'4.name
-      Symbol'4.routine
-      Code.calls-strand·until-scan
-      (Met'4.met 𝓤 H 𝓜 𝓖 𝓡))
-      (Reads''.known
-      record { M = M; 𝓤 = 𝓤; H = H; 𝓜 = 𝓜; 𝓖 = 𝓖; 𝓡 = 𝓡 }
-      Code.env
-      Symbol''.name
-      Symbol''.routine
-      Code.calls-strand·Open·close
-      (Met''.met 𝓤 H 𝓜 𝓖 𝓡))
       (Reads.known
       record { M = M; 𝓤 = 𝓤; H = H; 𝓜 = 𝓜; 𝓖 = 𝓖; 𝓡 = 𝓡 }
       Code.env
@@ -1184,10 +1138,10 @@ module _ {M : Type 1} where
       Symbol.routine
       Code.calls-scans·dust-backward
       (Met.met 𝓤 H 𝓜 𝓖 𝓡))
-      (Reads'.known
+      (Reads''.known
       record { M = M; 𝓤 = 𝓤; H = H; 𝓜 = 𝓜; 𝓖 = 𝓖; 𝓡 = 𝓡 }
       Code.env
-      Symbol'.name
-      Symbol'.routine
-      Code.calls-strand·Going·answered
-      (Met'.met 𝓤 H 𝓜 𝓖 𝓡))
+      Symbol''.name
+      Symbol''.routine
+      Code.calls-strand·State·answered
+      (Met''.met 𝓤 H 𝓜 𝓖 𝓡))

@@ -1,0 +1,4 @@
+// The two public calls.
+
+pub mod process;
+pub mod process_tables;

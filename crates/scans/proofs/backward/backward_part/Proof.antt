@@ -1,0 +1,146 @@
+use mathlib.Core.Path.{_∙_}
+use Prim.Native.Nat.{_-_}
+use native.Mathlib.Omega.{arith}
+use borrow.Author.Needs.{needs}
+use Rattle.scans.specs.Setup.{setupOf}
+use Rattle.scans.proofs.BackwardScan.{Scanning, scanning-start, scanning-end, add-ready, scanning-ended, scanning-raised, scanning-paused, scanning-fallen}
+use Rattle.scans.proofs.backward.backward_part.Statement.{statement}
+use Rattle.scans.proofs.backward.backward_part.Tie as tie
+
+abbrev Inv-loop : tie.InvT-loop
+Inv-loop p quick part len window-counts ln f scan-counts₀ st₀ from i₀ scan-counts st i = Scanning (setupOf p ln f) window-counts quick len part from st₀ scan-counts₀ i st scan-counts
+
+abbrev μ-loop : tie.MeasureT-loop
+μ-loop p quick part len window-counts ln f scan-counts₀ st₀ from i₀ scan-counts st i = i
+
+abbrev start : tie.At-loop Inv-loop μ-loop → tie.Start Inv-loop μ-loop
+start c = c .before .before .before .before .before .before .before
+
+abbrev looping : tie.After-add-entry Inv-loop μ-loop → tie.In-loop Inv-loop μ-loop
+looping k = k .before .before .before .before
+
+abbrev at-loop : tie.After-add-entry Inv-loop μ-loop → tie.At-loop Inv-loop μ-loop
+at-loop k = looping k .before
+
+abbrev begun : tie.After-add-entry Inv-loop μ-loop → tie.Start Inv-loop μ-loop
+begun k = start (at-loop k)
+
+abbrev added : tie.Else1 Inv-loop μ-loop → tie.After-add-entry Inv-loop μ-loop
+added c = c .before .before .before .before
+
+abbrev going : tie.Else2 Inv-loop μ-loop → tie.Else1 Inv-loop μ-loop
+going c = c .before .before .before
+
+abbrev fell : tie.After-fallen Inv-loop μ-loop → tie.Else2 Inv-loop μ-loop
+fell c = c .before .before .before
+
+loop-holds : tie.Need-loop-holds Inv-loop μ-loop
+loop-holds c = scanning-start _ _ _ _ _ _ _ _ (c .before .before .before .before .before .before .pre .1 .1)
+
+add-at : tie.Need-add-at Inv-loop μ-loop
+add-at c = let a = c .before in omega (arith, c .loop-test .taken, a .loop .inv .inside, start a .pre .0)
+
+sub-fl : tie.Need-sub-fl Inv-loop μ-loop
+sub-fl c = let a = c .before in omega (arith, c .loop-test .taken, a .loop .inv .inside, start a .pre .0)
+
+mul-fl : tie.Need-mul-fl Inv-loop μ-loop
+mul-fl c = omega (arith, start (c .before) .pre .0)
+
+shared-slice-read-fl : tie.Need-shared-slice-read-fl Inv-loop μ-loop
+shared-slice-read-fl c = omega (arith, start (c .before .before) .pre .0)
+
+mul-add-entry : tie.Need-mul-add-entry Inv-loop μ-loop
+mul-add-entry c = let a = c .before .before in omega (arith, c .before .loop-test .taken, a .loop .inv .inside, start a .pre .0)
+
+shared-slice-read-add-entry : tie.Need-shared-slice-read-add-entry Inv-loop μ-loop
+shared-slice-read-add-entry c = let d = c .before .before in omega (arith, d .loop-test .taken, d .before .loop .inv .inside)
+
+add-entry-requires : tie.Need-add-entry-requires Inv-loop μ-loop
+add-entry-requires c κs =
+    let d = c .before .before .before in
+    let a = d .before in
+    let s = start a .pre in
+    add-ready _ _ _ _ _ _ _ _ _ _ _ (a .loop .inv) (s .1 .0 .0) (d .loop-test .taken) _ (s .0 .2) (s .0 .3) (s .1 .0 .1) (s .1 .1 .at-most)
+
+returns : tie.Need-returns Inv-loop μ-loop
+returns c =
+    let k = c .before .before .before .before .before in
+    scanning-ended _ _ _ _ _ _ _ _ _ _ _ (at-loop k .loop .inv) (begun k .pre .1 .0 .0) (looping k .loop-test .taken) _ _ (k .add-entry .ensures) _ (c .resting .ensures) (c .before .if1 .taken)
+
+raised-requires : tie.Need-raised-requires Inv-loop μ-loop
+raised-requires c κs = let k = added (c .before .before .before) in omega (arith, looping k .loop-test .taken, at-loop k .loop .inv .inside, begun k .pre .0)
+
+loop-less : tie.Need-loop-less Inv-loop μ-loop
+loop-less c = omega (arith, looping (added (c .before .before .before .before)) .loop-test .taken)
+
+loop-again : tie.Need-loop-again Inv-loop μ-loop
+loop-again c =
+    let o = c .before .before .before .before in
+    let k = added o in
+    scanning-raised _ _ _ _ _ _ _ _ _ _ _ (at-loop k .loop .inv) (begun k .pre .1 .0 .0) (looping k .loop-test .taken) _ _ (k .add-entry .ensures) (o .if1 .left) (c .before .if2 .taken) _ (c .raised .ensures)
+
+same-length-2 : tie.Need-same-length-2 Inv-loop μ-loop
+same-length-2 c =
+    let k = added (going (fell (c .before .before))) in
+    k .add-entry .kept .1 .1 .1 .1 .1 .0 ∙ at-loop k .loop .inv .same
+
+returns-2 : tie.Need-returns-2 Inv-loop μ-loop
+returns-2 c =
+    let m = c .before .before in
+    let b = fell m in
+    let o = going b in
+    let k = added o in
+    scanning-paused _ _ _ _ _ _ _ _ _ _ _ (at-loop k .loop .inv) (begun k .pre .1 .0 .0) (looping k .loop-test .taken) _ _ (k .add-entry .ensures) (o .if1 .left) (b .if2 .left) _ _ (m .before .before .pauses .ensures)
+    (m .before .too-low .ensures) _ (m .fallen .ensures) (c .before .if3 .taken) _ (c .resting2 .ensures)
+
+loop-less-2 : tie.Need-loop-less-2 Inv-loop μ-loop
+loop-less-2 c = omega (arith, looping (added (going (fell (c .before)))) .loop-test .taken)
+
+loop-again-2 : tie.Need-loop-again-2 Inv-loop μ-loop
+loop-again-2 c =
+    let m = c .before in
+    let b = fell m in
+    let o = going b in
+    let k = added o in
+    scanning-fallen _ _ _ _ _ _ _ _ _ _ _ (at-loop k .loop .inv) (begun k .pre .1 .0 .0) (looping k .loop-test .taken) _ _ (k .add-entry .ensures) (o .if1 .left) (b .if2 .left) _ _ (m .before .before .pauses .ensures)
+    (m .before .too-low .ensures) _ (m .fallen .ensures) (c .if3 .left)
+
+same-length-3 : tie.Need-same-length-3 Inv-loop μ-loop
+same-length-3 c = c .before .before .loop .inv .same
+
+returns-3 : tie.Need-returns-3 Inv-loop μ-loop
+returns-3 c = scanning-end _ _ _ _ _ _ _ _ _ _ _ (c .before .before .loop .inv) (c .before .loop-test .left) _ (c .resting3 .ensures)
+
+pub backward-part-spec : {M : Type 1} → statement M
+backward-part-spec =
+    tie.close
+    (tie.spec
+    Inv-loop
+    μ-loop
+    (λ c. search needs)
+    loop-holds
+    (λ c. search needs)
+    add-at
+    sub-fl
+    mul-fl
+    shared-slice-read-fl
+    mul-add-entry
+    shared-slice-read-add-entry
+    add-entry-requires
+    (λ c κs. search needs)
+    (λ c. search needs)
+    returns
+    raised-requires
+    loop-less
+    loop-again
+    (λ c κs. search needs)
+    (λ c κs. search needs)
+    (λ c κs. search needs)
+    (λ c κs. search needs)
+    same-length-2
+    returns-2
+    loop-less-2
+    loop-again-2
+    (λ c κs. search needs)
+    same-length-3
+    returns-3)

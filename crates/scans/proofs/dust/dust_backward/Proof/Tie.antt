@@ -1,0 +1,424 @@
+-- Made by tools/lift from the prover's `Tie` of `dust::dust_backward` over a slice of `[u64; 2]`; not to be edited.
+use Rattle.scans.proofs.candidates.scan_backward.Met
+use Rattle.scans.proofs.CandidatesScanBackwardReads as Reads
+use Rattle.scans.proofs.candidates.scan_backward.Symbol
+use Rattle.scans.proofs.candidates.try_candidates.Met as Met'
+use Rattle.scans.proofs.CandidatesTryCandidatesReads as Reads'
+use Rattle.scans.proofs.candidates.try_candidates.Symbol as Symbol'
+use Rattle.scans.proofs.dust.dust_backward.Code
+use Rattle.scans.proofs.dust.dust_backward.Key
+use Rattle.scans.proofs.DustDustBackwardKinds as Kinds
+use Rattle.scans.proofs.dust.dust_backward.Proof.Lts
+use Rattle.scans.proofs.DustDustBackwardReads as Reads''
+use Rattle.scans.proofs.dust.dust_backward.Statement
+use Rattle.scans.proofs.quick.find_quickly.Met as Met''
+use Rattle.scans.proofs.quick.find_quickly.Reads as Reads'3
+use Rattle.scans.proofs.quick.find_quickly.Symbol as Symbol''
+use borrow.Fn.Run
+use borrow.Fn.Written
+use contract.Running
+
+abbrev pub Start : Type 0
+Start = Lts.Start (
+  Reads'3.Asked,
+  Reads'3.Learnt,
+  Reads.Asked,
+  Reads.Learnt,
+  Reads'.Asked,
+  Reads'.Learnt,
+) Reads''.Pre Reads''.Post
+
+abbrev pub After-shared-slice-known : Type 0
+After-shared-slice-known = Lts.After-shared-slice-known (
+  Reads'3.Asked,
+  Reads'3.Learnt,
+  Reads.Asked,
+  Reads.Learnt,
+  Reads'.Asked,
+  Reads'.Learnt,
+) Reads''.Pre Reads''.Post
+
+abbrev pub After-shared-slice-known2 : Type 0
+After-shared-slice-known2 = Lts.After-shared-slice-known2 (
+  Reads'3.Asked,
+  Reads'3.Learnt,
+  Reads.Asked,
+  Reads.Learnt,
+  Reads'.Asked,
+  Reads'.Learnt,
+) Reads''.Pre Reads''.Post
+
+abbrev pub After-shared-slice-known3 : Type 0
+After-shared-slice-known3 = Lts.After-shared-slice-known3 (
+  Reads'3.Asked,
+  Reads'3.Learnt,
+  Reads.Asked,
+  Reads.Learnt,
+  Reads'.Asked,
+  Reads'.Learnt,
+) Reads''.Pre Reads''.Post
+
+abbrev pub After-shared-slice-known4 : Type 0
+After-shared-slice-known4 = Lts.After-shared-slice-known4 (
+  Reads'3.Asked,
+  Reads'3.Learnt,
+  Reads.Asked,
+  Reads.Learnt,
+  Reads'.Asked,
+  Reads'.Learnt,
+) Reads''.Pre Reads''.Post
+
+abbrev pub After-slice-known : Type 0
+After-slice-known = Lts.After-slice-known (
+  Reads'3.Asked,
+  Reads'3.Learnt,
+  Reads.Asked,
+  Reads.Learnt,
+  Reads'.Asked,
+  Reads'.Learnt,
+) Reads''.Pre Reads''.Post
+
+abbrev pub After-find-quickly-arg : Type 0
+After-find-quickly-arg = Lts.After-find-quickly-arg (
+  Reads'3.Asked,
+  Reads'3.Learnt,
+  Reads.Asked,
+  Reads.Learnt,
+  Reads'.Asked,
+  Reads'.Learnt,
+) Reads''.Pre Reads''.Post
+
+abbrev pub After-find-quickly : Type 0
+After-find-quickly = Lts.After-find-quickly (
+  Reads'3.Asked,
+  Reads'3.Learnt,
+  Reads.Asked,
+  Reads.Learnt,
+  Reads'.Asked,
+  Reads'.Learnt,
+) Reads''.Pre Reads''.Post
+
+abbrev pub After-scan-counts : Type 0
+After-scan-counts = Lts.After-scan-counts (
+  Reads'3.Asked,
+  Reads'3.Learnt,
+  Reads.Asked,
+  Reads.Learnt,
+  Reads'.Asked,
+  Reads'.Learnt,
+) Reads''.Pre Reads''.Post
+
+abbrev pub After-slice-known2 : Type 0
+After-slice-known2 = Lts.After-slice-known2 (
+  Reads'3.Asked,
+  Reads'3.Learnt,
+  Reads.Asked,
+  Reads.Learnt,
+  Reads'.Asked,
+  Reads'.Learnt,
+) Reads''.Pre Reads''.Post
+
+abbrev pub After-struct-known : Type 0
+After-struct-known = Lts.After-struct-known (
+  Reads'3.Asked,
+  Reads'3.Learnt,
+  Reads.Asked,
+  Reads.Learnt,
+  Reads'.Asked,
+  Reads'.Learnt,
+) Reads''.Pre Reads''.Post
+
+abbrev pub Then1 : Type 0
+Then1 = Lts.Then1 (
+  Reads'3.Asked,
+  Reads'3.Learnt,
+  Reads.Asked,
+  Reads.Learnt,
+  Reads'.Asked,
+  Reads'.Learnt,
+) Reads''.Pre Reads''.Post
+
+abbrev pub Else1 : Type 0
+Else1 = Lts.Else1 (
+  Reads'3.Asked,
+  Reads'3.Learnt,
+  Reads.Asked,
+  Reads.Learnt,
+  Reads'.Asked,
+  Reads'.Learnt,
+) Reads''.Pre Reads''.Post
+
+abbrev pub After-scan-backward-arg : Type 0
+After-scan-backward-arg = Lts.After-scan-backward-arg (
+  Reads'3.Asked,
+  Reads'3.Learnt,
+  Reads.Asked,
+  Reads.Learnt,
+  Reads'.Asked,
+  Reads'.Learnt,
+) Reads''.Pre Reads''.Post
+
+abbrev pub After-scan-backward-arg2 : Type 0
+After-scan-backward-arg2 = Lts.After-scan-backward-arg2 (
+  Reads'3.Asked,
+  Reads'3.Learnt,
+  Reads.Asked,
+  Reads.Learnt,
+  Reads'.Asked,
+  Reads'.Learnt,
+) Reads''.Pre Reads''.Post
+
+abbrev pub After-scan-backward : Type 0
+After-scan-backward = Lts.After-scan-backward (
+  Reads'3.Asked,
+  Reads'3.Learnt,
+  Reads.Asked,
+  Reads.Learnt,
+  Reads'.Asked,
+  Reads'.Learnt,
+) Reads''.Pre Reads''.Post
+
+abbrev pub After-scan-counts2 : Type 0
+After-scan-counts2 = Lts.After-scan-counts2 (
+  Reads'3.Asked,
+  Reads'3.Learnt,
+  Reads.Asked,
+  Reads.Learnt,
+  Reads'.Asked,
+  Reads'.Learnt,
+) Reads''.Pre Reads''.Post
+
+abbrev pub After-slice-known3 : Type 0
+After-slice-known3 = Lts.After-slice-known3 (
+  Reads'3.Asked,
+  Reads'3.Learnt,
+  Reads.Asked,
+  Reads.Learnt,
+  Reads'.Asked,
+  Reads'.Learnt,
+) Reads''.Pre Reads''.Post
+
+abbrev pub After-candidates : Type 0
+After-candidates = Lts.After-candidates (
+  Reads'3.Asked,
+  Reads'3.Learnt,
+  Reads.Asked,
+  Reads.Learnt,
+  Reads'.Asked,
+  Reads'.Learnt,
+) Reads''.Pre Reads''.Post
+
+abbrev pub After-try-candidates-arg : Type 0
+After-try-candidates-arg = Lts.After-try-candidates-arg (
+  Reads'3.Asked,
+  Reads'3.Learnt,
+  Reads.Asked,
+  Reads.Learnt,
+  Reads'.Asked,
+  Reads'.Learnt,
+) Reads''.Pre Reads''.Post
+
+abbrev pub After-try-candidates-arg2 : Type 0
+After-try-candidates-arg2 = Lts.After-try-candidates-arg2 (
+  Reads'3.Asked,
+  Reads'3.Learnt,
+  Reads.Asked,
+  Reads.Learnt,
+  Reads'.Asked,
+  Reads'.Learnt,
+) Reads''.Pre Reads''.Post
+
+abbrev pub After-try-candidates : Type 0
+After-try-candidates = Lts.After-try-candidates (
+  Reads'3.Asked,
+  Reads'3.Learnt,
+  Reads.Asked,
+  Reads.Learnt,
+  Reads'.Asked,
+  Reads'.Learnt,
+) Reads''.Pre Reads''.Post
+
+abbrev pub After-scan-counts3 : Type 0
+After-scan-counts3 = Lts.After-scan-counts3 (
+  Reads'3.Asked,
+  Reads'3.Learnt,
+  Reads.Asked,
+  Reads.Learnt,
+  Reads'.Asked,
+  Reads'.Learnt,
+) Reads''.Pre Reads''.Post
+
+abbrev pub After-slice-known4 : Type 0
+After-slice-known4 = Lts.After-slice-known4 (
+  Reads'3.Asked,
+  Reads'3.Learnt,
+  Reads.Asked,
+  Reads.Learnt,
+  Reads'.Asked,
+  Reads'.Learnt,
+) Reads''.Pre Reads''.Post
+
+abbrev pub Need-find-quickly-requires : Type 0
+Need-find-quickly-requires = Lts.Need-find-quickly-requires (
+  Reads'3.Asked,
+  Reads'3.Learnt,
+  Reads.Asked,
+  Reads.Learnt,
+  Reads'.Asked,
+  Reads'.Learnt,
+) Reads''.Pre Reads''.Post
+
+abbrev pub Need-same-length : Type 0
+Need-same-length = Lts.Need-same-length (
+  Reads'3.Asked,
+  Reads'3.Learnt,
+  Reads.Asked,
+  Reads.Learnt,
+  Reads'.Asked,
+  Reads'.Learnt,
+) Reads''.Pre Reads''.Post
+
+abbrev pub Need-returns : Type 0
+Need-returns = Lts.Need-returns (
+  Reads'3.Asked,
+  Reads'3.Learnt,
+  Reads.Asked,
+  Reads.Learnt,
+  Reads'.Asked,
+  Reads'.Learnt,
+) Reads''.Pre Reads''.Post
+
+abbrev pub Need-scan-backward-requires : Type 0
+Need-scan-backward-requires = Lts.Need-scan-backward-requires (
+  Reads'3.Asked,
+  Reads'3.Learnt,
+  Reads.Asked,
+  Reads.Learnt,
+  Reads'.Asked,
+  Reads'.Learnt,
+) Reads''.Pre Reads''.Post
+
+abbrev pub Need-try-candidates-requires : Type 0
+Need-try-candidates-requires = Lts.Need-try-candidates-requires (
+  Reads'3.Asked,
+  Reads'3.Learnt,
+  Reads.Asked,
+  Reads.Learnt,
+  Reads'.Asked,
+  Reads'.Learnt,
+) Reads''.Pre Reads''.Post
+
+abbrev pub Need-same-length-2 : Type 0
+Need-same-length-2 = Lts.Need-same-length-2 (
+  Reads'3.Asked,
+  Reads'3.Learnt,
+  Reads.Asked,
+  Reads.Learnt,
+  Reads'.Asked,
+  Reads'.Learnt,
+) Reads''.Pre Reads''.Post
+
+abbrev pub Need-same-length-3 : Type 0
+Need-same-length-3 = Lts.Need-same-length-3 (
+  Reads'3.Asked,
+  Reads'3.Learnt,
+  Reads.Asked,
+  Reads.Learnt,
+  Reads'.Asked,
+  Reads'.Learnt,
+) Reads''.Pre Reads''.Post
+
+abbrev pub Need-returns-2 : Type 0
+Need-returns-2 = Lts.Need-returns-2 (
+  Reads'3.Asked,
+  Reads'3.Learnt,
+  Reads.Asked,
+  Reads.Learnt,
+  Reads'.Asked,
+  Reads'.Learnt,
+) Reads''.Pre Reads''.Post
+
+module _ {M : Type 1} where
+  pub spec :
+      (answer : Need-find-quickly-requires) →
+      (answer : Need-same-length) →
+      (answer : Need-returns) →
+      (answer : Need-scan-backward-requires) →
+      (answer : Need-try-candidates-requires) →
+      (answer : Need-same-length-2) →
+      (answer : Need-same-length-3) →
+      (answer : Need-returns-2) →
+      Lts.Closed (
+        Reads'3.Asked,
+        Reads'3.Learnt,
+        Reads.Asked,
+        Reads.Learnt,
+        Reads'.Asked,
+        Reads'.Learnt,
+      ) Reads''.Pre Reads''.Post M
+  spec = λ answer answer' answer'' answer'3 answer'4 answer'5 answer'6 answer'7. Lts.spec (
+    Reads'3.Asked,
+    Reads'3.Learnt,
+    Reads.Asked,
+    Reads.Learnt,
+    Reads'.Asked,
+    Reads'.Learnt,
+  ) Reads''.Pre Reads''.Post answer answer' answer'' answer'3 answer'4 answer'5 answer'6 answer'7
+
+  -- antt refused `close` as it was built: the module's report says why
+  pub close : Lts.Closed (
+    Reads'3.Asked,
+    Reads'3.Learnt,
+    Reads.Asked,
+    Reads.Learnt,
+    Reads'.Asked,
+    Reads'.Learnt,
+  ) Reads''.Pre Reads''.Post M → Statement.statement M
+  unfolding Code.routine Running.tablesOf
+  close =
+      λ closed 𝓤 H 𝓜 𝓖 𝓡. Written.close
+      6
+      Kinds.ps
+      Kinds.r
+      Reads''.Ghost
+      Reads''.requires
+      Reads''.ensures
+      Reads''.pre-read
+      Reads''.Pinned
+      Reads''.Owned
+      Reads''.post-read
+      record { M = M; 𝓤 = 𝓤; H = H; 𝓜 = 𝓜; 𝓖 = 𝓖; 𝓡 = 𝓡 }
+      Code.env
+      Key.name
+      Code.function
+      (Code.unfolded 𝓤 H 𝓜 𝓡)
+      (λ κs a g. tt)
+      (λ κs. Reads''.owns κs record { M = M; 𝓤 = 𝓤; H = H; 𝓜 = 𝓜; 𝓖 = 𝓖; 𝓡 = 𝓡 })
+      (Reads''.passes record { M = M; 𝓤 = 𝓤; H = H; 𝓜 = 𝓜; 𝓖 = 𝓖; 𝓡 = 𝓡 })
+      λ g. closed
+      𝓤
+      H
+      (𝓖 .A)
+      (Running.givenOf 𝓤 H 𝓜 𝓖)
+      (Run.Over 𝓤 H 𝓜 𝓖 𝓡 Code.env)
+      (Reads'3.known
+      record { M = M; 𝓤 = 𝓤; H = H; 𝓜 = 𝓜; 𝓖 = 𝓖; 𝓡 = 𝓡 }
+      Code.env
+      Symbol''.name
+      Symbol''.routine
+      Code.calls-scans·quick·find-quickly
+      (Met''.met 𝓤 H 𝓜 𝓖 𝓡))
+      (Reads.known
+      record { M = M; 𝓤 = 𝓤; H = H; 𝓜 = 𝓜; 𝓖 = 𝓖; 𝓡 = 𝓡 }
+      Code.env
+      Symbol.name
+      Symbol.routine
+      Code.calls-scans·candidates·scan-backward
+      (Met.met 𝓤 H 𝓜 𝓖 𝓡))
+      (Reads'.known
+      record { M = M; 𝓤 = 𝓤; H = H; 𝓜 = 𝓜; 𝓖 = 𝓖; 𝓡 = 𝓡 }
+      Code.env
+      Symbol'.name
+      Symbol'.routine
+      Code.calls-scans·candidates·try-candidates
+      (Met'.met 𝓤 H 𝓜 𝓖 𝓡))

@@ -1,0 +1,78 @@
+-- A fast form of the forward scan of the paper, 'Step and scans': the last find's, carried on letter by letter, equals the forward scan over its places that no limit stops.
+-- The terms of its contracts, with those of the scan counts that a scan leaves.
+use mathlib.Core.Path.{_≡_}
+use mathlib.Core.Bool.{true, false, cond}
+use mathlib.Core.List.{List}
+use Prim.Native.Nat.{ℕ, suc, _≤_}
+use lib.ListN.{getD, drop}
+use lib.Ieee.{Float, le, inf}
+use Rattle.floats.specs.Arithmetic.{_⊕_, _⊖_}
+use Rattle.floats.specs.Binary64.{zero64}
+use Rattle.letters.specs.Place.{Place}
+use Rattle.scans.specs.declared.Carry.{Carry}
+use Rattle.scans.specs.declared.Scanned.{Scanned}
+use Rattle.scans.specs.declared.backward.BackwardState.{BackwardState}
+use Rattle.scans.specs.Setup.{Setup, fAt}
+use Rattle.scans.specs.Counts.{count, raise, cleared}
+use Rattle.scans.specs.Scans.{Find, none, at, Outcome, value, Forward, forwardStart, forwardFrom, dustBackward}
+use Rattle.scans.specs.Terms.Window.{countedValue, findOf}
+
+-- The forward scan over all of the places: nothing is above its limit, so it is never stopped.
+abbrev pub wholeForward : Setup → List Place → Forward
+wholeForward S es = forwardFrom S (inf false) es 1 0 forwardStart (cleared S)
+
+-- No scan is carried.
+abbrev pub noCarry : Carry
+noCarry = record { on = false; s = zero64; best = zero64 }
+
+-- While it is on, the carried sums are those of the forward scan over all of the places.
+pub record Carried (S : Setup) (es : List Place) (c : Carry) : Type 0 where
+  pub s-is : c .on ≡ true → wholeForward S es .sums .s ≡ c .s
+  pub best-is : c .on ≡ true → wholeForward S es .sums .best ≡ c .best
+
+-- No count is above how often its k-mer stands among the places, so that a count above 0 is that of one of them.
+pub record Touched (counts : List ℕ) (es : List Place) : Type 0 where
+  pub at-most : (x : ℕ) → getD counts x 0 ≤ count x es
+
+-- The answer r is the outcome's find, and the scan counts left are the outcome's where something was found, else all 0.
+abbrev pub countsLeft : Setup → Find → List ℕ → List ℕ
+countsLeft S none counts = cleared S
+countsLeft S (at j) counts = counts
+
+pub record Settles (S : Setup) (o : Outcome) (r : ℕ) (counts : List ℕ) : Type 0 where
+  pub find-is : findOf r ≡ o .find
+  pub counts-are : counts ≡ countsLeft S (o .find) (o .counts)
+
+-- And a find begins a carried scan, of the places from the find on.
+pub record Answers (S : Setup) (q : List Place) (o : Outcome) (r : Scanned) (counts : List ℕ) : Type 0 where
+  pub settles : Settles S o (r .found) counts
+  pub begins : (j : ℕ) → r .found ≡ suc j → (r .carry .on ≡ true) × Carried S (drop j q) (r .carry)
+  pub ends : r .found ≡ 0 → r .carry .on ≡ false
+
+-- One place more, the l-th of the scan: its value is added, and a score as high as the best is the new best. `counts` are those of the places before.
+abbrev pub carriedOn : Setup → ℕ → List ℕ → Place → Carry → Carry
+carriedOn S l counts e c =
+    let s : Float = c .s ⊕ (value S counts e ⊖ S .score-threshold) in
+    let sl : Float = s ⊖ fAt S l in
+    record { on = c .on; s = s; best = cond (le (c .best) sl) sl (c .best) }
+
+-- The same with counts that have the place already; on only where the place is the best.
+abbrev pub carriedAhead : Setup → ℕ → List ℕ → Place → Carry → Carry
+carriedAhead S l counts e c =
+    let s : Float = c .s ⊕ (countedValue (S .ln) counts e ⊖ S .score-threshold) in
+    let sl : Float = s ⊖ fAt S l in
+    record { on = le (c .best) sl; s = s; best = sl }
+
+pub record CarriesOn (S : Setup) (l : ℕ) (e : Place) (c c′ : Carry) (counts counts′ : List ℕ) : Type 0 where
+  pub carry-is : c′ ≡ carriedOn S l counts e c
+  pub counts-are : counts′ ≡ raise counts e
+
+-- After the quick scan b of a window: a carried scan that is on tells the find, which is b's best place. Otherwise only entries that b read have touched the counts.
+pub record CarriesAhead (S : Setup) (q : List Place) (b : BackwardState) (r : Carry) (counts : List ℕ) : Type 0 where
+  pub tells : r .on ≡ true → Answers S q (dustBackward S q) (record { found = b .found; carry = r }) counts
+  pub touched : r .on ≡ false → Touched counts (drop (b .low) q)
+
+-- A find that is told is the definition's; where none is told, the counts are cleared.
+pub record FindsQuickly (S : Setup) (q : List Place) (r : Scanned) (counts : List ℕ) : Type 0 where
+  pub tells : (r .found ≡ 0 → ⊥) → Answers S q (dustBackward S q) r counts
+  pub clears : r .found ≡ 0 → counts ≡ cleared S

@@ -1,0 +1,67 @@
+// The search at a letter.
+
+ghost use mathlib.Core.Path.{_≡_};
+ghost use Prim.Native.Nat.{_-_, _^_, _<_};
+ghost use lib.ListN.{length, drop, replicate};
+ghost use Rattle.scans.specs.Setup.{setupOf};
+ghost use Rattle.scans.specs.Scans.{dustBackward};
+ghost use Rattle.scans.specs.Terms.Window.{window, Windowed, Roomy};
+ghost use Rattle.scans.specs.Terms.Carry.{Carried, Answers};
+use crate::Carry;
+use crate::ForwardPosition;
+use crate::Params;
+use crate::Scanned;
+use crate::candidates::scan_backward;
+use crate::candidates::try_candidates;
+use crate::quick::find_quickly;
+
+// One past the index in the window from which a forward scan ends best at the newest entry, 0 where there is none, from cleared counts.
+// A carried scan is that of entries `start` to the newest but one.
+pub fn dust_backward(
+    p: Params,
+    carry: Carry,
+    start: usize,
+    queue: &[u32],
+    head: usize,
+    len: usize,
+    window_counts: &[u16],
+    ln: &[f64],
+    f: &[f64],
+    scan_counts: &mut [u16],
+    candidates: &mut [ForwardPosition],
+) -> Scanned
+    requires { ⌜ Windowed p (now queue) head len (now «window_counts») (length (now ln)) ⌝ }
+    requires { ⌜ Roomy p (length (now f)) (length (now «scan_counts»)) (length (now candidates)) ⌝ }
+    requires { ⌜ (0 < len) × (now «scan_counts» ≡ replicate (4 ^ p .kmer) 0) ⌝ }
+    requires { ⌜ Carried (setupOf p (now ln) (now f)) (drop start (window (now queue) head (len - 1))) carry ⌝ }
+    ensures { λ r. ⌜ (let S = setupOf p (now (ln .entry)) (now (f .entry)) in let q = window (now (queue .entry)) head len in
+        Answers S q (dustBackward S q) r (now («scan_counts» .exit))) ⌝ }
+{
+    let quick = find_quickly(
+        p,
+        carry,
+        start,
+        queue,
+        head,
+        len,
+        window_counts,
+        ln,
+        f,
+        scan_counts,
+    );
+    if quick.found != 0 {
+        return quick;
+    }
+    let noted = scan_backward(
+        p,
+        queue,
+        head,
+        len,
+        window_counts,
+        ln,
+        f,
+        scan_counts,
+        candidates,
+    );
+    try_candidates(p, queue, head, len, noted, ln, f, candidates, scan_counts)
+}

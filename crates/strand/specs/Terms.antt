@@ -1,0 +1,7 @@
+pub mod Like
+pub mod KnownCounts
+pub mod Entering
+pub mod Searching
+pub mod Finding
+pub mod ReadingOn
+pub mod Running

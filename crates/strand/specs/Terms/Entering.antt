@@ -1,0 +1,95 @@
+-- Terms of contracts: the run that a state and the lent buffers hold, and how the next letter enters the window.
+use mathlib.Core.Path.{_≡_}
+use Prim.Native.Nat.{ℕ, _+_, _-_, _/_, _^_, _<_, _≤_}
+use mathlib.Core.List.{List, [], _∷_, _++_}
+use lib.ListN.{length, getD}
+use lib.Ieee.{Float, nan}
+use Rattle.floats.specs.Arithmetic.{_⊕_, _⊖_}
+use Rattle.letters.specs.Place.{Place, ambiguous, plain, placeAt}
+use Rattle.letters.specs.Entry.{decode}
+use Rattle.letters.specs.Rolling.{kmerAfter, entryOf}
+use Rattle.intervals.specs.Interval.{Interval}
+use Rattle.scans.specs.declared.Params.{Params}
+use Rattle.scans.specs.Setup.{setupOf}
+use Rattle.scans.specs.Terms.Window.{window, Windowed}
+use Rattle.strand.specs.Step.{Run, leave, join}
+use Rattle.strand.specs.declared.Window.{Window}
+use Rattle.strand.specs.declared.Open.{Open}
+use Rattle.strand.specs.declared.State.{State}
+use Rattle.strand.specs.Terms.KnownCounts.{KnownCounts}
+
+-- The run that a window, an interval in hand, the ring, the scan counts and the saved intervals hold.
+abbrev pub heldBy : Window → Open → (ring counts : List ℕ) → List Interval → Run
+heldBy w o ring counts saved =
+    record {
+      window = window ring (w .head) (w .len);
+      sum = w .sum;
+      counts = counts;
+      start = o .start;
+      end = o .end;
+      last-q = w .«last_q»;
+      saved = saved;
+    }
+
+abbrev pub held : State → (ring counts : List ℕ) → List Interval → Run
+held a ring counts saved = heldBy (a .window) (a .hand) ring counts saved
+
+-- The place of the newest letter read.
+abbrev pub newestOf : Params → State → Place
+newestOf p a = decode (entryOf (p .kmer) (a .kmer))
+
+-- ---- The window.
+-- The sum without a place that leaves and with one that joins, `counts` being the window counts with the place.
+abbrev pub sumLess : List Float → List ℕ → Float → Place → Float
+sumLess ln counts sum ambiguous = sum
+sumLess ln counts sum (plain x) = sum ⊖ getD ln (getD counts x 0) nan
+
+abbrev pub sumMore : List Float → List ℕ → Float → Place → Float
+sumMore ln counts sum ambiguous = sum
+sumMore ln counts sum (plain x) = sum ⊕ getD ln (getD counts x 0) nan
+
+-- With a full queue the oldest entry has left, whatever the f table, the interval in hand and the saved ones are.
+pub record Left (p : Params) (ln : List Float) (w w′ : Window) (ring counts window-counts′ counts′ : List ℕ) : Type 0 where
+  pub known : (f : List Float) → KnownCounts (setupOf p ln f) (window ring (w .head) (w .len)) w counts
+      → KnownCounts (setupOf p ln f) (window ring (w′ .head) (w′ .len)) w′ counts′
+  pub run-is : (f : List Float) (o : Open) (saved : List Interval)
+      → heldBy w′ o ring counts′ saved ≡ leave (setupOf p ln f) (heldBy w o ring counts saved)
+  pub windowed : Windowed p ring (w′ .head) (w′ .len) window-counts′ (length ln)
+  pub room : w′ .len < p .«window_size»
+
+-- The entry e has joined, whatever the others are.
+pub record Joined (p : Params) (ln : List Float) (w w′ : Window) (e : ℕ) (ring ring′ window-counts′ : List ℕ) : Type 0 where
+  pub known : (f : List Float) (counts : List ℕ) → KnownCounts (setupOf p ln f) (window ring (w .head) (w .len)) w counts
+      → KnownCounts (setupOf p ln f) (window ring′ (w′ .head) (w′ .len - 1)) w′ counts
+  pub run-is : (f : List Float) (o : Open) (counts : List ℕ) (saved : List Interval)
+      → heldBy w′ o ring′ counts saved ≡ join (setupOf p ln f) (heldBy w o ring counts saved) (decode e)
+  pub newest : window ring′ (w′ .head) (w′ .len) ≡ window ring′ (w′ .head) (w′ .len - 1) ++ decode e ∷ []
+  pub windowed : Windowed p ring′ (w′ .head) (w′ .len) window-counts′ (length ln)
+  pub some : 0 < w′ .len
+
+-- The entry e stands last in the window, and the scan counts are those before it.
+pub record Entered (p : Params) (ln f : List Float) (w : Window) (e : ℕ) (ring window-counts counts : List ℕ) : Type 0 where
+  pub some : 0 < w .len
+  pub below : e / 2 < 4 ^ p .kmer
+  pub windowed : Windowed p ring (w .head) (w .len) window-counts (length ln)
+  pub known : KnownCounts (setupOf p ln f) (window ring (w .head) (w .len - 1)) w counts
+  pub newest : window ring (w .head) (w .len) ≡ window ring (w .head) (w .len - 1) ++ decode e ∷ []
+
+-- The next letter can enter.
+pub record Next (p : Params) (codes : List ℕ) (n-ln : ℕ) (a : State) (ring window-counts : List ℕ) (n-counts : ℕ) : Type 0 where
+  pub kmer-small : p .kmer ≤ 12
+  pub letters-in : length codes < 2147483648
+  pub counts-is : n-counts ≡ 4 ^ p .kmer
+  pub i-in : a .i < length codes
+  pub kmer-is : a .kmer ≡ kmerAfter (p .kmer) codes (a .i)
+  pub windowed : Windowed p ring (a .window .head) (a .window .len) window-counts n-ln
+
+-- It has entered: with a full queue the oldest entry has left, then its place has joined.
+pub record Enters (p : Params) (codes : List ℕ) (ln f : List Float) (a a′ : State) (ring counts ring′ window-counts′ counts′ : List ℕ) : Type 0 where
+  pub run-is : (saved : List Interval)
+      → held a′ ring′ counts′ saved ≡ join (setupOf p ln f) (leave (setupOf p ln f) (held a ring counts saved)) (placeAt (p .kmer) codes (a .i))
+  pub place-is : newestOf p a′ ≡ placeAt (p .kmer) codes (a .i)
+  pub kmer-is : a′ .kmer ≡ kmerAfter (p .kmer) codes (a .i + 1)
+  pub i-is : a′ .i ≡ a .i
+  pub hand-is : a′ .hand ≡ a .hand
+  pub entered : Entered p ln f (a′ .window) (entryOf (p .kmer) (a′ .kmer)) ring′ window-counts′ counts′

@@ -1,0 +1,66 @@
+-- Terms of contracts: reading on to the next letter that is searched from.
+use mathlib.Core.Path.{_≡_}
+use Prim.Native.Nat.{ℕ, _<_, _≤_}
+use mathlib.Core.Bool.{true, false}
+use mathlib.Core.List.{List}
+use lib.ListN.{length, drop}
+use lib.IntN.{negsuc}
+use lib.Ieee.{Float}
+use Rattle.floats.specs.Binary64.{zero64}
+use Rattle.letters.specs.Place.{Place, places}
+use Rattle.letters.specs.Rolling.{noLetter, kmerAfter}
+use Rattle.intervals.specs.Interval.{Interval}
+use Rattle.scans.specs.declared.Params.{Params}
+use Rattle.scans.specs.Setup.{Setup, setupOf}
+use Rattle.scans.specs.Counts.{count}
+use Rattle.scans.specs.Terms.Window.{window, Windowed}
+use Rattle.scans.specs.Terms.Carry.{noCarry}
+use Rattle.strand.specs.Step.{Run, whole, runFrom}
+use Rattle.strand.specs.declared.State.{State}
+use Rattle.strand.specs.Terms.Like.{Like}
+use Rattle.strand.specs.Terms.KnownCounts.{KnownCounts}
+use Rattle.strand.specs.Terms.Entering.{held, newestOf, Enters}
+use Rattle.strand.specs.Terms.Searching.{isSearched}
+
+-- At first: start, end and last_q at -1, sum 0, no queue entry, nothing saved.
+abbrev pub unread : State
+unread =
+    record {
+      kmer = noLetter;
+      i = 0;
+      window = record { sum = zero64; «last_q» = negsuc 0; head = 0; len = 0; live = false; carry = noCarry };
+      hand = record { start = negsuc 0; end = negsuc 0; count = 0 };
+    }
+
+-- The letters before a .i are read.
+pub record Read (p : Params) (codes : List ℕ) (ln f : List Float) (a : State) (ring window-counts counts : List ℕ) : Type 0 where
+  pub i-in : a .i ≤ length codes
+  pub kmer-is : a .kmer ≡ kmerAfter (p .kmer) codes (a .i)
+  pub windowed : Windowed p ring (a .window .head) (a .window .len) window-counts (length ln)
+  pub known : KnownCounts (setupOf p ln f) (window ring (a .window .head) (a .window .len)) (a .window) counts
+
+-- The definition's run from letter i on is that from letter i′ on, with a state there that a′ is like.
+pub record Onward (S : Setup) (ps : List Place) (i : ℕ) (real : Run) (i′ : ℕ) (a′ : Run) : Type 0 where
+  pub real′ : Run
+  pub like : Like i′ a′ real′
+  pub rest : runFrom S i real (drop i ps) ≡ runFrom S i′ real′ (drop i′ ps)
+
+-- No letter from a .i to a′ .i - 1 is searched from, so the interval in hand, which ends before a .i, stays the same.
+pub record Skims (p : Params) (codes : List ℕ) (ln f : List Float) (a a′ : State) (ring counts ring′ counts′ : List ℕ) : Type 0 where
+  pub further : a .i ≤ a′ .i
+  pub hand-is : a′ .hand ≡ a .hand
+  pub onward : (saved : List Interval) (real : Run) → whole (a .hand .end) ≤ a .i → Like (a .i) (held a ring counts saved) real
+      → Onward (setupOf p ln f) (places (p .kmer) codes) (a .i) real (a′ .i) (held a′ ring′ counts′ saved)
+
+-- Then the next letter, which is searched from, has entered the window.
+pub record Stops (p : Params) (codes : List ℕ) (ln f : List Float) (from r : State) (ring counts ring′ window-counts′ counts′ : List ℕ) : Type 0 where
+  pub before : State
+  pub ring₀ : List ℕ
+  pub counts₀ : List ℕ
+  pub skims : Skims p codes ln f from before ring counts ring₀ counts₀
+  pub enters : Enters p codes ln f before r ring₀ counts₀ ring′ window-counts′ counts′
+  pub searched : isSearched (p .«min_start_cnt») window-counts′ (newestOf p r) ≡ true
+
+pub record Skimmed (p : Params) (codes : List ℕ) (ln f : List Float) (from r : State) (ring counts ring′ window-counts′ counts′ : List ℕ) : Type 0 where
+  pub ends : length codes ≤ r .i → Skims p codes ln f from r ring counts ring′ counts′
+  pub stops : r .i < length codes → Stops p codes ln f from r ring counts ring′ window-counts′ counts′

@@ -1,0 +1,101 @@
+-- Terms of contracts: where the run over a strand stands between its parts, before a letter, at a letter whose backward scan is due and at the end.
+use mathlib.Core.Path.{_≡_}
+use Prim.Native.Nat.{ℕ, _+_, _-_, _/_, _^_, _<_, _≤_}
+use mathlib.Core.List.{List}
+use lib.ListN.{length, take, drop, replicate}
+use lib.IntN.{ℤ, pos, negsuc}
+use lib.Ieee.{Float}
+use Rattle.letters.specs.Place.{places}
+use Rattle.intervals.specs.Interval.{Interval, listOf, Canonical, EndsBelow}
+use Rattle.scans.specs.declared.Params.{Params}
+use Rattle.scans.specs.Setup.{Setup, setupOf}
+use Rattle.scans.specs.Scans.{dustBackward}
+use Rattle.scans.specs.Terms.Window.{window, Windowed}
+use Rattle.scans.specs.Terms.Carry.{Carried, Answers}
+use Rattle.strand.specs.Step.{Run, whole, runFrom, run, intervalsOf}
+use Rattle.strand.specs.declared.Window.{Window}
+use Rattle.strand.specs.declared.Open.{Open}
+use Rattle.strand.specs.declared.State.{State}
+use Rattle.scans.specs.declared.Scanned.{Scanned}
+use Rattle.strand.specs.Terms.Like.{Like}
+use Rattle.strand.specs.Terms.KnownCounts.{answeredBy}
+use Rattle.strand.specs.Terms.Entering.{held}
+use Rattle.strand.specs.Terms.Finding.{savedIn, Saving, TakesFind}
+use Rattle.strand.specs.Terms.ReadingOn.{Read}
+
+-- ---- What is lent.
+-- What a part of the run asks: the numbers lie in their ranges, and the slices that it is lent have the sizes that the paper lists.
+pub record PartLent (p : Params) (n n-f n-counts n-list : ℕ) : Type 0 where
+  pub kmer-some : 0 < p .kmer
+  pub kmer-small : p .kmer ≤ 12
+  pub letters-in : n < 2147483648
+  pub f-long : p .«window_size» < n-f
+  pub counts-is : n-counts ≡ 4 ^ p .kmer
+  pub list-long : (n + 1) / (p .kmer + 1) ≤ n-list
+
+-- What the whole run asks.
+pub record StrandLent (p : Params) (n n-ln n-f n-ring n-window-counts n-counts n-candidates n-list : ℕ) : Type 0 where
+  pub part : PartLent p n n-f n-counts n-list
+  pub wide : 1 < p .«window_size»
+  pub small : p .«window_size» ≤ 65535
+  pub ln-long : p .«window_size» < n-ln
+  pub ring-is : n-ring ≡ p .«window_size»
+  pub window-counts-are : n-window-counts ≡ 4 ^ p .kmer
+  pub candidates-long : p .«window_size» ≤ n-candidates
+
+-- ---- Before a letter.
+-- After i letters: what is saved is canonical and ends before end, and start, if it is not negative, lies k letters or more before end.
+abbrev pub StartOk : ℕ → ℤ → ℕ → Type 0
+StartOk k (pos s) e = s + k ≤ e
+StartOk k (negsuc s) e = Unit {0}
+
+pub record Shaped (k i : ℕ) (start end : ℤ) (saved : List Interval) : Type 0 where
+  pub canonical : Canonical i k saved
+  pub ends-below : EndsBelow (whole end) saved
+  pub end-in : whole end ≤ i
+  pub start-ok : StartOk k start (whole end)
+
+pub record Before (p : Params) (codes : List ℕ) (ln f : List Float) (a : State) (ring window-counts counts : List ℕ) (list : List (List ℕ)) : Type 0 where
+  pub read : Read p codes ln f a ring window-counts counts
+  pub shaped : Shaped (p .kmer) (a .i) (a .hand .start) (a .hand .end) (savedIn (a .hand .count) list)
+  pub count-in : a .hand .count ≤ length list
+  pub real : Run  -- the definition's run
+  pub like : Like (a .i) (held a ring counts (savedIn (a .hand .count) list)) real
+  pub rest : run (setupOf p ln f) (places (p .kmer) codes) ≡ runFrom (setupOf p ln f) (a .i) real (drop (a .i) (places (p .kmer) codes))
+
+-- ---- At a letter whose backward scan is due, from cleared counts.
+-- What is known of the answer r to such a scan, which leaves the scan counts counts′.
+abbrev pub ScanAnswer : Params → (ln f : List Float) → Window → List ℕ → Scanned → List ℕ → Type 0
+ScanAnswer p ln f w ring r counts′ =
+    Answers (setupOf p ln f) (window ring (w .head) (w .len)) (dustBackward (setupOf p ln f) (window ring (w .head) (w .len))) r counts′
+
+-- Whatever the answer, the run stands before the next letter when it is taken.
+pub record Due (p : Params) (codes : List ℕ) (ln f : List Float) (a : State) (ring window-counts counts : List ℕ) (list : List (List ℕ)) : Type 0 where
+  pub some : 0 < a .window .len
+  pub windowed : Windowed p ring (a .window .head) (a .window .len) window-counts (length ln)
+  pub clear : counts ≡ replicate (4 ^ p .kmer) 0
+  pub carried : Carried (setupOf p ln f) (drop (whole (a .window .«last_q»)) (window ring (a .window .head) (a .window .len - 1))) (a .window .carry)
+  pub saving : Saving (a .hand) list
+  pub within : (r : Scanned) (counts′ : List ℕ) → ScanAnswer p ln f (a .window) ring r counts′ → r .found ≤ a .window .len
+  pub leads : (r : Scanned) (a′ : State) (counts′ : List ℕ) (list′ : List (List ℕ)) → ScanAnswer p ln f (a .window) ring r counts′
+      → TakesFind (p .kmer) a (answeredBy (a .window) (r .found) (r .carry)) a′ (savedIn (a .hand .count) list) (savedIn (a′ .hand .count) list′)
+      → a′ .hand .count ≤ length list′ → Before p codes ln f a′ ring window-counts counts′ list′
+
+-- ---- All letters.
+-- The run over all letters, and its last interval can be saved.
+pub record Finished (p : Params) (codes : List ℕ) (ln f : List Float) (o : Open) (list : List (List ℕ)) : Type 0 where
+  pub start-is : o .start ≡ run (setupOf p ln f) (places (p .kmer) codes) .start
+  pub end-is : o .end ≡ run (setupOf p ln f) (places (p .kmer) codes) .end
+  pub saved-is : savedIn (o .count) list ≡ run (setupOf p ln f) (places (p .kmer) codes) .saved
+  pub saving : Saving o list
+
+-- ---- The next letter whose backward scan is due, or the end.
+pub record Reached (p : Params) (codes : List ℕ) (ln f : List Float) (i : ℕ) (a : State) (ring window-counts counts : List ℕ) (list : List (List ℕ)) : Type 0 where
+  pub further : i ≤ a .i
+  pub ended : length codes ≤ a .i → Finished p codes ln f (a .hand) list
+  pub due : a .i < length codes → Due p codes ln f a ring window-counts counts list
+
+-- The strand's list, in the first r entries of a slice.
+pub record StrandList (S : Setup) (codes : List ℕ) (list : List (List ℕ)) (r : ℕ) : Type 0 where
+  pub list-is : listOf (take r list) ≡ intervalsOf S codes
+  pub count-is : r ≡ length (intervalsOf S codes)
