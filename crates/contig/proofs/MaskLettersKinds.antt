@@ -8,6 +8,7 @@ use borrow.Kind.Value
 use borrow.Rule.Local
 use borrow.Table.Referent
 use borrow.Table.Rows
+use denote.Array
 use denote.Exit
 use denote.Struct.Declared
 use denote.Struct.Laws as Laws'
@@ -15,15 +16,15 @@ use mathlib.Core.List
 use mathlib.Core.Path as Path'
 use mir.Syntax
 
-abbrev pub ps : List.List (Kinds.PK 3)
+abbrev pub ps : List.List (Kinds.PK 2)
 ps =
     List._∷_
     (ShrSlice.pShrS (Referent.rtF (Referent.fInt Syntax.w8)) 0 tt)
     (List._∷_
-    (MutSlice.pMutS (Referent.rtF (Referent.fInt Syntax.w32)) 1 tt)
-    (List._∷_ (MutSlice.pMutS (Referent.rtF (Referent.fInt Syntax.w32)) 2 tt) List.[]))
+    (MutSlice.pMutS (Array.Array (Referent.rtF (Referent.fInt Syntax.w32)) 2) 1 tt)
+    List.[])
 
-abbrev pub r : Kinds.RK 3
+abbrev pub r : Kinds.RK 2
 r = Value.rVal record {
   ty = Declared.row Outcome.the-type;
   one = Path'.refl;

@@ -4,8 +4,7 @@ use mathlib.Core.Path.{_≡_}
 use mathlib.Core.List.{List, []}
 use lib.ListN.{length}
 use Rattle.letters.specs.Code.{codes}
-use Rattle.intervals.specs.Interval.{Interval, Canonical}
-use Rattle.intervals.specs.Rows.{Rows}
+use Rattle.intervals.specs.Interval.{Interval, Canonical, Wrote}
 use Rattle.tables.specs.declared.GcOption.the-variants.{Uniform}
 use Rattle.tables.specs.Density.{density}
 use Rattle.tables.specs.Tables.{lnTable, fTable}
@@ -15,7 +14,17 @@ use Rattle.longdust.specs.Checks.{refusal}
 use Rattle.longdust.specs.Mask.{mask}
 use Rattle.contig.specs.declared.Outcome.{Outcome}
 
--- The buffers' sizes for 32,768 letters, k = 7 and w = 5,000.
+-- The most letters that are taken, the room for their intervals, and for the longest text: a line of 12 bytes for each, and 15.
+abbrev pub mostLetters : ℕ
+mostLetters = 32768
+
+abbrev pub listRoom : ℕ
+listRoom = 4096
+
+abbrev pub textRoom : ℕ
+textRoom = 49167
+
+-- The buffers' sizes for so many letters, k = 7 and w = 5,000.
 abbrev pub lent : Lent
 lent =
     record {
@@ -25,14 +34,11 @@ lent =
       «window_counts» = 16384;
       «scan_counts» = 16384;
       candidates = 5000;
-      codes = 32768;
-      «reverse_codes» = 32768;
-      «forward_starts» = 4096;
-      «forward_ends» = 4096;
-      «reverse_starts» = 4096;
-      «reverse_ends» = 4096;
-      starts = 4096;
-      ends = 4096;
+      codes = mostLetters;
+      «reverse_codes» = mostLetters;
+      «forward_list» = listRoom;
+      «reverse_list» = listRoom;
+      list = listRoom;
     }
 
 -- The refusal number of the letters s, 0 if they are accepted.
@@ -48,8 +54,8 @@ abbrev pub unless : ℕ → List Interval → List Interval
 unless zero is = is
 unless (suc number) is = []
 
--- The run on the letters s left its list in starts and ends.
-pub record Ran (s starts ends starts′ ends′ : List ℕ) (r : Outcome) : Type 0 where
+-- The run on the letters s left its list in xs′, which was xs.
+pub record Ran (s : List ℕ) (xs xs′ : List (List ℕ)) (r : Outcome) : Type 0 where
   pub number : r .refusal ≡ contigRefusal s
-  pub list : Rows (unless (contigRefusal s) (contigMask s)) starts ends starts′ ends′ (r .count)
+  pub list : Wrote (unless (contigRefusal s) (contigMask s)) xs xs′ (r .count)
   pub shape : Canonical (length s) 7 (unless (contigRefusal s) (contigMask s))

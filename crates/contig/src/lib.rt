@@ -1,14 +1,25 @@
 // A contig of at most 32,768 letters, masked with the default options, and what `track` prints for it.
 
 ghost use mathlib.Core.Path.{_≡_};
-ghost use Prim.Native.Nat.{_≤_};
+ghost use Prim.Native.Nat.{ℕ, _≤_, _<_};
+ghost use mathlib.Core.List.{List};
 ghost use lib.ListN.{length};
 ghost use Rattle.io.specs.Counts.{Counts};
+ghost use Rattle.report.specs.Letters.{Held};
 ghost use Rattle.report.specs.Written.{Written};
-ghost use Rattle.contig.specs.Run.{Ran};
-ghost use Rattle.contig.specs.Printed.{printed};
+ghost use Rattle.contig.specs.Run.{mostLetters, listRoom, textRoom, Ran};
+ghost use Rattle.contig.specs.Printed.{printed, textOf};
 use longdust::LongdustOptions;
 use scans::ForwardPosition;
+
+// The most letters that are taken, and room for one more, so that too many show; room for their intervals, and for the longest text.
+pub const MOST_LETTERS: usize = 32768;
+
+pub const LETTERS_ROOM: usize = 32769;
+
+pub const LIST_ROOM: usize = 4096;
+
+pub const TEXT_ROOM: usize = 49167;
 
 // What a run answers: the refusal number, 0 for an accepted contig, and the interval count.
 pub struct Outcome {
@@ -23,10 +34,14 @@ fn no_candidates() -> [ForwardPosition; 5000] {
     }; 5000]
 }
 
-// Masks the letters, in work buffers of its own that have exactly the paper's sizes.
-pub fn mask_letters(letters: &[u8], starts: &mut [u32], ends: &mut [u32]) -> Outcome
-    requires { ⌜ (length (now starts) ≡ 4096) × (length (now ends) ≡ 4096) ⌝ }
-    ensures { λ r. ⌜ Ran (now (letters .entry)) (now (starts .entry)) (now (ends .entry)) (now (starts .exit)) (now (ends .exit)) r ⌝ }
+fn no_intervals() -> [[u32; 2]; LIST_ROOM] {
+    [[0, 0]; LIST_ROOM]
+}
+
+// Masks the letters, in work buffers of its own that have exactly the paper's sizes. The intervals go to the front of the list.
+pub fn mask_letters(letters: &[u8], list: &mut [[u32; 2]]) -> Outcome
+    requires { ⌜ length (now list) ≡ listRoom ⌝ }
+    ensures { λ r. ⌜ Ran (now (letters .entry)) (now (list .entry)) (now (list .exit)) r ⌝ }
 {
     let mut ln = [0.0f64; 5001];
     let mut f = [0.0f64; 5002];
@@ -34,12 +49,10 @@ pub fn mask_letters(letters: &[u8], starts: &mut [u32], ends: &mut [u32]) -> Out
     let mut window_counts = [0u16; 16384];
     let mut scan_counts = [0u16; 16384];
     let mut candidates = no_candidates();
-    let mut codes = [0u8; 32768];
-    let mut reverse_codes = [0u8; 32768];
-    let mut forward_starts = [0u32; 4096];
-    let mut forward_ends = [0u32; 4096];
-    let mut reverse_starts = [0u32; 4096];
-    let mut reverse_ends = [0u32; 4096];
+    let mut codes = [0u8; MOST_LETTERS];
+    let mut reverse_codes = [0u8; MOST_LETTERS];
+    let mut forward_list = no_intervals();
+    let mut reverse_list = no_intervals();
     let answer = longdust::process(
         letters,
         LongdustOptions::default(),
@@ -51,12 +64,9 @@ pub fn mask_letters(letters: &[u8], starts: &mut [u32], ends: &mut [u32]) -> Out
         &mut candidates,
         &mut codes,
         &mut reverse_codes,
-        &mut forward_starts,
-        &mut forward_ends,
-        &mut reverse_starts,
-        &mut reverse_ends,
-        starts,
-        ends,
+        &mut forward_list,
+        &mut reverse_list,
+        list,
     );
     Outcome {
         refusal: answer.refusal,
@@ -65,20 +75,40 @@ pub fn mask_letters(letters: &[u8], starts: &mut [u32], ends: &mut [u32]) -> Out
 }
 
 // Writes what `track` prints for the letters to the front of the text, and answers how many bytes that is.
-// The text has room for 4,096 lines of 12 bytes and the count's line of 15.
 pub fn write_answer(letters: &[u8], text: &mut [u8]) -> usize
-    requires { ⌜ 49167 ≤ length (now text) ⌝ }
+    requires { ⌜ textRoom ≤ length (now text) ⌝ }
     ensures { λ r. ⌜ Written (printed (now (letters .entry))) (now (text .entry)) 0 (now (text .exit)) r ⌝ }
     ensures { λ r. ⌜ Counts r (now (text .exit)) ⌝ }
 {
-    if 32768 < letters.len() {
+    if MOST_LETTERS < letters.len() {
         return report::write_size_refusal(text, 0);
     }
-    let mut starts = [0u32; 4096];
-    let mut ends = [0u32; 4096];
-    let run = mask_letters(letters, &mut starts, &mut ends);
+    let mut list = no_intervals();
+    let run = mask_letters(letters, &mut list);
     if run.refusal > 0 {
         return report::write_refusal(run.refusal, text, 0);
     }
-    report::write_report(&starts, &ends, run.count, text, 0)
+    let count = run.count;
+    report::write_report(&list[..count], text, 0)
+}
+
+// Writes what `track` prints for bytes that were read block by block: a buffer that would show too many holds `count` letters of them.
+pub fn write_held(letters: &[u8], count: usize, text: &mut [u8]) -> usize
+    requires { ⌜ (mostLetters < length (now letters)) × (count ≤ length (now letters)) × (textRoom ≤ length (now text)) ⌝ }
+    ensures { λ r. ⌜ ((bytes : List ℕ) → Held bytes (now (letters .entry)) count
+        → Written (textOf bytes) (now (text .entry)) 0 (now (text .exit)) r) ⌝ }
+    ensures { λ r. ⌜ Counts r (now (text .exit)) ⌝ }
+{
+    write_answer(&letters[..count], text)
+}
+
+// Writes what `track` prints for all bytes that it reads.
+pub fn write_text(bytes: &[u8], text: &mut [u8]) -> usize
+    requires { ⌜ textRoom ≤ length (now text) ⌝ }
+    ensures { λ r. ⌜ Written (textOf (now (bytes .entry))) (now (text .entry)) 0 (now (text .exit)) r ⌝ }
+    ensures { λ r. ⌜ Counts r (now (text .exit)) ⌝ }
+{
+    let mut letters = [0u8; LETTERS_ROOM];
+    let count = report::keep_letters(bytes, &mut letters, 0);
+    write_held(&letters, count, text)
 }

@@ -10,6 +10,7 @@ use borrow.Kind.Value
 use borrow.Rule.Local
 use borrow.Table.Referent
 use borrow.Table.Rows
+use denote.Array
 use denote.Exit
 use denote.Struct.Declared
 use denote.Struct.Laws as Laws''
@@ -18,11 +19,9 @@ use mathlib.Core.List
 use mathlib.Core.Path as Path'
 use mir.Syntax
 
-abbrev pub ps : List.List (Kinds.PK 5)
+abbrev pub ps : List.List (Kinds.PK 4)
 ps =
     List._∷_
-    Kinds.pBool
-    (List._∷_
     (Kinds.pNum Syntax.w64)
     (List._∷_
     (ShrSlice.pShrS (Referent.rtF (Referent.fInt Syntax.w8)) 0 tt)
@@ -43,14 +42,14 @@ ps =
       of-mem = Local.whole-mem 𝓤 H A W (Declared.row LongdustOptions.the-type);
     })
     (List._∷_
-    (MutSlice.pMutS (Referent.rtF (Referent.fFloat Ieee.binary64)) 1 tt)
+    (ShrSlice.pShrS (Referent.rtF (Referent.fFloat Ieee.binary64)) 1 tt)
     (List._∷_
-    (MutSlice.pMutS (Referent.rtF (Referent.fFloat Ieee.binary64)) 2 tt)
+    (ShrSlice.pShrS (Referent.rtF (Referent.fFloat Ieee.binary64)) 2 tt)
     (List._∷_
-    (MutSlice.pMutS (Referent.rtF (Referent.fInt Syntax.w32)) 3 tt)
-    (List._∷_ (MutSlice.pMutS (Referent.rtF (Referent.fInt Syntax.w32)) 4 tt) List.[])))))))
+    (MutSlice.pMutS (Array.Array (Referent.rtF (Referent.fInt Syntax.w32)) 2) 3 tt)
+    List.[])))))
 
-abbrev pub r : Kinds.RK 5
+abbrev pub r : Kinds.RK 4
 r = Value.rVal record {
   ty = Declared.row Answer.the-type;
   one = Path'.refl;

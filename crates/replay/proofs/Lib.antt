@@ -1,4 +1,2 @@
-pub mod CallCallKinds
-pub mod CallCallReads
 pub mod CallAnswerKinds
 pub mod CallAnswerReads

@@ -11,39 +11,43 @@ mod recorded;
 mod request;
 mod words;
 
+ghost use mathlib.Core.Path.{_≡_};
+ghost use mathlib.Core.Bool.{cond};
 ghost use Prim.Native.Nat.{_≤_};
-use recorded::Held;
+use recorded::Compared;
 use words::Cursor;
 
 // Reads a record, answers its request and compares.
-fn replay_record(text: &[u8], c: Cursor) -> Held {
-    let mut ln = [1e300f64; 65];
-    let mut f = [1e300f64; 66];
-    let mut letters = [0xeeu8; 200];
-    let mut starts = [0xdead_beefu32; 100];
-    let mut ends = [0xdead_beefu32; 100];
+fn replay_record(text: &[u8], c: Cursor) -> Compared {
+    let mut ln = [1e300f64; call::LN_ROOM];
+    let mut f = [1e300f64; call::F_ROOM];
+    let mut letters = [0xeeu8; call::LETTERS_ROOM];
+    let mut list = call::some_intervals();
     let head = request::head(text, c);
     let options = head.options;
     let cursor = head.cursor;
     let after_tables = request::tables(text, cursor, head.lent, &mut ln, &mut f);
     let after_letters = request::sequence(text, after_tables, &mut letters);
     let n = after_letters.word as usize;
+    call::fill_tables(head.lent, &letters[..n], options, &mut ln, &mut f);
+    let ln_size = call::entries(1, head.short, options.window_size + 1, call::LN_ROOM);
+    let f_size = call::entries(2, head.short, options.window_size + 2, call::F_ROOM);
+    let most = (n + 1) / (options.kmer + 1);
+    let list_size = call::entries(11, head.short, most, call::LIST_ROOM);
     let answer = call::answer(
-        head.lent,
         head.short,
         &letters[..n],
         options,
-        &mut ln,
-        &mut f,
-        &mut starts,
-        &mut ends,
+        &ln[..ln_size],
+        &f[..f_size],
+        &mut list[..list_size],
     );
-    recorded::compare(text, after_letters, answer, &starts, &ends)
+    recorded::compare(text, after_letters, answer, &list)
 }
 
 // Names a record that is answered otherwise; answers 1 for one that is not.
 fn count_same(record: u64, same: bool) -> u64
-    ensures { λ r. ⌜ r ≤ 1 ⌝ }
+    ensures { λ r. ⌜ (r ≡ cond same 1 0) × (r ≤ 1) ⌝ }
 {
     if same {
         return 1;
@@ -72,13 +76,13 @@ fn replay(text: &[u8]) {
     let mut same: u64 = 0;
     while answered < records {
         answered += 1;
-        let held = replay_record(text, cursor);
-        cursor = held.cursor;
+        let compared = replay_record(text, cursor);
+        cursor = compared.cursor;
         if !cursor.sound {
             report(false, same, records - same);
             return;
         }
-        same += count_same(answered, held.same);
+        same += count_same(answered, compared.same);
     }
     report(
         cursor.sound & (cursor.at == text.len()),

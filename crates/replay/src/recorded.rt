@@ -1,25 +1,39 @@
-// The recorded answer, held against the port's.
+// The recorded answer, compared with the port's.
 
+ghost use mathlib.Core.Path.{_≡_};
+ghost use mathlib.Core.Bool.{_&&_};
+ghost use mathlib.Core.List.{[]};
+ghost use lib.Dec.{ltb, eqb};
+ghost use lib.ListN.{length, getD};
 use crate::words;
 use crate::words::Cursor;
 use longdust::Answer;
 
 // Whether the answer is the recorded one, and the place after the record.
-pub struct Held {
+pub struct Compared {
     pub same: bool,
     pub cursor: Cursor,
 }
 
-// Whether entry i of a list is there and has this value.
-fn has(list: &[u32], i: usize, value: u64) -> bool {
+fn wide(x: u32) -> u64
+    ensures { λ r. ⌜ r ≡ x ⌝ }
+{
+    x as u64
+}
+
+// Whether entry i of a list is there and is [start, end].
+fn has(list: &[[u32; 2]], i: usize, start: u64, end: u64) -> bool
+    ensures { λ r. ⌜ (let L = now (list .entry) in
+        r ≡ (ltb i (length L) && (eqb (getD (getD L i []) 0 0) start && eqb (getD (getD L i []) 1 0) end))) ⌝ }
+{
     if list.len() <= i {
         return false;
     }
-    list[i] as u64 == value
+    (wide(list[i][0]) == start) & (wide(list[i][1]) == end)
 }
 
-// Reads `c.word` intervals and compares them with the first rows of a list.
-fn intervals(text: &[u8], c: Cursor, alike: bool, starts: &[u32], ends: &[u32]) -> Held {
+// Reads `c.word` intervals and compares them with the first ones of a list.
+fn intervals(text: &[u8], c: Cursor, alike: bool, list: &[[u32; 2]]) -> Compared {
     let count = c.word;
     let mut cursor = c;
     let mut same = alike;
@@ -27,18 +41,18 @@ fn intervals(text: &[u8], c: Cursor, alike: bool, starts: &[u32], ends: &[u32]) 
     while (i as u64) < count {
         let start = words::number(text, cursor, u32::MAX);
         cursor = words::number(text, start, u32::MAX);
-        same = same & has(starts, i, start.word) & has(ends, i, cursor.word);
+        same = same & has(list, i, start.word, cursor.word);
         i += 1;
     }
-    Held { same, cursor }
+    Compared { same, cursor }
 }
 
 // Reads the recorded answer and compares: refusal, flag, count and intervals.
-pub fn compare(text: &[u8], c: Cursor, answer: Answer, starts: &[u32], ends: &[u32]) -> Held {
+pub fn compare(text: &[u8], c: Cursor, answer: Answer, list: &[[u32; 2]]) -> Compared {
     let refusal = words::number(text, c, 11);
     let alike = answer.refusal as u64 == refusal.word;
     if refusal.word != 0 {
-        return Held {
+        return Compared {
             same: alike & (answer.count == 0) & !answer.in_range,
             cursor: refusal,
         };
@@ -47,5 +61,5 @@ pub fn compare(text: &[u8], c: Cursor, answer: Answer, starts: &[u32], ends: &[u
     let count = words::number(text, in_range, 100);
     let flag = in_range.word == 1;
     let same = alike & !(answer.in_range ^ flag) & (answer.count as u64 == count.word);
-    intervals(text, count, same, starts, ends)
+    intervals(text, count, same, list)
 }

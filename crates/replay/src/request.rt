@@ -1,8 +1,10 @@
 // What a record asks: the options, the slice that is lent short, the tables and the letters.
 
+ghost use mathlib.Core.Path.{_≡_};
 ghost use Prim.Native.Nat.{_≤_};
 ghost use lib.ListN.{length};
 ghost use Rattle.io.specs.Counts.{Counts};
+ghost use Rattle.replay.specs.Request.{xdropOf, gcKind, letterOf};
 use crate::words;
 use crate::words::Cursor;
 use longdust::LongdustOptions;
@@ -17,14 +19,18 @@ pub struct Request {
     pub cursor: Cursor,
 }
 
-fn xdrop(set: u64, length: u32) -> Xdrop {
+fn xdrop(set: u64, length: u32) -> Xdrop
+    ensures { λ r. ⌜ r ≡ xdropOf set length ⌝ }
+{
     if set == 0 {
         return Xdrop::Off;
     }
     Xdrop::Length(length)
 }
 
-fn gc(kind: u64, fixed: f64) -> GcOption {
+fn gc(kind: u64, fixed: f64) -> GcOption
+    ensures { λ r. ⌜ r ≡ gcKind kind fixed ⌝ }
+{
     match kind {
         0 => GcOption::Uniform,
         1 => GcOption::Fixed(fixed),
@@ -33,7 +39,9 @@ fn gc(kind: u64, fixed: f64) -> GcOption {
 }
 
 // Reads the words before the tables; each cursor is named after the word that it holds.
-pub fn head(text: &[u8], c: Cursor) -> Request {
+pub fn head(text: &[u8], c: Cursor) -> Request
+    ensures { λ r. ⌜ (r .options .kmer ≤ 4294967295) × (r .options .«window_size» ≤ 4294967295) ⌝ }
+{
     let kmer = words::number(text, c, u32::MAX);
     let window_size = words::number(text, kmer, u32::MAX);
     let min_start_cnt = words::number(text, window_size, 65535);
@@ -46,7 +54,7 @@ pub fn head(text: &[u8], c: Cursor) -> Request {
     let threshold = words::bits(text, forward_only);
     let gc_kind = words::number(text, threshold, 2);
     let fixed = words::bits(text, gc_kind);
-    let short = words::number(text, fixed, 15);
+    let short = words::number(text, fixed, 12);
     let lent = words::number(text, short, 1);
     let options = LongdustOptions {
         window_size: window_size.word as usize,
@@ -112,7 +120,9 @@ pub fn tables(text: &[u8], c: Cursor, lent: bool, ln: &mut [f64], f: &mut [f64])
     c
 }
 
-fn letter(byte: u8) -> u8 {
+fn letter(byte: u8) -> u8
+    ensures { λ r. ⌜ r ≡ letterOf byte ⌝ }
+{
     if byte == b'~' { 200 } else { byte }
 }
 

@@ -2,6 +2,9 @@
 
 ghost use mathlib.Core.Path.{_≡_};
 ghost use Prim.Native.Nat.{_≤_};
+ghost use mathlib.Core.Bool.{true, false};
+ghost use lib.Ieee.{binary64, ofBits};
+ghost use Rattle.replay.specs.Words.{cursor, after, digitOf};
 
 // A place in the list, the value of the word before it, and whether every word so far has its form.
 pub struct Cursor {
@@ -10,7 +13,9 @@ pub struct Cursor {
     pub sound: bool,
 }
 
-pub fn start() -> Cursor {
+pub fn start() -> Cursor
+    ensures { λ r. ⌜ r ≡ cursor 0 0 true ⌝ }
+{
     Cursor {
         at: 0,
         word: 0,
@@ -19,7 +24,7 @@ pub fn start() -> Cursor {
 }
 
 pub fn unsound(at: usize) -> Cursor
-    ensures { λ r. ⌜ r .word ≡ 0 ⌝ }
+    ensures { λ r. ⌜ r ≡ cursor at 0 false ⌝ }
 {
     Cursor {
         at,
@@ -30,7 +35,7 @@ pub fn unsound(at: usize) -> Cursor
 
 // The place after a word that ends before `at`.
 pub fn ended(text: &[u8], at: usize, word: u64, sound: bool) -> Cursor
-    ensures { λ r. ⌜ r .word ≤ word ⌝ }
+    ensures { λ r. ⌜ (r ≡ after (now (text .entry)) at word sound) × (r .word ≤ word) ⌝ }
 {
     if text.len() <= at {
         return unsound(at);
@@ -45,7 +50,7 @@ pub fn ended(text: &[u8], at: usize, word: u64, sound: bool) -> Cursor
 
 // The value of a hex digit, 16 for any other byte.
 fn digit(byte: u8) -> u64
-    ensures { λ r. ⌜ r ≤ 16 ⌝ }
+    ensures { λ r. ⌜ (r ≡ digitOf byte) × (r ≤ 16) ⌝ }
 {
     match byte {
         b'0'..=b'9' => (byte - b'0') as u64,
@@ -97,7 +102,9 @@ pub fn bits(text: &[u8], c: Cursor) -> Cursor {
 }
 
 // The float of these bits; those of a not-a-number all give the same one.
-pub fn float(bits: u64) -> f64 {
+pub fn float(bits: u64) -> f64
+    ensures { λ r. ⌜ r ≡ ofBits binary64 bits ⌝ }
+{
     if bits % 0x8000_0000_0000_0000 / 0x10_0000_0000_0000 != 2047 {
         return f64::from_bits(bits);
     }

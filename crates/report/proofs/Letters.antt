@@ -1,38 +1,51 @@
--- Letters kept of bytes: a byte at a time, as `keep_letters` does, and piece by piece, as a program reads them.
-use Prim.Native.Nat.{ℕ, zero, suc, _+_, _≤_, _<_}
-use mathlib.Core.Path.{_≡_, refl, sym, ap, _∙_}
+-- Letters of bytes: joined to a buffer a byte at a time, as `keep_letters` does, and block by block, as a program reads them.
+use Prim.Native.Nat.{ℕ, zero, suc, _+_, _-_, _≤_, _<_}
+use mathlib.Core.Path.{_≡_, refl, sym, ap, ap₂, _∙_}
 use mathlib.Core.Bool.{Bool, true, false, cond}
 use mathlib.Core.Logic.{_≢_}
 use mathlib.Core.List.{List, [], _∷_, _++_, append-assoc, append-nil}
 use native.Mathlib.Numerals.{add-one}
 use native.Mathlib.Omega.{arith}
 use lib.Dec.{eqb}
-use lib.ListN.{length, take, drop, getD, set, length-set, length-take, take-append-drop, drop-of-length-le}
-use lib.Seq.{drop-cons, drop-drop, drop-set-lt, length-take-le, take-all, take-append-le, take-suc-set}
+use lib.ListN.{length, take, drop, getD, set, length-set, length-append, take-append-drop, drop-of-length-le}
+use lib.Seq.{drop-cons, drop-drop, drop-set-lt, length-take-le, take-nil, take-suc-set}
 use borrow.Author.Tests.{eq-eqb, ne-eqb}
-use Rattle.report.specs.Letters.{lettersOf, kept, KeptLetters}
+use Rattle.io.specs.Counts.{Counts}
+use Rattle.report.specs.Letters.{lettersOf, fitting, Held}
+use Rattle.report.specs.Written.{Written}
+use Rattle.report.proofs.Writing.{take-written, written-by}
 
-kept-10 : (size : ℕ) (ls : List ℕ) (b : ℕ) (bs : List ℕ) → b ≡ 10 → kept size ls (b ∷ bs) ≡ kept size ls bs
-unfolding kept lettersOf
-kept-10 size ls b bs e = rw (eq-eqb b 10 e)
+fitting-none : (d : List ℕ) (from : ℕ) → fitting [] d from ≡ []
+unfolding fitting lettersOf
+fitting-none d from = take-nil (length d - from)
 
-kept-letter : (size : ℕ) (ls : List ℕ) (b : ℕ) (bs : List ℕ) → b ≢ 10 → kept size ls (b ∷ bs) ≡ kept size (ls ++ (b ∷ [])) bs
-unfolding kept lettersOf
-kept-letter size ls b bs e = rw (ne-eqb b 10 e, append-assoc)
+fitting-full : (bs d : List ℕ) (from : ℕ) → length d ≤ from → fitting bs d from ≡ []
+unfolding fitting
+fitting-full bs d from h = let e : length d - from ≡ 0 = omega arith in rw e
 
--- The buffer d, that held count letters, holds `at` letters in d′, and what is left of the bytes, from i on, has still to join them.
+fitting-10 : (b : ℕ) (bs d : List ℕ) (from : ℕ) → b ≡ 10 → fitting (b ∷ bs) d from ≡ fitting bs d from
+unfolding fitting lettersOf
+fitting-10 b bs d from e = rw (eq-eqb b 10 e)
+
+fitting-letter : (b : ℕ) (bs d : List ℕ) (from : ℕ) → b ≢ 10 → from < length d → fitting (b ∷ bs) d from ≡ b ∷ fitting bs d (from + 1)
+unfolding fitting lettersOf
+fitting-letter b bs d from e h =
+    let l : length d - from ≡ suc (length d - (from + 1)) = omega arith in
+    rw (ne-eqb b 10 e, l)
+
+-- The buffer d, that held count letters, holds `at` letters in d′, and the letters of what is left of the bytes, from i on, follow.
 pub record Keeping (bs d : List ℕ) (count : ℕ) (d′ : List ℕ) (at i : ℕ) : Type 0 where
   pub room : at ≤ length d′
   pub long : length d′ ≡ length d
   pub past : drop at d′ ≡ drop at d
-  pub rest : kept (length d) (take at d′) (drop i bs) ≡ kept (length d) (take count d) bs
+  pub rest : take at d′ ++ fitting (drop i bs) d at ≡ take count d ++ fitting bs d count
 
 pub start : (bs d : List ℕ) (count : ℕ) → count ≤ length d → Keeping bs d count d count 0
 start bs d count h = record { room = h; long = refl; past = refl; rest = refl }
 
 module _ (bs d : List ℕ) (count : ℕ) (d′ : List ℕ) (at i : ℕ) (k : Keeping bs d count d′ at i) where
-  first : i < length bs → kept (length d) (take at d′) (drop i bs) ≡ kept (length d) (take at d′) (getD bs i 0 ∷ drop (suc i) bs)
-  first h = ap (λ (l : List ℕ). kept (length d) (take at d′) l) (drop-cons bs i 0 h)
+  first : i < length bs → fitting (drop i bs) d at ≡ fitting (getD bs i 0 ∷ drop (suc i) bs) d at
+  first h = ap (λ (l : List ℕ). fitting l d at) (drop-cons bs i 0 h)
 
   pub skip : i < length bs → getD bs i 0 ≡ 10 → Keeping bs d count d′ at (i + 1)
   skip h e =
@@ -40,12 +53,13 @@ module _ (bs d : List ℕ) (count : ℕ) (d′ : List ℕ) (at i : ℕ) (k : Kee
         room = k .room;
         long = k .long;
         past = k .past;
-        rest = rw add-one (sym (first h ∙ kept-10 _ _ _ _ e) ∙ k .rest);
+        rest = rw add-one (ap (λ (l : List ℕ). take at d′ ++ l) (sym (first h ∙ fitting-10 _ _ _ _ e)) ∙ k .rest);
       }
 
   pub store : i < length bs → getD bs i 0 ≢ 10 → at < length d′ → Keeping bs d count (set d′ at (getD bs i 0)) (at + 1) (i + 1)
   store h e r =
       let b : ℕ = getD bs i 0 in
+      let q : fitting (drop i bs) d at ≡ b ∷ fitting (drop (suc i) bs) d (at + 1) = first h ∙ fitting-letter _ _ _ _ e (omega (arith, k .long)) in
       record {
         room = rw length-set (omega arith);
         long = length-set d′ at b ∙ k .long;
@@ -54,40 +68,25 @@ module _ (bs d : List ℕ) (count : ℕ) (d′ : List ℕ) (at i : ℕ) (k : Kee
             ∙ sym (drop-drop 1 at d′)
             ∙ ap (λ (l : List ℕ). drop 1 l) (k .past)
             ∙ drop-drop 1 at d;
-        rest = rw (add-one at, add-one i, take-suc-set d′ at b r) (sym (first h ∙ kept-letter _ _ _ _ e) ∙ k .rest);
+        rest =
+            ap₂
+            (λ (l m : List ℕ). l ++ m)
+            (ap (λ (n : ℕ). take n (set d′ at b)) (add-one at) ∙ take-suc-set d′ at b r)
+            (ap (λ (n : ℕ). fitting (drop n bs) d (at + 1)) (add-one i))
+            ∙ append-assoc (take at d′) (b ∷ []) (fitting (drop (suc i) bs) d (at + 1))
+            ∙ ap (λ (l : List ℕ). take at d′ ++ l) (sym q)
+            ∙ k .rest;
       }
 
-  whole : take (length d) (take at d′) ≡ take at d′
-  whole = take-all (length d) (take at d′) (omega (arith, length-take-le at d′ (k .room), k .long))
+  done : fitting (drop i bs) d at ≡ [] → count ≤ length d → Written (fitting bs d count) d count d′ at
+  done e h =
+      written-by h (k .room) (sym (append-nil (take at d′)) ∙ ap (λ (l : List ℕ). take at d′ ++ l) (sym e) ∙ k .rest) (k .past)
 
-  done : kept (length d) (take count d) bs ≡ take at d′ → KeptLetters bs d count d′ at
-  done e =
-      let l : length (take at d′) ≡ at = length-take-le at d′ (k .room) in
-      record {
-        letters-are = rw (e, l) (sym (take-append-drop at d′) ∙ ap (λ (t : List ℕ). take at d′ ++ t) (k .past));
-        count-is = rw e (sym l);
-      }
+  pub full : count ≤ length d → length d′ ≤ at → Written (fitting bs d count) d count d′ at
+  full h f = done (fitting-full (drop i bs) d at (omega (arith, k .long))) h
 
-  pub full : length d′ ≤ at → KeptLetters bs d count d′ at
-  unfolding kept
-  full h =
-      done
-      (sym (k .rest)
-      ∙ take-append-le (length d) (take at d′) (lettersOf (drop i bs)) (omega (arith, length-take-le at d′ (k .room), k .long))
-      ∙ whole)
-
-  pub ended : length bs ≤ i → KeptLetters bs d count d′ at
-  unfolding kept lettersOf
-  ended h =
-      done
-      (sym (k .rest)
-      ∙ ap (λ (l : List ℕ). take (length d) (take at d′ ++ lettersOf l)) (drop-of-length-le bs h)
-      ∙ ap (λ (l : List ℕ). take (length d) l) (append-nil (take at d′))
-      ∙ whole)
-
-pub kept-room : {bs d d′ : List ℕ} {count count′ : ℕ} → KeptLetters bs d count d′ count′ → count′ ≤ length d
-unfolding kept
-kept-room {bs} {d} {d′} {count} k = omega (arith, k .count-is, length-take (length d) (take count d ++ lettersOf bs))
+  pub ended : count ≤ length d → length bs ≤ i → Written (fitting bs d count) d count d′ at
+  ended h e = done (ap (λ (l : List ℕ). fitting l d at) (drop-of-length-le bs e) ∙ fitting-none d at) h
 
 letters-append : (bs cs : List ℕ) → lettersOf (bs ++ cs) ≡ lettersOf bs ++ lettersOf cs
 unfolding lettersOf
@@ -98,12 +97,29 @@ letters-append (b ∷ bs) cs = rw (letters-append bs cs) (go (lettersOf bs) (eqb
     go ls true = refl
     go ls false = refl
 
-take-front : (size : ℕ) (xs ys : List ℕ) → take size (take size xs ++ ys) ≡ take size (xs ++ ys)
-take-front zero xs ys = refl
-take-front (suc size) [] ys = refl
-take-front (suc size) (x ∷ xs) ys = ap (λ (l : List ℕ). x ∷ l) (take-front size xs ys)
+take-both : (n : ℕ) (xs ys : List ℕ) → take n (xs ++ ys) ≡ take n xs ++ take (n - length (take n xs)) ys
+take-both zero xs ys = refl
+take-both (suc n) [] ys = let e : suc n - 0 ≡ suc n = omega arith in rw e
+take-both (suc n) (x ∷ xs) ys =
+    let e : suc n - suc (length (take n xs)) ≡ n - length (take n xs) = omega arith in
+    rw e (ap (λ (l : List ℕ). x ∷ l) (take-both n xs ys))
 
--- Bytes that are read in two pieces give the letters of both together.
-pub kept-pieces : (size : ℕ) (ls bs cs : List ℕ) → kept size (kept size ls bs) cs ≡ kept size ls (bs ++ cs)
-unfolding kept
-kept-pieces size ls bs cs = rw (take-front, letters-append, append-assoc)
+-- Nothing was read yet.
+pub held-nothing : (d : List ℕ) → Held [] d 0
+unfolding lettersOf
+held-nothing d = record { letters-are = sym (take-nil (length d)) }
+
+-- A block joins what was read before it.
+pub held-next : (bs : List ℕ) {d d′ : List ℕ} {count end : ℕ} → count ≤ length d → length d′ ≡ length d → Written (fitting bs d count) d count d′ end
+    → (bytes : List ℕ) → Held bytes d count → Held (bytes ++ bs) d′ end
+unfolding fitting
+held-next bs {d} {d′} {count} {end} h l w bytes k =
+    let n : count ≡ length (take (length d) (lettersOf bytes)) =
+    sym (length-take-le count d h) ∙ ap (λ (l : List ℕ). length l) (k .letters-are) in
+    record {
+      letters-are =
+          take-written h w
+          ∙ ap₂ (λ (l : List ℕ) (m : ℕ). l ++ take (length d - m) (lettersOf bs)) (k .letters-are) n
+          ∙ sym (take-both (length d) (lettersOf bytes) (lettersOf bs))
+          ∙ ap₂ (λ (m : ℕ) (l : List ℕ). take m l) (sym l) (sym (letters-append bytes bs));
+    }

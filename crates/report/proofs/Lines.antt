@@ -4,10 +4,10 @@ use mathlib.Core.Path.{_≡_, refl, sym, ap, _∙_}
 use mathlib.Core.List.{List, [], _∷_, _++_, append-assoc, append-nil}
 use native.Mathlib.Numerals.{add-one}
 use native.Mathlib.Omega.{arith}
-use lib.ListN.{length, take, drop, length-append, take-append-drop}
-use Rattle.intervals.specs.Interval.{Interval, Inside}
-use Rattle.intervals.specs.Rows.{row, rows}
-use Rattle.intervals.proofs.Rows.{length-rows, take-rows}
+use lib.ListN.{length, take, drop, getD, length-append, take-append-drop}
+use lib.Seq.{take-all, take-suc}
+use Rattle.intervals.specs.Interval.{Interval, interval, Inside, intervalOf, listOf}
+use Rattle.intervals.proofs.Slice.{length-list, list-at}
 use Rattle.report.specs.Text.{line, lines, countLine, report}
 use Rattle.report.specs.Written.{Fits, Written}
 use Rattle.report.proofs.Decimal.{length-decimal}
@@ -18,55 +18,64 @@ unfolding lines
 lines-append [] js = refl
 lines-append (i ∷ is) js = ap (λ (l : List ℕ). line i ++ l) (lines-append is js) ∙ sym (append-assoc (line i) (lines is) (lines js))
 
-lines-next : (starts ends : List ℕ) (i : ℕ) → lines (rows (i + 1) starts ends) ≡ lines (rows i starts ends) ++ line (row starts ends i)
-unfolding lines rows
-lines-next starts ends i = rw add-one (lines-append (rows i starts ends) (row starts ends i ∷ []) ∙ rw append-nil)
+lines-next : (ps : List (List ℕ)) (i : ℕ) → i < length ps
+    → lines (take (i + 1) (listOf ps)) ≡ lines (take i (listOf ps)) ++ line (intervalOf (getD ps i []))
+unfolding lines
+lines-next ps i h =
+    let is : List Interval = listOf ps in
+    let l : i < length is = omega (arith, length-list ps) in
+    ap (λ (k : ℕ). lines (take k is)) (add-one i)
+    ∙ ap (λ (js : List Interval). lines js) (take-suc is i (interval 0 0) l)
+    ∙ lines-append (take i is) (getD is i (interval 0 0) ∷ [])
+    ∙ ap (λ (l : List ℕ). lines (take i is) ++ l) (append-nil (line (getD is i (interval 0 0))))
+    ∙ ap (λ (j : Interval). lines (take i is) ++ line j) (list-at ps i)
 
 -- The lines of the first intervals are no longer than all.
-lines-shorter : (starts ends : List ℕ) (i count : ℕ) → i ≤ count → length (lines (rows i starts ends)) ≤ length (lines (rows count starts ends))
-lines-shorter starts ends i count h =
-    let all : List Interval = rows count starts ends in
-    let e : length (lines all) ≡ length (lines (rows i starts ends)) + length (lines (drop i all)) =
-    ap (λ (l : List Interval). length (lines l)) (sym (take-append-drop i all))
-    ∙ ap (λ (l : List ℕ). length l) (lines-append (take i all) (drop i all))
-    ∙ length-append (lines (take i all)) (lines (drop i all))
-    ∙ ap (λ (l : List Interval). length (lines l) + length (lines (drop i all))) (take-rows starts ends i count h) in
+lines-shorter : (is : List Interval) (i : ℕ) → length (lines (take i is)) ≤ length (lines is)
+lines-shorter is i =
+    let e : length (lines is) ≡ length (lines (take i is)) + length (lines (drop i is)) =
+    ap (λ (l : List Interval). length (lines l)) (sym (take-append-drop i is))
+    ∙ ap (λ (l : List ℕ). length l) (lines-append (take i is) (drop i is))
+    ∙ length-append (lines (take i is)) (lines (drop i is)) in
     omega arith
 
--- The text d has become d′: it holds the lines of the first i of count intervals.
-pub record Listing (starts ends : List ℕ) (count : ℕ) (d : List ℕ) (from : ℕ) (d′ : List ℕ) (at i : ℕ) : Type 0 where
-  pub inside : i ≤ count
+-- The text d has become d′: it holds the lines of the first i intervals.
+pub record Listing (ps : List (List ℕ)) (d : List ℕ) (from : ℕ) (d′ : List ℕ) (at i : ℕ) : Type 0 where
+  pub inside : i ≤ length ps
   pub long : length d′ ≡ length d
-  pub written : Written (lines (rows i starts ends)) d from d′ at
+  pub written : Written (lines (take i (listOf ps))) d from d′ at
 
-pub list-none : (starts ends : List ℕ) (count : ℕ) (d : List ℕ) (from : ℕ) → Listing starts ends count d from d from 0
-unfolding lines rows
-list-none starts ends count d from = record { inside = omega arith; long = refl; written = none d from }
+pub list-none : (ps : List (List ℕ)) (d : List ℕ) (from : ℕ) → Listing ps d from d from 0
+unfolding lines
+list-none ps d from = record { inside = omega arith; long = refl; written = none d from }
 
-module _ {starts ends : List ℕ} {count : ℕ} {d : List ℕ} {from : ℕ} {d′ : List ℕ} {at i : ℕ} (k : Listing starts ends count d from d′ at i) where
-  next-fits : i < count → Fits (lines (rows count starts ends)) d from → Fits (lines (rows i starts ends) ++ line (row starts ends i)) d from
+module _ {ps : List (List ℕ)} {d : List ℕ} {from : ℕ} {d′ : List ℕ} {at i : ℕ} (k : Listing ps d from d′ at i) where
+  next-fits : i < length ps → Fits (lines (listOf ps)) d from → Fits (lines (take i (listOf ps)) ++ line (intervalOf (getD ps i []))) d from
   next-fits h f =
-      let e = ap (λ (l : List ℕ). length l) (lines-next starts ends i) in
-      let s = lines-shorter starts ends (i + 1) count (omega arith) in
+      let e = ap (λ (l : List ℕ). length l) (lines-next ps i h) in
+      let s = lines-shorter (listOf ps) (i + 1) in
       record { room = omega arith }
 
-  pub list-fits : i < count → Fits (lines (rows count starts ends)) d from → Fits (line (row starts ends i)) d′ at
+  pub list-fits : i < length ps → Fits (lines (listOf ps)) d from → Fits (line (intervalOf (getD ps i []))) d′ at
   list-fits h f = fits-next (next-fits h f) (k .long) (k .written)
 
-  pub list-next : {d″ : List ℕ} {end : ℕ} → i < count → Fits (lines (rows count starts ends)) d from → length d″ ≡ length d′
-      → Written (line (row starts ends i)) d′ at d″ end → Listing starts ends count d from d″ end (i + 1)
+  pub list-next : {d″ : List ℕ} {end : ℕ} → i < length ps → Fits (lines (listOf ps)) d from → length d″ ≡ length d′
+      → Written (line (intervalOf (getD ps i []))) d′ at d″ end → Listing ps d from d″ end (i + 1)
   list-next h f l w =
       record {
         inside = omega arith;
         long = l ∙ k .long;
-        written = written-as (sym (lines-next starts ends i)) (next (next-fits h f) (k .written) w);
+        written = written-as (sym (lines-next ps i h)) (next (next-fits h f) (k .written) w);
       }
 
-  pub listed : count ≤ i → Written (lines (rows count starts ends)) d from d′ at
-  listed h = let e : i ≡ count = omega arith in rw e at (k .written)
+  pub listed : length ps ≤ i → Written (lines (listOf ps)) d from d′ at
+  listed h =
+      written-as
+      (ap (λ (js : List Interval). lines js) (take-all i (listOf ps) (omega (arith, length-list ps))))
+      (k .written)
 
-pub report-rows : (starts ends : List ℕ) (count : ℕ) → report (rows count starts ends) ≡ lines (rows count starts ends) ++ countLine count
-report-rows starts ends count = ap (λ (n : ℕ). lines (rows count starts ends) ++ countLine n) (length-rows starts ends count)
+pub report-list : (ps : List (List ℕ)) → report (listOf ps) ≡ lines (listOf ps) ++ countLine (length ps)
+report-list ps = ap (λ (n : ℕ). lines (listOf ps) ++ countLine n) (length-list ps)
 
 -- The length of a report of n letters, with fewer than 10,000 intervals and 100,000 letters.
 length-lines : (n : ℕ) (is : List Interval) → n < 100000 → Inside n is → length (lines is) ≤ 12 * length is

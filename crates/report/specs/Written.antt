@@ -1,14 +1,15 @@
 -- Terms of contracts: room in a lent text, and what it holds after something was written into it from an index on.
 use Prim.Native.Nat.{ℕ, _+_, _≤_}
 use mathlib.Core.Path.{_≡_}
-use mathlib.Core.List.{List, _++_}
-use lib.ListN.{length, take, drop}
+use mathlib.Core.List.{List}
+use lib.ListN.{length}
+use Rattle.buffers.specs.Fill.{putAt}
 
 -- The text d has room for xs from the index `from` on.
 pub record Fits (xs d : List ℕ) (from : ℕ) : Type 0 where
   pub room : from + length xs ≤ length d
 
--- The text d has become d′: it holds xs from the index `from` up to `end`, and every other byte is as it was.
+-- The text d has become d′: xs was written from the index `from` on, up to `end`.
 pub record Written (xs d : List ℕ) (from : ℕ) (d′ : List ℕ) (end : ℕ) : Type 0 where
   pub end-is : end ≡ from + length xs
-  pub text-is : d′ ≡ take from d ++ (xs ++ drop end d)
+  pub text-is : d′ ≡ putAt from xs d

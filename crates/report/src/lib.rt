@@ -1,22 +1,27 @@
 // What a program reads and prints: the letters of the bytes that it reads, and the text of a report.
 
-ghost use Prim.Native.Nat.{_≤_};
+ghost use Prim.Native.Nat.{ℕ, _≤_};
+ghost use mathlib.Core.List.{List, _++_};
 ghost use lib.ListN.{length};
-ghost use Rattle.intervals.specs.Interval.{interval};
-ghost use Rattle.intervals.specs.Rows.{rows, Room};
-ghost use Rattle.report.specs.Letters.{KeptLetters};
+ghost use Rattle.io.specs.Counts.{Counts};
+ghost use Rattle.intervals.specs.Interval.{interval, listOf};
+ghost use Rattle.report.specs.Letters.{fitting, Held};
 ghost use Rattle.report.specs.Text.{decimal, line, lines, numbered, countLine, report, refusalLine, sizeLine};
 ghost use Rattle.report.specs.Written.{Fits, Written};
 
-// Puts the bytes but 10 after the first `count` letters, as many as there is room for, and answers how many letters there are then.
-pub fn keep_letters(bytes: &[u8], letters: &mut [u8], count: usize) -> usize
+// Joins a block of bytes to those read before it: its letters, as many as there is room for, follow the `count` that the buffer
+// holds. Answers how many it holds then.
+pub fn keep_letters(block: &[u8], letters: &mut [u8], count: usize) -> usize
     requires { ⌜ count ≤ length (now letters) ⌝ }
-    ensures { λ r. ⌜ KeptLetters (now (bytes .entry)) (now (letters .entry)) count (now (letters .exit)) r ⌝ }
+    ensures { λ r. ⌜ (let D = now (letters .entry) in Written (fitting (now (block .entry)) D count) D count (now (letters .exit)) r) ⌝ }
+    ensures { λ r. ⌜ ((bytes : List ℕ) → Held bytes (now (letters .entry)) count
+        → Held (bytes ++ now (block .entry)) (now (letters .exit)) r) ⌝ }
+    ensures { λ r. ⌜ Counts r (now (letters .exit)) ⌝ }
 {
     let mut at = count;
     let mut i = 0;
-    while i < bytes.len() {
-        let byte = bytes[i];
+    while i < block.len() {
+        let byte = block[i];
         i += 1;
         if byte == 10 {
             continue;
@@ -72,22 +77,15 @@ pub fn write_line(start: u32, end: u32, text: &mut [u8], from: usize) -> usize
     write_numbered(b"\t", end as u64, text, at)
 }
 
-// A line for each of the first `count` intervals.
-pub fn write_lines(
-    starts: &[u32],
-    ends: &[u32],
-    count: usize,
-    text: &mut [u8],
-    from: usize,
-) -> usize
-    requires { ⌜ Room count (now starts) (now ends) ⌝ }
-    requires { ⌜ Fits (lines (rows count (now starts) (now ends))) (now text) from ⌝ }
-    ensures { λ r. ⌜ Written (lines (rows count (now (starts .entry)) (now (ends .entry)))) (now (text .entry)) from (now (text .exit)) r ⌝ }
+// A line for each interval of the list.
+pub fn write_lines(list: &[[u32; 2]], text: &mut [u8], from: usize) -> usize
+    requires { ⌜ Fits (lines (listOf (now list))) (now text) from ⌝ }
+    ensures { λ r. ⌜ Written (lines (listOf (now (list .entry)))) (now (text .entry)) from (now (text .exit)) r ⌝ }
 {
     let mut at = from;
     let mut i = 0;
-    while i < count {
-        at = write_line(starts[i], ends[i], text, at);
+    while i < list.len() {
+        at = write_line(list[i][0], list[i][1], text, at);
         i += 1;
     }
     at
@@ -100,20 +98,13 @@ pub fn write_count(count: usize, text: &mut [u8], from: usize) -> usize
     write_numbered(b"intervals ", count as u64, text, from)
 }
 
-// The report of an accepted request: the lines of the first `count` intervals, and the count.
-pub fn write_report(
-    starts: &[u32],
-    ends: &[u32],
-    count: usize,
-    text: &mut [u8],
-    from: usize,
-) -> usize
-    requires { ⌜ Room count (now starts) (now ends) ⌝ }
-    requires { ⌜ Fits (report (rows count (now starts) (now ends))) (now text) from ⌝ }
-    ensures { λ r. ⌜ Written (report (rows count (now (starts .entry)) (now (ends .entry)))) (now (text .entry)) from (now (text .exit)) r ⌝ }
+// The report of an accepted request: the lines of the list, and its count.
+pub fn write_report(list: &[[u32; 2]], text: &mut [u8], from: usize) -> usize
+    requires { ⌜ Fits (report (listOf (now list))) (now text) from ⌝ }
+    ensures { λ r. ⌜ Written (report (listOf (now (list .entry)))) (now (text .entry)) from (now (text .exit)) r ⌝ }
 {
-    let at = write_lines(starts, ends, count, text, from);
-    write_count(count, text, at)
+    let at = write_lines(list, text, from);
+    write_count(list.len(), text, at)
 }
 
 // The report of a refused request.

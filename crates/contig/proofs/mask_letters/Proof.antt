@@ -6,28 +6,21 @@ use Rattle.contig.proofs.mask_letters.Proof.Tie as tie
 mod Lts
 mod Tie
 
-no-candidates-requires : tie.Need-no-candidates-requires
-no-candidates-requires c κs = search needs
-
-default-requires : tie.Need-default-requires
-default-requires c κs = search needs
-
-process-requires : tie.Need-process-requires
-process-requires c κs = search needs
-
 returns : tie.Need-returns
 returns c =
-    let P = c .before .before .before .before .before .before .before .before .before .before .before .before .before .before .before .before in
-    let D = P .before .before .before .before .before .before .before .before .before .before .before .before .before .before .before in
+    let P = c .before .before .before .before .before .before .before .before .before .before .before in
+    let D = P .before .before .before .before .before .before .before .before .before .before .before .before in
     let S = D .before .before .before .before .before in
-    ran _ (S .args .starts .now) (S .args .ends .now) (search needs) (S .pre .0) (S .pre .1) (D .default .ensures) (P .process .ensures)
+    ran _ _ _ (S .args .list .now) (search needs) (search needs) (search needs) (S .pre) (D .default .ensures) (P .process .ensures)
 
 pub mask-letters-spec : {M : Type 1} → statement M
 mask-letters-spec =
     tie.close
     (tie.spec
-    no-candidates-requires
-    default-requires
+    (λ c κs. search needs)
+    (λ c κs. search needs)
+    (λ c κs. search needs)
+    (λ c κs. search needs)
     (λ c. search needs)
     (λ c. search needs)
     (λ c. search needs)
@@ -38,9 +31,6 @@ mask-letters-spec =
     (λ c. search needs)
     (λ c. search needs)
     (λ c. search needs)
-    (λ c. search needs)
-    (λ c. search needs)
-    process-requires
-    (λ c. search needs)
+    (λ c κs. search needs)
     (λ c. search needs)
     returns)

@@ -11,20 +11,8 @@ use Rattle.report.proofs.write_decimal.Tie as tie
 digits-are : (c : tie.After-decimal) → take (c .decimal .result) (c .decimal .last .1 .0) ≡ decimal (c .before .before .before .args .n)
 digits-are c = c .decimal .ensures .1 .1 ∙ decimal-digits _ _ (c .decimal .ensures .1 .0)
 
-decimal-requires : tie.Need-decimal-requires
-decimal-requires c κs = search needs
-
-array-share-prefix-digits : tie.Need-array-share-prefix-digits
-array-share-prefix-digits c = search needs
-
-slice-aggregate-write-bytes : tie.Need-slice-aggregate-write-bytes
-slice-aggregate-write-bytes c = search needs
-
 write-bytes-requires : tie.Need-write-bytes-requires
 write-bytes-requires c κs = fits-as (digits-are (c .before .before)) (c .before .before .before .before .before .pre)
-
-same-length : tie.Need-same-length
-same-length c = search needs
 
 returns : tie.Need-returns
 returns c = written-as (digits-are (c .before .before .before .before .before)) (c .before .before .write-bytes .ensures)
@@ -33,9 +21,9 @@ pub write-decimal-spec : {M : Type 1} → statement M
 write-decimal-spec =
     tie.close
     (tie.spec
-    decimal-requires
-    array-share-prefix-digits
-    slice-aggregate-write-bytes
+    (λ c κs. search needs)
+    (λ c. search needs)
+    (λ c. search needs)
     write-bytes-requires
-    same-length
+    (λ c. search needs)
     returns)

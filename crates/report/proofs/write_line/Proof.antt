@@ -7,16 +7,10 @@ use Rattle.report.proofs.write_line.Tie as tie
 write-decimal-requires : tie.Need-write-decimal-requires
 write-decimal-requires c κs = fits-first _ _ (c .before .before .pre)
 
-slice-aggregate-write-numbered : tie.Need-slice-aggregate-write-numbered
-slice-aggregate-write-numbered c = search needs
-
 write-numbered-requires : tie.Need-write-numbered-requires
 write-numbered-requires c κs =
     let D = c .before .before .before .before .write-decimal in
     fits-next (c .before .before .before .before .before .before .before .pre) (D .kept .1 .0) (D .ensures)
-
-same-length : tie.Need-same-length
-same-length c = search needs
 
 returns : tie.Need-returns
 returns c =
@@ -28,7 +22,7 @@ write-line-spec =
     tie.close
     (tie.spec
     write-decimal-requires
-    slice-aggregate-write-numbered
+    (λ c. search needs)
     write-numbered-requires
-    same-length
+    (λ c. search needs)
     returns)

@@ -1,53 +1,27 @@
 -- `write_lines` meets its contract. The invariant: the lines of the first i intervals are written.
 use Prim.Native.Nat.{_-_}
 use borrow.Author.Needs.{needs}
+use lib.ListN.{length}
 use Rattle.report.proofs.Lines.{Listing, list-none, list-fits, list-next, listed}
 use Rattle.report.proofs.write_lines.Statement.{statement}
 use Rattle.report.proofs.write_lines.Tie as tie
 
 abbrev Inv-loop : tie.InvT-loop
-Inv-loop starts ends count text₀ from at₀ i₀ text at i = Listing starts ends count text₀ from text at i
+Inv-loop list text₀ from at₀ i₀ text at i = Listing list text₀ from text at i
 
 abbrev μ-loop : tie.MeasureT-loop
-μ-loop starts ends count text₀ from at₀ i₀ text at i = count - i
-
-loop-holds : tie.Need-loop-holds Inv-loop μ-loop
-loop-holds c = list-none _ _ _ _ _
-
-mul-write-line : tie.Need-mul-write-line Inv-loop μ-loop
-mul-write-line c = search needs
-
-shared-slice-read-write-line : tie.Need-shared-slice-read-write-line Inv-loop μ-loop
-shared-slice-read-write-line c = search needs
-
-mul-write-line-2 : tie.Need-mul-write-line-2 Inv-loop μ-loop
-mul-write-line-2 c = search needs
-
-shared-slice-read-write-line-2 : tie.Need-shared-slice-read-write-line-2 Inv-loop μ-loop
-shared-slice-read-write-line-2 c = search needs
+μ-loop list text₀ from at₀ i₀ text at i = length list - i
 
 write-line-requires : tie.Need-write-line-requires Inv-loop μ-loop
 write-line-requires c κs =
-    let L = c .before .before .before .before in
-    list-fits (L .loop .inv) (c .before .before .before .loop-test .taken) (L .before .before .before .before .pre .1)
-
-add-i : tie.Need-add-i Inv-loop μ-loop
-add-i c = search needs
-
-loop-less : tie.Need-loop-less Inv-loop μ-loop
-loop-less c = search needs
+    let T = c .before .before .before in
+    list-fits (T .before .loop .inv) (T .loop-test .taken) (T .before .before .before .pre)
 
 loop-again : tie.Need-loop-again Inv-loop μ-loop
 loop-again c =
     let W = c .before .before .write-line in
     let T = c .before .before .before .before .before .before in
-    list-next (T .before .loop .inv) (T .loop-test .taken) (T .before .before .before .before .before .pre .1) (W .kept .1 .1 .0) (W .ensures)
-
-same-length : tie.Need-same-length Inv-loop μ-loop
-same-length c = search needs
-
-returns : tie.Need-returns Inv-loop μ-loop
-returns c = listed (c .before .loop .inv) (c .loop-test .left)
+    list-next (T .before .loop .inv) (T .loop-test .taken) (T .before .before .before .pre) (W .kept .1 .1 .0) (W .ensures)
 
 pub write-lines-spec : {M : Type 1} → statement M
 write-lines-spec =
@@ -55,14 +29,16 @@ write-lines-spec =
     (tie.spec
     Inv-loop
     μ-loop
-    loop-holds
-    mul-write-line
-    shared-slice-read-write-line
-    mul-write-line-2
-    shared-slice-read-write-line-2
+    (λ c. list-none _ _ _)
+    (λ c. search needs)
+    (λ c. search needs)
+    (λ c. search needs)
+    (λ c. search needs)
+    (λ c. search needs)
+    (λ c. search needs)
     write-line-requires
-    add-i
-    loop-less
+    (λ c. search needs)
+    (λ c. search needs)
     loop-again
-    same-length
-    returns)
+    (λ c. search needs)
+    (λ c. listed (c .before .loop .inv) (c .loop-test .left)))

@@ -21,14 +21,8 @@ write-bytes-requires c κs = fits-first _ _ (c .before .before .before .pre)
 write-decimal-requires : tie.Need-write-decimal-requires
 write-decimal-requires c κs = fits-first _ _ (after-word (c .before .before .before))
 
-slice-aggregate-write-bytes : tie.Need-slice-aggregate-write-bytes
-slice-aggregate-write-bytes c = search needs
-
 write-bytes-requires-2 : tie.Need-write-bytes-requires-2
 write-bytes-requires-2 c κs = after-number (c .before .before .before .before)
-
-same-length : tie.Need-same-length
-same-length c = search needs
 
 returns : tie.Need-returns
 returns c =
@@ -42,7 +36,7 @@ write-numbered-spec =
     (tie.spec
     write-bytes-requires
     write-decimal-requires
-    slice-aggregate-write-bytes
+    (λ c. search needs)
     write-bytes-requires-2
-    same-length
+    (λ c. search needs)
     returns)

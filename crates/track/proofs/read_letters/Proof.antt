@@ -1,73 +1,51 @@
--- `read_letters` meets its contract. The invariant: the letters read so far have room.
-use Prim.Native.Nat.{_≤_}
-use mathlib.Core.Path.{_≡_}
+-- `read_letters` meets its contract. The invariant: the buffer held the letters of the blocks read so far.
+use Prim.Native.Nat.{ℕ, _≤_}
+use mathlib.Core.Path.{_≡_, _∙_}
+use mathlib.Core.List.{List, []}
 use borrow.Author.Needs.{needs}
 use lib.ListN.{length}
 use native.Mathlib.Omega.{arith}
-use Rattle.io.proofs.Counting.{counts}
-use Rattle.report.proofs.Letters.{kept-room}
+use Rattle.report.specs.Letters.{Held}
+use Rattle.report.proofs.Letters.{held-nothing}
 use Rattle.track.proofs.read_letters.Statement.{statement}
 use Rattle.track.proofs.read_letters.Tie as tie
 
+record Reading (letters₀ letters block : List ℕ) (count : ℕ) : Type 0 where
+  bytes : List ℕ
+  held : Held bytes letters count
+  room : count ≤ 32769
+  same : length letters ≡ length letters₀
+  long : 65536 ≡ length block
+
+-- What every return says.
+told : {letters₀ letters block : List ℕ} {count : ℕ} → Reading letters₀ letters block count → ((bytes : List ℕ) × Held bytes letters count) × (count ≤ 32769)
+told R = ((R .bytes, R .held), R .room)
+
 abbrev Inv-loop : tie.InvT-loop
-Inv-loop letters₀ bytes₀ count₀ reads₀ letters bytes count reads = (count ≤ length letters) × (length letters ≡ length letters₀) × (65536 ≡ length bytes)
+Inv-loop letters₀ block₀ count₀ reads₀ letters block count reads = Reading letters₀ letters block count
 
 abbrev μ-loop : tie.MeasureT-loop
-μ-loop letters₀ bytes₀ count₀ reads₀ letters bytes count reads = reads
+μ-loop letters₀ block₀ count₀ reads₀ letters block count reads = reads
 
-large-buffer-requires : tie.Need-large-buffer-requires Inv-loop μ-loop
-large-buffer-requires c κs = search needs
-
-loop-holds : tie.Need-loop-holds Inv-loop μ-loop
-loop-holds c = search needs
-
-slice-aggregate-read : tie.Need-slice-aggregate-read Inv-loop μ-loop
-slice-aggregate-read c = search needs
-
-read-requires : tie.Need-read-requires Inv-loop μ-loop
-read-requires c κs = search needs
-
-slice-aggregate-count : tie.Need-slice-aggregate-count Inv-loop μ-loop
-slice-aggregate-count c = search needs
-
-count-requires : tie.Need-count-requires Inv-loop μ-loop
-count-requires c κs = search needs
-
-same-length : tie.Need-same-length Inv-loop μ-loop
-same-length c = search needs
-
-returns : tie.Need-returns Inv-loop μ-loop
-returns c = counts _ _ (c .before .before .before .before .before .before .before .before .loop .inv .0)
-
-array-share-prefix-bytes : tie.Need-array-share-prefix-bytes Inv-loop μ-loop
-array-share-prefix-bytes c = search needs
-
-slice-aggregate-keep-letters : tie.Need-slice-aggregate-keep-letters Inv-loop μ-loop
-slice-aggregate-keep-letters c = search needs
-
-keep-letters-requires : tie.Need-keep-letters-requires Inv-loop μ-loop
-keep-letters-requires c κs = search needs
-
-sub-reads : tie.Need-sub-reads Inv-loop μ-loop
-sub-reads c = search needs
-
-loop-less : tie.Need-loop-less Inv-loop μ-loop
-loop-less c = search needs
+loop-held : tie.Need-loop-held Inv-loop μ-loop
+loop-held c = record { bytes = []; held = held-nothing _; room = omega arith; same = search needs; long = search needs }
 
 loop-again : tie.Need-loop-again Inv-loop μ-loop
-loop-again c = let K = c .before .before .keep-letters in omega (arith, kept-room (K .ensures))
+loop-again c =
+    let R = c .before .before .before .before .before .before .before .before .loop .inv in
+    record { bytes = R .bytes; held = R .held; room = R .room; same = R .same; long = search needs }
 
-same-length-2 : tie.Need-same-length-2 Inv-loop μ-loop
-same-length-2 c = search needs
-
-returns-2 : tie.Need-returns-2 Inv-loop μ-loop
-returns-2 c = counts _ _ (c .before .before .loop .inv .0)
-
-same-length-3 : tie.Need-same-length-3 Inv-loop μ-loop
-same-length-3 c = search needs
-
-returns-3 : tie.Need-returns-3 Inv-loop μ-loop
-returns-3 c = counts _ _ (c .before .loop .inv .0)
+loop-again-2 : tie.Need-loop-again-2 Inv-loop μ-loop
+loop-again-2 c =
+    let K = c .before .before .keep-letters in
+    let R = c .before .before .before .before .before .before .before .before .before .before .before .before .before .before .loop .inv in
+    record {
+      bytes = _;
+      held = K .ensures .1 .0 (R .bytes) (R .held);
+      room = omega (arith, K .ensures .1 .1);
+      same = search needs;
+      long = search needs;
+    }
 
 pub read-letters-spec : {M : Type 1} → statement M
 read-letters-spec =
@@ -75,21 +53,26 @@ read-letters-spec =
     (tie.spec
     Inv-loop
     μ-loop
-    large-buffer-requires
-    loop-holds
-    slice-aggregate-read
-    read-requires
-    slice-aggregate-count
-    count-requires
-    same-length
-    returns
-    array-share-prefix-bytes
-    slice-aggregate-keep-letters
-    keep-letters-requires
-    sub-reads
-    loop-less
+    (λ c κs. search needs)
+    loop-held
+    (λ c. search needs)
+    (λ c. search needs)
+    (λ c κs. search needs)
+    (λ c κs. search needs)
+    (λ c. search needs)
     loop-again
-    same-length-2
-    returns-2
-    same-length-3
-    returns-3)
+    (λ c. search needs)
+    (λ c. told (c .before .before .before .before .before .before .before .before .loop .inv))
+    (λ c. search needs)
+    (λ c κs. search needs)
+    (λ c. search needs)
+    (λ c. told (c .before .before .before .before .before .before .before .before .before .loop .inv))
+    (λ c. search needs)
+    (λ c. search needs)
+    (λ c κs. search needs)
+    (λ c. search needs)
+    loop-again-2
+    (λ c. search needs)
+    (λ c. told (c .before .before .loop .inv))
+    (λ c. search needs)
+    (λ c. told (c .before .loop .inv)))

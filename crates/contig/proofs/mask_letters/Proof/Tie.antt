@@ -8,12 +8,15 @@ use Rattle.contig.proofs.mask_letters.Statement
 use Rattle.contig.proofs.no_candidates.Met
 use Rattle.contig.proofs.no_candidates.Reads as Reads'
 use Rattle.contig.proofs.no_candidates.Symbol
-use Rattle.longdust.proofs.LongdustOptions.default.Met as Met'
-use Rattle.longdust.proofs.LongdustOptions.default.Reads as Reads''
-use Rattle.longdust.proofs.LongdustOptions.default.Symbol as Symbol'
-use Rattle.longdust.proofs.process.Met as Met''
-use Rattle.longdust.proofs.FilledTablesProcessReads as Reads'3
-use Rattle.longdust.proofs.process.Symbol as Symbol''
+use Rattle.contig.proofs.no_intervals.Met as Met'
+use Rattle.contig.proofs.no_intervals.Reads as Reads''
+use Rattle.contig.proofs.no_intervals.Symbol as Symbol'
+use Rattle.longdust.proofs.LongdustOptions.default.Met as Met''
+use Rattle.longdust.proofs.LongdustOptions.default.Reads as Reads'3
+use Rattle.longdust.proofs.LongdustOptions.default.Symbol as Symbol''
+use Rattle.longdust.proofs.process.Met as Met'3
+use Rattle.longdust.proofs.CallsProcessProcessReads as Reads'4
+use Rattle.longdust.proofs.process.Symbol as Symbol'3
 use borrow.Fn.Run
 use borrow.Fn.Written
 use contract.Running
@@ -26,6 +29,8 @@ Start = Lts.Start (
   Reads''.Learnt,
   Reads'3.Asked,
   Reads'3.Learnt,
+  Reads'4.Asked,
+  Reads'4.Learnt,
 ) Reads.Pre Reads.Post
 
 abbrev pub After-shared-slice-known : Type 0
@@ -36,26 +41,8 @@ After-shared-slice-known = Lts.After-shared-slice-known (
   Reads''.Learnt,
   Reads'3.Asked,
   Reads'3.Learnt,
-) Reads.Pre Reads.Post
-
-abbrev pub After-slice-known : Type 0
-After-slice-known = Lts.After-slice-known (
-  Reads'.Asked,
-  Reads'.Learnt,
-  Reads''.Asked,
-  Reads''.Learnt,
-  Reads'3.Asked,
-  Reads'3.Learnt,
-) Reads.Pre Reads.Post
-
-abbrev pub After-slice-known2 : Type 0
-After-slice-known2 = Lts.After-slice-known2 (
-  Reads'.Asked,
-  Reads'.Learnt,
-  Reads''.Asked,
-  Reads''.Learnt,
-  Reads'3.Asked,
-  Reads'3.Learnt,
+  Reads'4.Asked,
+  Reads'4.Learnt,
 ) Reads.Pre Reads.Post
 
 abbrev pub After-no-candidates : Type 0
@@ -66,6 +53,32 @@ After-no-candidates = Lts.After-no-candidates (
   Reads''.Learnt,
   Reads'3.Asked,
   Reads'3.Learnt,
+  Reads'4.Asked,
+  Reads'4.Learnt,
+) Reads.Pre Reads.Post
+
+abbrev pub After-no-intervals : Type 0
+After-no-intervals = Lts.After-no-intervals (
+  Reads'.Asked,
+  Reads'.Learnt,
+  Reads''.Asked,
+  Reads''.Learnt,
+  Reads'3.Asked,
+  Reads'3.Learnt,
+  Reads'4.Asked,
+  Reads'4.Learnt,
+) Reads.Pre Reads.Post
+
+abbrev pub After-no-intervals2 : Type 0
+After-no-intervals2 = Lts.After-no-intervals2 (
+  Reads'.Asked,
+  Reads'.Learnt,
+  Reads''.Asked,
+  Reads''.Learnt,
+  Reads'3.Asked,
+  Reads'3.Learnt,
+  Reads'4.Asked,
+  Reads'4.Learnt,
 ) Reads.Pre Reads.Post
 
 abbrev pub After-default : Type 0
@@ -76,6 +89,8 @@ After-default = Lts.After-default (
   Reads''.Learnt,
   Reads'3.Asked,
   Reads'3.Learnt,
+  Reads'4.Asked,
+  Reads'4.Learnt,
 ) Reads.Pre Reads.Post
 
 abbrev pub After-ln : Type 0
@@ -86,6 +101,8 @@ After-ln = Lts.After-ln (
   Reads''.Learnt,
   Reads'3.Asked,
   Reads'3.Learnt,
+  Reads'4.Asked,
+  Reads'4.Learnt,
 ) Reads.Pre Reads.Post
 
 abbrev pub After-f : Type 0
@@ -96,6 +113,8 @@ After-f = Lts.After-f (
   Reads''.Learnt,
   Reads'3.Asked,
   Reads'3.Learnt,
+  Reads'4.Asked,
+  Reads'4.Learnt,
 ) Reads.Pre Reads.Post
 
 abbrev pub After-queue : Type 0
@@ -106,6 +125,8 @@ After-queue = Lts.After-queue (
   Reads''.Learnt,
   Reads'3.Asked,
   Reads'3.Learnt,
+  Reads'4.Asked,
+  Reads'4.Learnt,
 ) Reads.Pre Reads.Post
 
 abbrev pub After-window-counts : Type 0
@@ -116,6 +137,8 @@ After-window-counts = Lts.After-window-counts (
   Reads''.Learnt,
   Reads'3.Asked,
   Reads'3.Learnt,
+  Reads'4.Asked,
+  Reads'4.Learnt,
 ) Reads.Pre Reads.Post
 
 abbrev pub After-scan-counts : Type 0
@@ -126,6 +149,8 @@ After-scan-counts = Lts.After-scan-counts (
   Reads''.Learnt,
   Reads'3.Asked,
   Reads'3.Learnt,
+  Reads'4.Asked,
+  Reads'4.Learnt,
 ) Reads.Pre Reads.Post
 
 abbrev pub After-candidates : Type 0
@@ -136,6 +161,8 @@ After-candidates = Lts.After-candidates (
   Reads''.Learnt,
   Reads'3.Asked,
   Reads'3.Learnt,
+  Reads'4.Asked,
+  Reads'4.Learnt,
 ) Reads.Pre Reads.Post
 
 abbrev pub After-codes : Type 0
@@ -146,6 +173,8 @@ After-codes = Lts.After-codes (
   Reads''.Learnt,
   Reads'3.Asked,
   Reads'3.Learnt,
+  Reads'4.Asked,
+  Reads'4.Learnt,
 ) Reads.Pre Reads.Post
 
 abbrev pub After-reverse-codes : Type 0
@@ -156,46 +185,32 @@ After-reverse-codes = Lts.After-reverse-codes (
   Reads''.Learnt,
   Reads'3.Asked,
   Reads'3.Learnt,
+  Reads'4.Asked,
+  Reads'4.Learnt,
 ) Reads.Pre Reads.Post
 
-abbrev pub After-forward-starts : Type 0
-After-forward-starts = Lts.After-forward-starts (
+abbrev pub After-forward-list : Type 0
+After-forward-list = Lts.After-forward-list (
   Reads'.Asked,
   Reads'.Learnt,
   Reads''.Asked,
   Reads''.Learnt,
   Reads'3.Asked,
   Reads'3.Learnt,
+  Reads'4.Asked,
+  Reads'4.Learnt,
 ) Reads.Pre Reads.Post
 
-abbrev pub After-forward-ends : Type 0
-After-forward-ends = Lts.After-forward-ends (
+abbrev pub After-reverse-list : Type 0
+After-reverse-list = Lts.After-reverse-list (
   Reads'.Asked,
   Reads'.Learnt,
   Reads''.Asked,
   Reads''.Learnt,
   Reads'3.Asked,
   Reads'3.Learnt,
-) Reads.Pre Reads.Post
-
-abbrev pub After-reverse-starts : Type 0
-After-reverse-starts = Lts.After-reverse-starts (
-  Reads'.Asked,
-  Reads'.Learnt,
-  Reads''.Asked,
-  Reads''.Learnt,
-  Reads'3.Asked,
-  Reads'3.Learnt,
-) Reads.Pre Reads.Post
-
-abbrev pub After-reverse-ends : Type 0
-After-reverse-ends = Lts.After-reverse-ends (
-  Reads'.Asked,
-  Reads'.Learnt,
-  Reads''.Asked,
-  Reads''.Learnt,
-  Reads'3.Asked,
-  Reads'3.Learnt,
+  Reads'4.Asked,
+  Reads'4.Learnt,
 ) Reads.Pre Reads.Post
 
 abbrev pub After-process-arg : Type 0
@@ -206,16 +221,8 @@ After-process-arg = Lts.After-process-arg (
   Reads''.Learnt,
   Reads'3.Asked,
   Reads'3.Learnt,
-) Reads.Pre Reads.Post
-
-abbrev pub After-process-arg2 : Type 0
-After-process-arg2 = Lts.After-process-arg2 (
-  Reads'.Asked,
-  Reads'.Learnt,
-  Reads''.Asked,
-  Reads''.Learnt,
-  Reads'3.Asked,
-  Reads'3.Learnt,
+  Reads'4.Asked,
+  Reads'4.Learnt,
 ) Reads.Pre Reads.Post
 
 abbrev pub After-process : Type 0
@@ -226,6 +233,8 @@ After-process = Lts.After-process (
   Reads''.Learnt,
   Reads'3.Asked,
   Reads'3.Learnt,
+  Reads'4.Asked,
+  Reads'4.Learnt,
 ) Reads.Pre Reads.Post
 
 abbrev pub After-ln2 : Type 0
@@ -236,6 +245,8 @@ After-ln2 = Lts.After-ln2 (
   Reads''.Learnt,
   Reads'3.Asked,
   Reads'3.Learnt,
+  Reads'4.Asked,
+  Reads'4.Learnt,
 ) Reads.Pre Reads.Post
 
 abbrev pub After-f2 : Type 0
@@ -246,6 +257,8 @@ After-f2 = Lts.After-f2 (
   Reads''.Learnt,
   Reads'3.Asked,
   Reads'3.Learnt,
+  Reads'4.Asked,
+  Reads'4.Learnt,
 ) Reads.Pre Reads.Post
 
 abbrev pub After-queue2 : Type 0
@@ -256,6 +269,8 @@ After-queue2 = Lts.After-queue2 (
   Reads''.Learnt,
   Reads'3.Asked,
   Reads'3.Learnt,
+  Reads'4.Asked,
+  Reads'4.Learnt,
 ) Reads.Pre Reads.Post
 
 abbrev pub After-window-counts2 : Type 0
@@ -266,6 +281,8 @@ After-window-counts2 = Lts.After-window-counts2 (
   Reads''.Learnt,
   Reads'3.Asked,
   Reads'3.Learnt,
+  Reads'4.Asked,
+  Reads'4.Learnt,
 ) Reads.Pre Reads.Post
 
 abbrev pub After-scan-counts2 : Type 0
@@ -276,6 +293,8 @@ After-scan-counts2 = Lts.After-scan-counts2 (
   Reads''.Learnt,
   Reads'3.Asked,
   Reads'3.Learnt,
+  Reads'4.Asked,
+  Reads'4.Learnt,
 ) Reads.Pre Reads.Post
 
 abbrev pub After-candidates2 : Type 0
@@ -286,6 +305,8 @@ After-candidates2 = Lts.After-candidates2 (
   Reads''.Learnt,
   Reads'3.Asked,
   Reads'3.Learnt,
+  Reads'4.Asked,
+  Reads'4.Learnt,
 ) Reads.Pre Reads.Post
 
 abbrev pub After-codes2 : Type 0
@@ -296,6 +317,8 @@ After-codes2 = Lts.After-codes2 (
   Reads''.Learnt,
   Reads'3.Asked,
   Reads'3.Learnt,
+  Reads'4.Asked,
+  Reads'4.Learnt,
 ) Reads.Pre Reads.Post
 
 abbrev pub After-reverse-codes2 : Type 0
@@ -306,86 +329,44 @@ After-reverse-codes2 = Lts.After-reverse-codes2 (
   Reads''.Learnt,
   Reads'3.Asked,
   Reads'3.Learnt,
+  Reads'4.Asked,
+  Reads'4.Learnt,
 ) Reads.Pre Reads.Post
 
-abbrev pub After-forward-starts2 : Type 0
-After-forward-starts2 = Lts.After-forward-starts2 (
+abbrev pub After-forward-list2 : Type 0
+After-forward-list2 = Lts.After-forward-list2 (
   Reads'.Asked,
   Reads'.Learnt,
   Reads''.Asked,
   Reads''.Learnt,
   Reads'3.Asked,
   Reads'3.Learnt,
+  Reads'4.Asked,
+  Reads'4.Learnt,
 ) Reads.Pre Reads.Post
 
-abbrev pub After-forward-ends2 : Type 0
-After-forward-ends2 = Lts.After-forward-ends2 (
+abbrev pub After-reverse-list2 : Type 0
+After-reverse-list2 = Lts.After-reverse-list2 (
   Reads'.Asked,
   Reads'.Learnt,
   Reads''.Asked,
   Reads''.Learnt,
   Reads'3.Asked,
   Reads'3.Learnt,
+  Reads'4.Asked,
+  Reads'4.Learnt,
 ) Reads.Pre Reads.Post
 
-abbrev pub After-reverse-starts2 : Type 0
-After-reverse-starts2 = Lts.After-reverse-starts2 (
+abbrev pub After-list : Type 0
+After-list = Lts.After-list (
   Reads'.Asked,
   Reads'.Learnt,
   Reads''.Asked,
   Reads''.Learnt,
   Reads'3.Asked,
   Reads'3.Learnt,
-) Reads.Pre Reads.Post
-
-abbrev pub After-reverse-ends2 : Type 0
-After-reverse-ends2 = Lts.After-reverse-ends2 (
-  Reads'.Asked,
-  Reads'.Learnt,
-  Reads''.Asked,
-  Reads''.Learnt,
-  Reads'3.Asked,
-  Reads'3.Learnt,
-) Reads.Pre Reads.Post
-
-abbrev pub After-starts : Type 0
-After-starts = Lts.After-starts (
-  Reads'.Asked,
-  Reads'.Learnt,
-  Reads''.Asked,
-  Reads''.Learnt,
-  Reads'3.Asked,
-  Reads'3.Learnt,
-) Reads.Pre Reads.Post
-
-abbrev pub After-slice-known3 : Type 0
-After-slice-known3 = Lts.After-slice-known3 (
-  Reads'.Asked,
-  Reads'.Learnt,
-  Reads''.Asked,
-  Reads''.Learnt,
-  Reads'3.Asked,
-  Reads'3.Learnt,
-) Reads.Pre Reads.Post
-
-abbrev pub After-ends : Type 0
-After-ends = Lts.After-ends (
-  Reads'.Asked,
-  Reads'.Learnt,
-  Reads''.Asked,
-  Reads''.Learnt,
-  Reads'3.Asked,
-  Reads'3.Learnt,
-) Reads.Pre Reads.Post
-
-abbrev pub After-slice-known4 : Type 0
-After-slice-known4 = Lts.After-slice-known4 (
-  Reads'.Asked,
-  Reads'.Learnt,
-  Reads''.Asked,
-  Reads''.Learnt,
-  Reads'3.Asked,
-  Reads'3.Learnt,
+  Reads'4.Asked,
+  Reads'4.Learnt,
 ) Reads.Pre Reads.Post
 
 abbrev pub Need-no-candidates-requires : Type 0
@@ -396,6 +377,32 @@ Need-no-candidates-requires = Lts.Need-no-candidates-requires (
   Reads''.Learnt,
   Reads'3.Asked,
   Reads'3.Learnt,
+  Reads'4.Asked,
+  Reads'4.Learnt,
+) Reads.Pre Reads.Post
+
+abbrev pub Need-no-intervals-requires : Type 0
+Need-no-intervals-requires = Lts.Need-no-intervals-requires (
+  Reads'.Asked,
+  Reads'.Learnt,
+  Reads''.Asked,
+  Reads''.Learnt,
+  Reads'3.Asked,
+  Reads'3.Learnt,
+  Reads'4.Asked,
+  Reads'4.Learnt,
+) Reads.Pre Reads.Post
+
+abbrev pub Need-no-intervals-requires-2 : Type 0
+Need-no-intervals-requires-2 = Lts.Need-no-intervals-requires-2 (
+  Reads'.Asked,
+  Reads'.Learnt,
+  Reads''.Asked,
+  Reads''.Learnt,
+  Reads'3.Asked,
+  Reads'3.Learnt,
+  Reads'4.Asked,
+  Reads'4.Learnt,
 ) Reads.Pre Reads.Post
 
 abbrev pub Need-default-requires : Type 0
@@ -406,6 +413,8 @@ Need-default-requires = Lts.Need-default-requires (
   Reads''.Learnt,
   Reads'3.Asked,
   Reads'3.Learnt,
+  Reads'4.Asked,
+  Reads'4.Learnt,
 ) Reads.Pre Reads.Post
 
 abbrev pub Need-slice-aggregate-process : Type 0
@@ -416,6 +425,8 @@ Need-slice-aggregate-process = Lts.Need-slice-aggregate-process (
   Reads''.Learnt,
   Reads'3.Asked,
   Reads'3.Learnt,
+  Reads'4.Asked,
+  Reads'4.Learnt,
 ) Reads.Pre Reads.Post
 
 abbrev pub Need-slice-aggregate-process-2 : Type 0
@@ -426,6 +437,8 @@ Need-slice-aggregate-process-2 = Lts.Need-slice-aggregate-process-2 (
   Reads''.Learnt,
   Reads'3.Asked,
   Reads'3.Learnt,
+  Reads'4.Asked,
+  Reads'4.Learnt,
 ) Reads.Pre Reads.Post
 
 abbrev pub Need-slice-aggregate-process-3 : Type 0
@@ -436,6 +449,8 @@ Need-slice-aggregate-process-3 = Lts.Need-slice-aggregate-process-3 (
   Reads''.Learnt,
   Reads'3.Asked,
   Reads'3.Learnt,
+  Reads'4.Asked,
+  Reads'4.Learnt,
 ) Reads.Pre Reads.Post
 
 abbrev pub Need-slice-aggregate-process-4 : Type 0
@@ -446,6 +461,8 @@ Need-slice-aggregate-process-4 = Lts.Need-slice-aggregate-process-4 (
   Reads''.Learnt,
   Reads'3.Asked,
   Reads'3.Learnt,
+  Reads'4.Asked,
+  Reads'4.Learnt,
 ) Reads.Pre Reads.Post
 
 abbrev pub Need-slice-aggregate-process-5 : Type 0
@@ -456,6 +473,8 @@ Need-slice-aggregate-process-5 = Lts.Need-slice-aggregate-process-5 (
   Reads''.Learnt,
   Reads'3.Asked,
   Reads'3.Learnt,
+  Reads'4.Asked,
+  Reads'4.Learnt,
 ) Reads.Pre Reads.Post
 
 abbrev pub Need-slice-aggregate-process-6 : Type 0
@@ -466,6 +485,8 @@ Need-slice-aggregate-process-6 = Lts.Need-slice-aggregate-process-6 (
   Reads''.Learnt,
   Reads'3.Asked,
   Reads'3.Learnt,
+  Reads'4.Asked,
+  Reads'4.Learnt,
 ) Reads.Pre Reads.Post
 
 abbrev pub Need-slice-aggregate-process-7 : Type 0
@@ -476,6 +497,8 @@ Need-slice-aggregate-process-7 = Lts.Need-slice-aggregate-process-7 (
   Reads''.Learnt,
   Reads'3.Asked,
   Reads'3.Learnt,
+  Reads'4.Asked,
+  Reads'4.Learnt,
 ) Reads.Pre Reads.Post
 
 abbrev pub Need-slice-aggregate-process-8 : Type 0
@@ -486,6 +509,8 @@ Need-slice-aggregate-process-8 = Lts.Need-slice-aggregate-process-8 (
   Reads''.Learnt,
   Reads'3.Asked,
   Reads'3.Learnt,
+  Reads'4.Asked,
+  Reads'4.Learnt,
 ) Reads.Pre Reads.Post
 
 abbrev pub Need-slice-aggregate-process-9 : Type 0
@@ -496,6 +521,8 @@ Need-slice-aggregate-process-9 = Lts.Need-slice-aggregate-process-9 (
   Reads''.Learnt,
   Reads'3.Asked,
   Reads'3.Learnt,
+  Reads'4.Asked,
+  Reads'4.Learnt,
 ) Reads.Pre Reads.Post
 
 abbrev pub Need-slice-aggregate-process-10 : Type 0
@@ -506,26 +533,8 @@ Need-slice-aggregate-process-10 = Lts.Need-slice-aggregate-process-10 (
   Reads''.Learnt,
   Reads'3.Asked,
   Reads'3.Learnt,
-) Reads.Pre Reads.Post
-
-abbrev pub Need-slice-aggregate-process-11 : Type 0
-Need-slice-aggregate-process-11 = Lts.Need-slice-aggregate-process-11 (
-  Reads'.Asked,
-  Reads'.Learnt,
-  Reads''.Asked,
-  Reads''.Learnt,
-  Reads'3.Asked,
-  Reads'3.Learnt,
-) Reads.Pre Reads.Post
-
-abbrev pub Need-slice-aggregate-process-12 : Type 0
-Need-slice-aggregate-process-12 = Lts.Need-slice-aggregate-process-12 (
-  Reads'.Asked,
-  Reads'.Learnt,
-  Reads''.Asked,
-  Reads''.Learnt,
-  Reads'3.Asked,
-  Reads'3.Learnt,
+  Reads'4.Asked,
+  Reads'4.Learnt,
 ) Reads.Pre Reads.Post
 
 abbrev pub Need-process-requires : Type 0
@@ -536,6 +545,8 @@ Need-process-requires = Lts.Need-process-requires (
   Reads''.Learnt,
   Reads'3.Asked,
   Reads'3.Learnt,
+  Reads'4.Asked,
+  Reads'4.Learnt,
 ) Reads.Pre Reads.Post
 
 abbrev pub Need-same-length : Type 0
@@ -546,16 +557,8 @@ Need-same-length = Lts.Need-same-length (
   Reads''.Learnt,
   Reads'3.Asked,
   Reads'3.Learnt,
-) Reads.Pre Reads.Post
-
-abbrev pub Need-same-length-2 : Type 0
-Need-same-length-2 = Lts.Need-same-length-2 (
-  Reads'.Asked,
-  Reads'.Learnt,
-  Reads''.Asked,
-  Reads''.Learnt,
-  Reads'3.Asked,
-  Reads'3.Learnt,
+  Reads'4.Asked,
+  Reads'4.Learnt,
 ) Reads.Pre Reads.Post
 
 abbrev pub Need-returns : Type 0
@@ -566,11 +569,15 @@ Need-returns = Lts.Need-returns (
   Reads''.Learnt,
   Reads'3.Asked,
   Reads'3.Learnt,
+  Reads'4.Asked,
+  Reads'4.Learnt,
 ) Reads.Pre Reads.Post
 
 module _ {M : Type 1} where
   pub spec :
       (answer : Need-no-candidates-requires) →
+      (answer : Need-no-intervals-requires) →
+      (answer : Need-no-intervals-requires-2) →
       (answer : Need-default-requires) →
       (answer : Need-slice-aggregate-process) →
       (answer : Need-slice-aggregate-process-2) →
@@ -582,11 +589,8 @@ module _ {M : Type 1} where
       (answer : Need-slice-aggregate-process-8) →
       (answer : Need-slice-aggregate-process-9) →
       (answer : Need-slice-aggregate-process-10) →
-      (answer : Need-slice-aggregate-process-11) →
-      (answer : Need-slice-aggregate-process-12) →
       (answer : Need-process-requires) →
       (answer : Need-same-length) →
-      (answer : Need-same-length-2) →
       (answer : Need-returns) →
       Lts.Closed (
         Reads'.Asked,
@@ -595,14 +599,40 @@ module _ {M : Type 1} where
         Reads''.Learnt,
         Reads'3.Asked,
         Reads'3.Learnt,
+        Reads'4.Asked,
+        Reads'4.Learnt,
       ) Reads.Pre Reads.Post M
   spec =
       λ answer answer' answer'' answer'3 answer'4 answer'5 answer'6 answer'7 answer'8 answer'9
-      answer'10 answer'11 answer'12 answer'13 answer'14 answer'15 answer'16 answer'17. Lts.spec
-      (Reads'.Asked, Reads'.Learnt, Reads''.Asked, Reads''.Learnt, Reads'3.Asked, Reads'3.Learnt)
-      Reads.Pre Reads.Post answer answer' answer'' answer'3 answer'4 answer'5 answer'6 answer'7
-      answer'8 answer'9 answer'10 answer'11 answer'12 answer'13 answer'14 answer'15 answer'16
-      answer'17
+      answer'10 answer'11 answer'12 answer'13 answer'14 answer'15 answer'16. Lts.spec (
+        Reads'.Asked,
+        Reads'.Learnt,
+        Reads''.Asked,
+        Reads''.Learnt,
+        Reads'3.Asked,
+        Reads'3.Learnt,
+        Reads'4.Asked,
+        Reads'4.Learnt,
+      )
+      Reads.Pre
+      Reads.Post
+      answer
+      answer'
+      answer''
+      answer'3
+      answer'4
+      answer'5
+      answer'6
+      answer'7
+      answer'8
+      answer'9
+      answer'10
+      answer'11
+      answer'12
+      answer'13
+      answer'14
+      answer'15
+      answer'16
 
   pub close : Lts.Closed (
     Reads'.Asked,
@@ -611,11 +641,13 @@ module _ {M : Type 1} where
     Reads''.Learnt,
     Reads'3.Asked,
     Reads'3.Learnt,
+    Reads'4.Asked,
+    Reads'4.Learnt,
   ) Reads.Pre Reads.Post M → Statement.statement M
   unfolding Code.routine Running.tablesOf
   close =
       λ closed 𝓤 H 𝓜 𝓖 𝓡. Written.close
-      3
+      2
       Kinds.ps
       Kinds.r
       Reads.Ghost
@@ -651,12 +683,19 @@ module _ {M : Type 1} where
       Code.env
       Symbol'.name
       Symbol'.routine
-      Code.calls-longdust·LongdustOptions·default
+      Code.calls-contig·no-intervals
       (Met'.met 𝓤 H 𝓜 𝓖 𝓡))
       (Reads'3.known
       record { M = M; 𝓤 = 𝓤; H = H; 𝓜 = 𝓜; 𝓖 = 𝓖; 𝓡 = 𝓡 }
       Code.env
       Symbol''.name
       Symbol''.routine
-      Code.calls-longdust·process
+      Code.calls-longdust·LongdustOptions·default
       (Met''.met 𝓤 H 𝓜 𝓖 𝓡))
+      (Reads'4.known
+      record { M = M; 𝓤 = 𝓤; H = H; 𝓜 = 𝓜; 𝓖 = 𝓖; 𝓡 = 𝓡 }
+      Code.env
+      Symbol'3.name
+      Symbol'3.routine
+      Code.calls-longdust·process
+      (Met'3.met 𝓤 H 𝓜 𝓖 𝓡))

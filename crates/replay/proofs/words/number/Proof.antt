@@ -1,5 +1,6 @@
 -- `replay::words::number` meets its contract: what is read so far is at most `most`.
 use Prim.Native.Nat.{_-_, _≤_}
+use native.Mathlib.Omega.{arith}
 use borrow.Author.Needs.{needs}
 use lib.ListN.{length}
 use Rattle.replay.proofs.words.number.Statement.{statement}
@@ -25,9 +26,9 @@ number-spec =
     (λ c. search needs)
     (λ c. search needs)
     (λ c κs. search needs)
-    (λ c. search needs)
+    (λ c. rw (c .unsound .ensures) (omega arith))
     (λ c. search needs)
     (λ c. search needs)
     (λ c. search needs)
     (λ c κs. search needs)
-    (λ c. search needs))
+    (λ c. rw (c .unsound2 .ensures) (omega arith)))

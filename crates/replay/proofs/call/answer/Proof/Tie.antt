@@ -1,13 +1,13 @@
 -- Made by tools/lift from the prover's `Tie` of `call::answer` over a slice of `[u64; 2]`; not to be edited.
+use Rattle.longdust.proofs.process_tables.Met
+use Rattle.longdust.proofs.CallsProcessTablesProcessTablesReads as Reads
+use Rattle.longdust.proofs.process_tables.Symbol
 use Rattle.replay.proofs.call.answer.Code
 use Rattle.replay.proofs.call.answer.Key
 use Rattle.replay.proofs.CallAnswerKinds as Kinds
 use Rattle.replay.proofs.call.answer.Proof.Lts
-use Rattle.replay.proofs.CallAnswerReads as Reads
+use Rattle.replay.proofs.CallAnswerReads as Reads'
 use Rattle.replay.proofs.call.answer.Statement
-use Rattle.replay.proofs.call.call.Met
-use Rattle.replay.proofs.CallCallReads as Reads'
-use Rattle.replay.proofs.call.call.Symbol
 use Rattle.replay.proofs.call.entries.Met as Met'
 use Rattle.replay.proofs.call.entries.Reads as Reads''
 use Rattle.replay.proofs.call.entries.Symbol as Symbol'
@@ -17,6 +17,9 @@ use Rattle.replay.proofs.call.least.Symbol as Symbol''
 use Rattle.replay.proofs.call.some_candidates.Met as Met'3
 use Rattle.replay.proofs.call.some_candidates.Reads as Reads'4
 use Rattle.replay.proofs.call.some_candidates.Symbol as Symbol'3
+use Rattle.replay.proofs.call.some_intervals.Met as Met'4
+use Rattle.replay.proofs.call.some_intervals.Reads as Reads'5
+use Rattle.replay.proofs.call.some_intervals.Symbol as Symbol'4
 use borrow.Fn.Run
 use borrow.Fn.Written
 use contract.Running
@@ -29,9 +32,11 @@ Start = Lts.Start (
   Reads''.Learnt,
   Reads'4.Asked,
   Reads'4.Learnt,
-  Reads'.Asked,
-  Reads'.Learnt,
-) Reads.Pre Reads.Post
+  Reads'5.Asked,
+  Reads'5.Learnt,
+  Reads.Asked,
+  Reads.Learnt,
+) Reads'.Pre Reads'.Post
 
 abbrev pub After-shared-slice-known : Type 0
 After-shared-slice-known = Lts.After-shared-slice-known (
@@ -41,57 +46,39 @@ After-shared-slice-known = Lts.After-shared-slice-known (
   Reads''.Learnt,
   Reads'4.Asked,
   Reads'4.Learnt,
-  Reads'.Asked,
-  Reads'.Learnt,
-) Reads.Pre Reads.Post
+  Reads'5.Asked,
+  Reads'5.Learnt,
+  Reads.Asked,
+  Reads.Learnt,
+) Reads'.Pre Reads'.Post
 
-abbrev pub After-slice-known : Type 0
-After-slice-known = Lts.After-slice-known (
+abbrev pub After-shared-slice-known2 : Type 0
+After-shared-slice-known2 = Lts.After-shared-slice-known2 (
   Reads'3.Asked,
   Reads'3.Learnt,
   Reads''.Asked,
   Reads''.Learnt,
   Reads'4.Asked,
   Reads'4.Learnt,
-  Reads'.Asked,
-  Reads'.Learnt,
-) Reads.Pre Reads.Post
+  Reads'5.Asked,
+  Reads'5.Learnt,
+  Reads.Asked,
+  Reads.Learnt,
+) Reads'.Pre Reads'.Post
 
-abbrev pub After-slice-known2 : Type 0
-After-slice-known2 = Lts.After-slice-known2 (
+abbrev pub After-shared-slice-known3 : Type 0
+After-shared-slice-known3 = Lts.After-shared-slice-known3 (
   Reads'3.Asked,
   Reads'3.Learnt,
   Reads''.Asked,
   Reads''.Learnt,
   Reads'4.Asked,
   Reads'4.Learnt,
-  Reads'.Asked,
-  Reads'.Learnt,
-) Reads.Pre Reads.Post
-
-abbrev pub After-slice-known3 : Type 0
-After-slice-known3 = Lts.After-slice-known3 (
-  Reads'3.Asked,
-  Reads'3.Learnt,
-  Reads''.Asked,
-  Reads''.Learnt,
-  Reads'4.Asked,
-  Reads'4.Learnt,
-  Reads'.Asked,
-  Reads'.Learnt,
-) Reads.Pre Reads.Post
-
-abbrev pub After-slice-known4 : Type 0
-After-slice-known4 = Lts.After-slice-known4 (
-  Reads'3.Asked,
-  Reads'3.Learnt,
-  Reads''.Asked,
-  Reads''.Learnt,
-  Reads'4.Asked,
-  Reads'4.Learnt,
-  Reads'.Asked,
-  Reads'.Learnt,
-) Reads.Pre Reads.Post
+  Reads'5.Asked,
+  Reads'5.Learnt,
+  Reads.Asked,
+  Reads.Learnt,
+) Reads'.Pre Reads'.Post
 
 abbrev pub After-least : Type 0
 After-least = Lts.After-least (
@@ -101,9 +88,11 @@ After-least = Lts.After-least (
   Reads''.Learnt,
   Reads'4.Asked,
   Reads'4.Learnt,
-  Reads'.Asked,
-  Reads'.Learnt,
-) Reads.Pre Reads.Post
+  Reads'5.Asked,
+  Reads'5.Learnt,
+  Reads.Asked,
+  Reads.Learnt,
+) Reads'.Pre Reads'.Post
 
 abbrev pub After-least2 : Type 0
 After-least2 = Lts.After-least2 (
@@ -113,9 +102,11 @@ After-least2 = Lts.After-least2 (
   Reads''.Learnt,
   Reads'4.Asked,
   Reads'4.Learnt,
-  Reads'.Asked,
-  Reads'.Learnt,
-) Reads.Pre Reads.Post
+  Reads'5.Asked,
+  Reads'5.Learnt,
+  Reads.Asked,
+  Reads.Learnt,
+) Reads'.Pre Reads'.Post
 
 abbrev pub After-entries : Type 0
 After-entries = Lts.After-entries (
@@ -125,9 +116,11 @@ After-entries = Lts.After-entries (
   Reads''.Learnt,
   Reads'4.Asked,
   Reads'4.Learnt,
-  Reads'.Asked,
-  Reads'.Learnt,
-) Reads.Pre Reads.Post
+  Reads'5.Asked,
+  Reads'5.Learnt,
+  Reads.Asked,
+  Reads.Learnt,
+) Reads'.Pre Reads'.Post
 
 abbrev pub After-entries2 : Type 0
 After-entries2 = Lts.After-entries2 (
@@ -137,9 +130,11 @@ After-entries2 = Lts.After-entries2 (
   Reads''.Learnt,
   Reads'4.Asked,
   Reads'4.Learnt,
-  Reads'.Asked,
-  Reads'.Learnt,
-) Reads.Pre Reads.Post
+  Reads'5.Asked,
+  Reads'5.Learnt,
+  Reads.Asked,
+  Reads.Learnt,
+) Reads'.Pre Reads'.Post
 
 abbrev pub After-entries3 : Type 0
 After-entries3 = Lts.After-entries3 (
@@ -149,9 +144,11 @@ After-entries3 = Lts.After-entries3 (
   Reads''.Learnt,
   Reads'4.Asked,
   Reads'4.Learnt,
-  Reads'.Asked,
-  Reads'.Learnt,
-) Reads.Pre Reads.Post
+  Reads'5.Asked,
+  Reads'5.Learnt,
+  Reads.Asked,
+  Reads.Learnt,
+) Reads'.Pre Reads'.Post
 
 abbrev pub After-entries4 : Type 0
 After-entries4 = Lts.After-entries4 (
@@ -161,9 +158,11 @@ After-entries4 = Lts.After-entries4 (
   Reads''.Learnt,
   Reads'4.Asked,
   Reads'4.Learnt,
-  Reads'.Asked,
-  Reads'.Learnt,
-) Reads.Pre Reads.Post
+  Reads'5.Asked,
+  Reads'5.Learnt,
+  Reads.Asked,
+  Reads.Learnt,
+) Reads'.Pre Reads'.Post
 
 abbrev pub After-entries5 : Type 0
 After-entries5 = Lts.After-entries5 (
@@ -173,9 +172,11 @@ After-entries5 = Lts.After-entries5 (
   Reads''.Learnt,
   Reads'4.Asked,
   Reads'4.Learnt,
-  Reads'.Asked,
-  Reads'.Learnt,
-) Reads.Pre Reads.Post
+  Reads'5.Asked,
+  Reads'5.Learnt,
+  Reads.Asked,
+  Reads.Learnt,
+) Reads'.Pre Reads'.Post
 
 abbrev pub After-entries6 : Type 0
 After-entries6 = Lts.After-entries6 (
@@ -185,9 +186,11 @@ After-entries6 = Lts.After-entries6 (
   Reads''.Learnt,
   Reads'4.Asked,
   Reads'4.Learnt,
-  Reads'.Asked,
-  Reads'.Learnt,
-) Reads.Pre Reads.Post
+  Reads'5.Asked,
+  Reads'5.Learnt,
+  Reads.Asked,
+  Reads.Learnt,
+) Reads'.Pre Reads'.Post
 
 abbrev pub After-entries7 : Type 0
 After-entries7 = Lts.After-entries7 (
@@ -197,9 +200,11 @@ After-entries7 = Lts.After-entries7 (
   Reads''.Learnt,
   Reads'4.Asked,
   Reads'4.Learnt,
-  Reads'.Asked,
-  Reads'.Learnt,
-) Reads.Pre Reads.Post
+  Reads'5.Asked,
+  Reads'5.Learnt,
+  Reads.Asked,
+  Reads.Learnt,
+) Reads'.Pre Reads'.Post
 
 abbrev pub After-entries8 : Type 0
 After-entries8 = Lts.After-entries8 (
@@ -209,81 +214,11 @@ After-entries8 = Lts.After-entries8 (
   Reads''.Learnt,
   Reads'4.Asked,
   Reads'4.Learnt,
-  Reads'.Asked,
-  Reads'.Learnt,
-) Reads.Pre Reads.Post
-
-abbrev pub After-entries9 : Type 0
-After-entries9 = Lts.After-entries9 (
-  Reads'3.Asked,
-  Reads'3.Learnt,
-  Reads''.Asked,
-  Reads''.Learnt,
-  Reads'4.Asked,
-  Reads'4.Learnt,
-  Reads'.Asked,
-  Reads'.Learnt,
-) Reads.Pre Reads.Post
-
-abbrev pub After-entries10 : Type 0
-After-entries10 = Lts.After-entries10 (
-  Reads'3.Asked,
-  Reads'3.Learnt,
-  Reads''.Asked,
-  Reads''.Learnt,
-  Reads'4.Asked,
-  Reads'4.Learnt,
-  Reads'.Asked,
-  Reads'.Learnt,
-) Reads.Pre Reads.Post
-
-abbrev pub After-entries11 : Type 0
-After-entries11 = Lts.After-entries11 (
-  Reads'3.Asked,
-  Reads'3.Learnt,
-  Reads''.Asked,
-  Reads''.Learnt,
-  Reads'4.Asked,
-  Reads'4.Learnt,
-  Reads'.Asked,
-  Reads'.Learnt,
-) Reads.Pre Reads.Post
-
-abbrev pub After-entries12 : Type 0
-After-entries12 = Lts.After-entries12 (
-  Reads'3.Asked,
-  Reads'3.Learnt,
-  Reads''.Asked,
-  Reads''.Learnt,
-  Reads'4.Asked,
-  Reads'4.Learnt,
-  Reads'.Asked,
-  Reads'.Learnt,
-) Reads.Pre Reads.Post
-
-abbrev pub After-entries13 : Type 0
-After-entries13 = Lts.After-entries13 (
-  Reads'3.Asked,
-  Reads'3.Learnt,
-  Reads''.Asked,
-  Reads''.Learnt,
-  Reads'4.Asked,
-  Reads'4.Learnt,
-  Reads'.Asked,
-  Reads'.Learnt,
-) Reads.Pre Reads.Post
-
-abbrev pub After-entries14 : Type 0
-After-entries14 = Lts.After-entries14 (
-  Reads'3.Asked,
-  Reads'3.Learnt,
-  Reads''.Asked,
-  Reads''.Learnt,
-  Reads'4.Asked,
-  Reads'4.Learnt,
-  Reads'.Asked,
-  Reads'.Learnt,
-) Reads.Pre Reads.Post
+  Reads'5.Asked,
+  Reads'5.Learnt,
+  Reads.Asked,
+  Reads.Learnt,
+) Reads'.Pre Reads'.Post
 
 abbrev pub After-some-candidates : Type 0
 After-some-candidates = Lts.After-some-candidates (
@@ -293,33 +228,39 @@ After-some-candidates = Lts.After-some-candidates (
   Reads''.Learnt,
   Reads'4.Asked,
   Reads'4.Learnt,
-  Reads'.Asked,
-  Reads'.Learnt,
-) Reads.Pre Reads.Post
+  Reads'5.Asked,
+  Reads'5.Learnt,
+  Reads.Asked,
+  Reads.Learnt,
+) Reads'.Pre Reads'.Post
 
-abbrev pub After-call-arg : Type 0
-After-call-arg = Lts.After-call-arg (
+abbrev pub After-some-intervals : Type 0
+After-some-intervals = Lts.After-some-intervals (
   Reads'3.Asked,
   Reads'3.Learnt,
   Reads''.Asked,
   Reads''.Learnt,
   Reads'4.Asked,
   Reads'4.Learnt,
-  Reads'.Asked,
-  Reads'.Learnt,
-) Reads.Pre Reads.Post
+  Reads'5.Asked,
+  Reads'5.Learnt,
+  Reads.Asked,
+  Reads.Learnt,
+) Reads'.Pre Reads'.Post
 
-abbrev pub After-call-arg2 : Type 0
-After-call-arg2 = Lts.After-call-arg2 (
+abbrev pub After-some-intervals2 : Type 0
+After-some-intervals2 = Lts.After-some-intervals2 (
   Reads'3.Asked,
   Reads'3.Learnt,
   Reads''.Asked,
   Reads''.Learnt,
   Reads'4.Asked,
   Reads'4.Learnt,
-  Reads'.Asked,
-  Reads'.Learnt,
-) Reads.Pre Reads.Post
+  Reads'5.Asked,
+  Reads'5.Learnt,
+  Reads.Asked,
+  Reads.Learnt,
+) Reads'.Pre Reads'.Post
 
 abbrev pub After-queue : Type 0
 After-queue = Lts.After-queue (
@@ -329,9 +270,11 @@ After-queue = Lts.After-queue (
   Reads''.Learnt,
   Reads'4.Asked,
   Reads'4.Learnt,
-  Reads'.Asked,
-  Reads'.Learnt,
-) Reads.Pre Reads.Post
+  Reads'5.Asked,
+  Reads'5.Learnt,
+  Reads.Asked,
+  Reads.Learnt,
+) Reads'.Pre Reads'.Post
 
 abbrev pub After-window-counts : Type 0
 After-window-counts = Lts.After-window-counts (
@@ -341,9 +284,11 @@ After-window-counts = Lts.After-window-counts (
   Reads''.Learnt,
   Reads'4.Asked,
   Reads'4.Learnt,
-  Reads'.Asked,
-  Reads'.Learnt,
-) Reads.Pre Reads.Post
+  Reads'5.Asked,
+  Reads'5.Learnt,
+  Reads.Asked,
+  Reads.Learnt,
+) Reads'.Pre Reads'.Post
 
 abbrev pub After-scan-counts : Type 0
 After-scan-counts = Lts.After-scan-counts (
@@ -353,9 +298,11 @@ After-scan-counts = Lts.After-scan-counts (
   Reads''.Learnt,
   Reads'4.Asked,
   Reads'4.Learnt,
-  Reads'.Asked,
-  Reads'.Learnt,
-) Reads.Pre Reads.Post
+  Reads'5.Asked,
+  Reads'5.Learnt,
+  Reads.Asked,
+  Reads.Learnt,
+) Reads'.Pre Reads'.Post
 
 abbrev pub After-candidates : Type 0
 After-candidates = Lts.After-candidates (
@@ -365,9 +312,11 @@ After-candidates = Lts.After-candidates (
   Reads''.Learnt,
   Reads'4.Asked,
   Reads'4.Learnt,
-  Reads'.Asked,
-  Reads'.Learnt,
-) Reads.Pre Reads.Post
+  Reads'5.Asked,
+  Reads'5.Learnt,
+  Reads.Asked,
+  Reads.Learnt,
+) Reads'.Pre Reads'.Post
 
 abbrev pub After-codes : Type 0
 After-codes = Lts.After-codes (
@@ -377,9 +326,11 @@ After-codes = Lts.After-codes (
   Reads''.Learnt,
   Reads'4.Asked,
   Reads'4.Learnt,
-  Reads'.Asked,
-  Reads'.Learnt,
-) Reads.Pre Reads.Post
+  Reads'5.Asked,
+  Reads'5.Learnt,
+  Reads.Asked,
+  Reads.Learnt,
+) Reads'.Pre Reads'.Post
 
 abbrev pub After-reverse-codes : Type 0
 After-reverse-codes = Lts.After-reverse-codes (
@@ -389,141 +340,67 @@ After-reverse-codes = Lts.After-reverse-codes (
   Reads''.Learnt,
   Reads'4.Asked,
   Reads'4.Learnt,
-  Reads'.Asked,
-  Reads'.Learnt,
-) Reads.Pre Reads.Post
+  Reads'5.Asked,
+  Reads'5.Learnt,
+  Reads.Asked,
+  Reads.Learnt,
+) Reads'.Pre Reads'.Post
 
-abbrev pub After-forward-starts : Type 0
-After-forward-starts = Lts.After-forward-starts (
+abbrev pub After-forward-list : Type 0
+After-forward-list = Lts.After-forward-list (
   Reads'3.Asked,
   Reads'3.Learnt,
   Reads''.Asked,
   Reads''.Learnt,
   Reads'4.Asked,
   Reads'4.Learnt,
-  Reads'.Asked,
-  Reads'.Learnt,
-) Reads.Pre Reads.Post
+  Reads'5.Asked,
+  Reads'5.Learnt,
+  Reads.Asked,
+  Reads.Learnt,
+) Reads'.Pre Reads'.Post
 
-abbrev pub After-forward-ends : Type 0
-After-forward-ends = Lts.After-forward-ends (
+abbrev pub After-reverse-list : Type 0
+After-reverse-list = Lts.After-reverse-list (
   Reads'3.Asked,
   Reads'3.Learnt,
   Reads''.Asked,
   Reads''.Learnt,
   Reads'4.Asked,
   Reads'4.Learnt,
-  Reads'.Asked,
-  Reads'.Learnt,
-) Reads.Pre Reads.Post
+  Reads'5.Asked,
+  Reads'5.Learnt,
+  Reads.Asked,
+  Reads.Learnt,
+) Reads'.Pre Reads'.Post
 
-abbrev pub After-reverse-starts : Type 0
-After-reverse-starts = Lts.After-reverse-starts (
+abbrev pub After-process-tables-arg : Type 0
+After-process-tables-arg = Lts.After-process-tables-arg (
   Reads'3.Asked,
   Reads'3.Learnt,
   Reads''.Asked,
   Reads''.Learnt,
   Reads'4.Asked,
   Reads'4.Learnt,
-  Reads'.Asked,
-  Reads'.Learnt,
-) Reads.Pre Reads.Post
+  Reads'5.Asked,
+  Reads'5.Learnt,
+  Reads.Asked,
+  Reads.Learnt,
+) Reads'.Pre Reads'.Post
 
-abbrev pub After-reverse-ends : Type 0
-After-reverse-ends = Lts.After-reverse-ends (
+abbrev pub After-process-tables : Type 0
+After-process-tables = Lts.After-process-tables (
   Reads'3.Asked,
   Reads'3.Learnt,
   Reads''.Asked,
   Reads''.Learnt,
   Reads'4.Asked,
   Reads'4.Learnt,
-  Reads'.Asked,
-  Reads'.Learnt,
-) Reads.Pre Reads.Post
-
-abbrev pub After-call-arg3 : Type 0
-After-call-arg3 = Lts.After-call-arg3 (
-  Reads'3.Asked,
-  Reads'3.Learnt,
-  Reads''.Asked,
-  Reads''.Learnt,
-  Reads'4.Asked,
-  Reads'4.Learnt,
-  Reads'.Asked,
-  Reads'.Learnt,
-) Reads.Pre Reads.Post
-
-abbrev pub After-call-arg4 : Type 0
-After-call-arg4 = Lts.After-call-arg4 (
-  Reads'3.Asked,
-  Reads'3.Learnt,
-  Reads''.Asked,
-  Reads''.Learnt,
-  Reads'4.Asked,
-  Reads'4.Learnt,
-  Reads'.Asked,
-  Reads'.Learnt,
-) Reads.Pre Reads.Post
-
-abbrev pub After-call : Type 0
-After-call = Lts.After-call (
-  Reads'3.Asked,
-  Reads'3.Learnt,
-  Reads''.Asked,
-  Reads''.Learnt,
-  Reads'4.Asked,
-  Reads'4.Learnt,
-  Reads'.Asked,
-  Reads'.Learnt,
-) Reads.Pre Reads.Post
-
-abbrev pub After-ln : Type 0
-After-ln = Lts.After-ln (
-  Reads'3.Asked,
-  Reads'3.Learnt,
-  Reads''.Asked,
-  Reads''.Learnt,
-  Reads'4.Asked,
-  Reads'4.Learnt,
-  Reads'.Asked,
-  Reads'.Learnt,
-) Reads.Pre Reads.Post
-
-abbrev pub After-slice-known5 : Type 0
-After-slice-known5 = Lts.After-slice-known5 (
-  Reads'3.Asked,
-  Reads'3.Learnt,
-  Reads''.Asked,
-  Reads''.Learnt,
-  Reads'4.Asked,
-  Reads'4.Learnt,
-  Reads'.Asked,
-  Reads'.Learnt,
-) Reads.Pre Reads.Post
-
-abbrev pub After-f : Type 0
-After-f = Lts.After-f (
-  Reads'3.Asked,
-  Reads'3.Learnt,
-  Reads''.Asked,
-  Reads''.Learnt,
-  Reads'4.Asked,
-  Reads'4.Learnt,
-  Reads'.Asked,
-  Reads'.Learnt,
-) Reads.Pre Reads.Post
-
-abbrev pub After-slice-known6 : Type 0
-After-slice-known6 = Lts.After-slice-known6 (
-  Reads'3.Asked,
-  Reads'3.Learnt,
-  Reads''.Asked,
-  Reads''.Learnt,
-  Reads'4.Asked,
-  Reads'4.Learnt,
-  Reads'.Asked,
-  Reads'.Learnt,
-) Reads.Pre Reads.Post
+  Reads'5.Asked,
+  Reads'5.Learnt,
+  Reads.Asked,
+  Reads.Learnt,
+) Reads'.Pre Reads'.Post
 
 abbrev pub After-queue2 : Type 0
 After-queue2 = Lts.After-queue2 (
@@ -533,9 +410,11 @@ After-queue2 = Lts.After-queue2 (
   Reads''.Learnt,
   Reads'4.Asked,
   Reads'4.Learnt,
-  Reads'.Asked,
-  Reads'.Learnt,
-) Reads.Pre Reads.Post
+  Reads'5.Asked,
+  Reads'5.Learnt,
+  Reads.Asked,
+  Reads.Learnt,
+) Reads'.Pre Reads'.Post
 
 abbrev pub After-window-counts2 : Type 0
 After-window-counts2 = Lts.After-window-counts2 (
@@ -545,9 +424,11 @@ After-window-counts2 = Lts.After-window-counts2 (
   Reads''.Learnt,
   Reads'4.Asked,
   Reads'4.Learnt,
-  Reads'.Asked,
-  Reads'.Learnt,
-) Reads.Pre Reads.Post
+  Reads'5.Asked,
+  Reads'5.Learnt,
+  Reads.Asked,
+  Reads.Learnt,
+) Reads'.Pre Reads'.Post
 
 abbrev pub After-scan-counts2 : Type 0
 After-scan-counts2 = Lts.After-scan-counts2 (
@@ -557,9 +438,11 @@ After-scan-counts2 = Lts.After-scan-counts2 (
   Reads''.Learnt,
   Reads'4.Asked,
   Reads'4.Learnt,
-  Reads'.Asked,
-  Reads'.Learnt,
-) Reads.Pre Reads.Post
+  Reads'5.Asked,
+  Reads'5.Learnt,
+  Reads.Asked,
+  Reads.Learnt,
+) Reads'.Pre Reads'.Post
 
 abbrev pub After-candidates2 : Type 0
 After-candidates2 = Lts.After-candidates2 (
@@ -569,9 +452,11 @@ After-candidates2 = Lts.After-candidates2 (
   Reads''.Learnt,
   Reads'4.Asked,
   Reads'4.Learnt,
-  Reads'.Asked,
-  Reads'.Learnt,
-) Reads.Pre Reads.Post
+  Reads'5.Asked,
+  Reads'5.Learnt,
+  Reads.Asked,
+  Reads.Learnt,
+) Reads'.Pre Reads'.Post
 
 abbrev pub After-codes2 : Type 0
 After-codes2 = Lts.After-codes2 (
@@ -581,9 +466,11 @@ After-codes2 = Lts.After-codes2 (
   Reads''.Learnt,
   Reads'4.Asked,
   Reads'4.Learnt,
-  Reads'.Asked,
-  Reads'.Learnt,
-) Reads.Pre Reads.Post
+  Reads'5.Asked,
+  Reads'5.Learnt,
+  Reads.Asked,
+  Reads.Learnt,
+) Reads'.Pre Reads'.Post
 
 abbrev pub After-reverse-codes2 : Type 0
 After-reverse-codes2 = Lts.After-reverse-codes2 (
@@ -593,105 +480,53 @@ After-reverse-codes2 = Lts.After-reverse-codes2 (
   Reads''.Learnt,
   Reads'4.Asked,
   Reads'4.Learnt,
-  Reads'.Asked,
-  Reads'.Learnt,
-) Reads.Pre Reads.Post
+  Reads'5.Asked,
+  Reads'5.Learnt,
+  Reads.Asked,
+  Reads.Learnt,
+) Reads'.Pre Reads'.Post
 
-abbrev pub After-forward-starts2 : Type 0
-After-forward-starts2 = Lts.After-forward-starts2 (
+abbrev pub After-forward-list2 : Type 0
+After-forward-list2 = Lts.After-forward-list2 (
   Reads'3.Asked,
   Reads'3.Learnt,
   Reads''.Asked,
   Reads''.Learnt,
   Reads'4.Asked,
   Reads'4.Learnt,
-  Reads'.Asked,
-  Reads'.Learnt,
-) Reads.Pre Reads.Post
+  Reads'5.Asked,
+  Reads'5.Learnt,
+  Reads.Asked,
+  Reads.Learnt,
+) Reads'.Pre Reads'.Post
 
-abbrev pub After-forward-ends2 : Type 0
-After-forward-ends2 = Lts.After-forward-ends2 (
+abbrev pub After-reverse-list2 : Type 0
+After-reverse-list2 = Lts.After-reverse-list2 (
   Reads'3.Asked,
   Reads'3.Learnt,
   Reads''.Asked,
   Reads''.Learnt,
   Reads'4.Asked,
   Reads'4.Learnt,
-  Reads'.Asked,
-  Reads'.Learnt,
-) Reads.Pre Reads.Post
+  Reads'5.Asked,
+  Reads'5.Learnt,
+  Reads.Asked,
+  Reads.Learnt,
+) Reads'.Pre Reads'.Post
 
-abbrev pub After-reverse-starts2 : Type 0
-After-reverse-starts2 = Lts.After-reverse-starts2 (
+abbrev pub After-list : Type 0
+After-list = Lts.After-list (
   Reads'3.Asked,
   Reads'3.Learnt,
   Reads''.Asked,
   Reads''.Learnt,
   Reads'4.Asked,
   Reads'4.Learnt,
-  Reads'.Asked,
-  Reads'.Learnt,
-) Reads.Pre Reads.Post
-
-abbrev pub After-reverse-ends2 : Type 0
-After-reverse-ends2 = Lts.After-reverse-ends2 (
-  Reads'3.Asked,
-  Reads'3.Learnt,
-  Reads''.Asked,
-  Reads''.Learnt,
-  Reads'4.Asked,
-  Reads'4.Learnt,
-  Reads'.Asked,
-  Reads'.Learnt,
-) Reads.Pre Reads.Post
-
-abbrev pub After-starts : Type 0
-After-starts = Lts.After-starts (
-  Reads'3.Asked,
-  Reads'3.Learnt,
-  Reads''.Asked,
-  Reads''.Learnt,
-  Reads'4.Asked,
-  Reads'4.Learnt,
-  Reads'.Asked,
-  Reads'.Learnt,
-) Reads.Pre Reads.Post
-
-abbrev pub After-slice-known7 : Type 0
-After-slice-known7 = Lts.After-slice-known7 (
-  Reads'3.Asked,
-  Reads'3.Learnt,
-  Reads''.Asked,
-  Reads''.Learnt,
-  Reads'4.Asked,
-  Reads'4.Learnt,
-  Reads'.Asked,
-  Reads'.Learnt,
-) Reads.Pre Reads.Post
-
-abbrev pub After-ends : Type 0
-After-ends = Lts.After-ends (
-  Reads'3.Asked,
-  Reads'3.Learnt,
-  Reads''.Asked,
-  Reads''.Learnt,
-  Reads'4.Asked,
-  Reads'4.Learnt,
-  Reads'.Asked,
-  Reads'.Learnt,
-) Reads.Pre Reads.Post
-
-abbrev pub After-slice-known8 : Type 0
-After-slice-known8 = Lts.After-slice-known8 (
-  Reads'3.Asked,
-  Reads'3.Learnt,
-  Reads''.Asked,
-  Reads''.Learnt,
-  Reads'4.Asked,
-  Reads'4.Learnt,
-  Reads'.Asked,
-  Reads'.Learnt,
-) Reads.Pre Reads.Post
+  Reads'5.Asked,
+  Reads'5.Learnt,
+  Reads.Asked,
+  Reads.Learnt,
+) Reads'.Pre Reads'.Post
 
 abbrev pub Need-least-requires : Type 0
 Need-least-requires = Lts.Need-least-requires (
@@ -701,9 +536,11 @@ Need-least-requires = Lts.Need-least-requires (
   Reads''.Learnt,
   Reads'4.Asked,
   Reads'4.Learnt,
-  Reads'.Asked,
-  Reads'.Learnt,
-) Reads.Pre Reads.Post
+  Reads'5.Asked,
+  Reads'5.Learnt,
+  Reads.Asked,
+  Reads.Learnt,
+) Reads'.Pre Reads'.Post
 
 abbrev pub Need-least-requires-2 : Type 0
 Need-least-requires-2 = Lts.Need-least-requires-2 (
@@ -713,9 +550,11 @@ Need-least-requires-2 = Lts.Need-least-requires-2 (
   Reads''.Learnt,
   Reads'4.Asked,
   Reads'4.Learnt,
-  Reads'.Asked,
-  Reads'.Learnt,
-) Reads.Pre Reads.Post
+  Reads'5.Asked,
+  Reads'5.Learnt,
+  Reads.Asked,
+  Reads.Learnt,
+) Reads'.Pre Reads'.Post
 
 abbrev pub Need-mul-kmers : Type 0
 Need-mul-kmers = Lts.Need-mul-kmers (
@@ -725,9 +564,11 @@ Need-mul-kmers = Lts.Need-mul-kmers (
   Reads''.Learnt,
   Reads'4.Asked,
   Reads'4.Learnt,
-  Reads'.Asked,
-  Reads'.Learnt,
-) Reads.Pre Reads.Post
+  Reads'5.Asked,
+  Reads'5.Learnt,
+  Reads.Asked,
+  Reads.Learnt,
+) Reads'.Pre Reads'.Post
 
 abbrev pub Need-shl-kmers : Type 0
 Need-shl-kmers = Lts.Need-shl-kmers (
@@ -737,57 +578,53 @@ Need-shl-kmers = Lts.Need-shl-kmers (
   Reads''.Learnt,
   Reads'4.Asked,
   Reads'4.Learnt,
-  Reads'.Asked,
-  Reads'.Learnt,
-) Reads.Pre Reads.Post
+  Reads'5.Asked,
+  Reads'5.Learnt,
+  Reads.Asked,
+  Reads.Learnt,
+) Reads'.Pre Reads'.Post
 
-abbrev pub Need-add-rows : Type 0
-Need-add-rows = Lts.Need-add-rows (
+abbrev pub Need-add-most : Type 0
+Need-add-most = Lts.Need-add-most (
   Reads'3.Asked,
   Reads'3.Learnt,
   Reads''.Asked,
   Reads''.Learnt,
   Reads'4.Asked,
   Reads'4.Learnt,
-  Reads'.Asked,
-  Reads'.Learnt,
-) Reads.Pre Reads.Post
+  Reads'5.Asked,
+  Reads'5.Learnt,
+  Reads.Asked,
+  Reads.Learnt,
+) Reads'.Pre Reads'.Post
 
-abbrev pub Need-add-rows-2 : Type 0
-Need-add-rows-2 = Lts.Need-add-rows-2 (
+abbrev pub Need-add-most-2 : Type 0
+Need-add-most-2 = Lts.Need-add-most-2 (
   Reads'3.Asked,
   Reads'3.Learnt,
   Reads''.Asked,
   Reads''.Learnt,
   Reads'4.Asked,
   Reads'4.Learnt,
-  Reads'.Asked,
-  Reads'.Learnt,
-) Reads.Pre Reads.Post
+  Reads'5.Asked,
+  Reads'5.Learnt,
+  Reads.Asked,
+  Reads.Learnt,
+) Reads'.Pre Reads'.Post
 
-abbrev pub Need-div-rows : Type 0
-Need-div-rows = Lts.Need-div-rows (
+abbrev pub Need-div-most : Type 0
+Need-div-most = Lts.Need-div-most (
   Reads'3.Asked,
   Reads'3.Learnt,
   Reads''.Asked,
   Reads''.Learnt,
   Reads'4.Asked,
   Reads'4.Learnt,
-  Reads'.Asked,
-  Reads'.Learnt,
-) Reads.Pre Reads.Post
-
-abbrev pub Need-add-entries : Type 0
-Need-add-entries = Lts.Need-add-entries (
-  Reads'3.Asked,
-  Reads'3.Learnt,
-  Reads''.Asked,
-  Reads''.Learnt,
-  Reads'4.Asked,
-  Reads'4.Learnt,
-  Reads'.Asked,
-  Reads'.Learnt,
-) Reads.Pre Reads.Post
+  Reads'5.Asked,
+  Reads'5.Learnt,
+  Reads.Asked,
+  Reads.Learnt,
+) Reads'.Pre Reads'.Post
 
 abbrev pub Need-entries-requires : Type 0
 Need-entries-requires = Lts.Need-entries-requires (
@@ -797,21 +634,11 @@ Need-entries-requires = Lts.Need-entries-requires (
   Reads''.Learnt,
   Reads'4.Asked,
   Reads'4.Learnt,
-  Reads'.Asked,
-  Reads'.Learnt,
-) Reads.Pre Reads.Post
-
-abbrev pub Need-add-entries-2 : Type 0
-Need-add-entries-2 = Lts.Need-add-entries-2 (
-  Reads'3.Asked,
-  Reads'3.Learnt,
-  Reads''.Asked,
-  Reads''.Learnt,
-  Reads'4.Asked,
-  Reads'4.Learnt,
-  Reads'.Asked,
-  Reads'.Learnt,
-) Reads.Pre Reads.Post
+  Reads'5.Asked,
+  Reads'5.Learnt,
+  Reads.Asked,
+  Reads.Learnt,
+) Reads'.Pre Reads'.Post
 
 abbrev pub Need-entries-requires-2 : Type 0
 Need-entries-requires-2 = Lts.Need-entries-requires-2 (
@@ -821,9 +648,11 @@ Need-entries-requires-2 = Lts.Need-entries-requires-2 (
   Reads''.Learnt,
   Reads'4.Asked,
   Reads'4.Learnt,
-  Reads'.Asked,
-  Reads'.Learnt,
-) Reads.Pre Reads.Post
+  Reads'5.Asked,
+  Reads'5.Learnt,
+  Reads.Asked,
+  Reads.Learnt,
+) Reads'.Pre Reads'.Post
 
 abbrev pub Need-entries-requires-3 : Type 0
 Need-entries-requires-3 = Lts.Need-entries-requires-3 (
@@ -833,9 +662,11 @@ Need-entries-requires-3 = Lts.Need-entries-requires-3 (
   Reads''.Learnt,
   Reads'4.Asked,
   Reads'4.Learnt,
-  Reads'.Asked,
-  Reads'.Learnt,
-) Reads.Pre Reads.Post
+  Reads'5.Asked,
+  Reads'5.Learnt,
+  Reads.Asked,
+  Reads.Learnt,
+) Reads'.Pre Reads'.Post
 
 abbrev pub Need-entries-requires-4 : Type 0
 Need-entries-requires-4 = Lts.Need-entries-requires-4 (
@@ -845,9 +676,11 @@ Need-entries-requires-4 = Lts.Need-entries-requires-4 (
   Reads''.Learnt,
   Reads'4.Asked,
   Reads'4.Learnt,
-  Reads'.Asked,
-  Reads'.Learnt,
-) Reads.Pre Reads.Post
+  Reads'5.Asked,
+  Reads'5.Learnt,
+  Reads.Asked,
+  Reads.Learnt,
+) Reads'.Pre Reads'.Post
 
 abbrev pub Need-entries-requires-5 : Type 0
 Need-entries-requires-5 = Lts.Need-entries-requires-5 (
@@ -857,9 +690,11 @@ Need-entries-requires-5 = Lts.Need-entries-requires-5 (
   Reads''.Learnt,
   Reads'4.Asked,
   Reads'4.Learnt,
-  Reads'.Asked,
-  Reads'.Learnt,
-) Reads.Pre Reads.Post
+  Reads'5.Asked,
+  Reads'5.Learnt,
+  Reads.Asked,
+  Reads.Learnt,
+) Reads'.Pre Reads'.Post
 
 abbrev pub Need-entries-requires-6 : Type 0
 Need-entries-requires-6 = Lts.Need-entries-requires-6 (
@@ -869,9 +704,11 @@ Need-entries-requires-6 = Lts.Need-entries-requires-6 (
   Reads''.Learnt,
   Reads'4.Asked,
   Reads'4.Learnt,
-  Reads'.Asked,
-  Reads'.Learnt,
-) Reads.Pre Reads.Post
+  Reads'5.Asked,
+  Reads'5.Learnt,
+  Reads.Asked,
+  Reads.Learnt,
+) Reads'.Pre Reads'.Post
 
 abbrev pub Need-entries-requires-7 : Type 0
 Need-entries-requires-7 = Lts.Need-entries-requires-7 (
@@ -881,9 +718,11 @@ Need-entries-requires-7 = Lts.Need-entries-requires-7 (
   Reads''.Learnt,
   Reads'4.Asked,
   Reads'4.Learnt,
-  Reads'.Asked,
-  Reads'.Learnt,
-) Reads.Pre Reads.Post
+  Reads'5.Asked,
+  Reads'5.Learnt,
+  Reads.Asked,
+  Reads.Learnt,
+) Reads'.Pre Reads'.Post
 
 abbrev pub Need-entries-requires-8 : Type 0
 Need-entries-requires-8 = Lts.Need-entries-requires-8 (
@@ -893,81 +732,11 @@ Need-entries-requires-8 = Lts.Need-entries-requires-8 (
   Reads''.Learnt,
   Reads'4.Asked,
   Reads'4.Learnt,
-  Reads'.Asked,
-  Reads'.Learnt,
-) Reads.Pre Reads.Post
-
-abbrev pub Need-entries-requires-9 : Type 0
-Need-entries-requires-9 = Lts.Need-entries-requires-9 (
-  Reads'3.Asked,
-  Reads'3.Learnt,
-  Reads''.Asked,
-  Reads''.Learnt,
-  Reads'4.Asked,
-  Reads'4.Learnt,
-  Reads'.Asked,
-  Reads'.Learnt,
-) Reads.Pre Reads.Post
-
-abbrev pub Need-entries-requires-10 : Type 0
-Need-entries-requires-10 = Lts.Need-entries-requires-10 (
-  Reads'3.Asked,
-  Reads'3.Learnt,
-  Reads''.Asked,
-  Reads''.Learnt,
-  Reads'4.Asked,
-  Reads'4.Learnt,
-  Reads'.Asked,
-  Reads'.Learnt,
-) Reads.Pre Reads.Post
-
-abbrev pub Need-entries-requires-11 : Type 0
-Need-entries-requires-11 = Lts.Need-entries-requires-11 (
-  Reads'3.Asked,
-  Reads'3.Learnt,
-  Reads''.Asked,
-  Reads''.Learnt,
-  Reads'4.Asked,
-  Reads'4.Learnt,
-  Reads'.Asked,
-  Reads'.Learnt,
-) Reads.Pre Reads.Post
-
-abbrev pub Need-entries-requires-12 : Type 0
-Need-entries-requires-12 = Lts.Need-entries-requires-12 (
-  Reads'3.Asked,
-  Reads'3.Learnt,
-  Reads''.Asked,
-  Reads''.Learnt,
-  Reads'4.Asked,
-  Reads'4.Learnt,
-  Reads'.Asked,
-  Reads'.Learnt,
-) Reads.Pre Reads.Post
-
-abbrev pub Need-entries-requires-13 : Type 0
-Need-entries-requires-13 = Lts.Need-entries-requires-13 (
-  Reads'3.Asked,
-  Reads'3.Learnt,
-  Reads''.Asked,
-  Reads''.Learnt,
-  Reads'4.Asked,
-  Reads'4.Learnt,
-  Reads'.Asked,
-  Reads'.Learnt,
-) Reads.Pre Reads.Post
-
-abbrev pub Need-entries-requires-14 : Type 0
-Need-entries-requires-14 = Lts.Need-entries-requires-14 (
-  Reads'3.Asked,
-  Reads'3.Learnt,
-  Reads''.Asked,
-  Reads''.Learnt,
-  Reads'4.Asked,
-  Reads'4.Learnt,
-  Reads'.Asked,
-  Reads'.Learnt,
-) Reads.Pre Reads.Post
+  Reads'5.Asked,
+  Reads'5.Learnt,
+  Reads.Asked,
+  Reads.Learnt,
+) Reads'.Pre Reads'.Post
 
 abbrev pub Need-some-candidates-requires : Type 0
 Need-some-candidates-requires = Lts.Need-some-candidates-requires (
@@ -977,57 +746,39 @@ Need-some-candidates-requires = Lts.Need-some-candidates-requires (
   Reads''.Learnt,
   Reads'4.Asked,
   Reads'4.Learnt,
-  Reads'.Asked,
-  Reads'.Learnt,
-) Reads.Pre Reads.Post
+  Reads'5.Asked,
+  Reads'5.Learnt,
+  Reads.Asked,
+  Reads.Learnt,
+) Reads'.Pre Reads'.Post
 
-abbrev pub Need-slice-relend-prefix-call : Type 0
-Need-slice-relend-prefix-call = Lts.Need-slice-relend-prefix-call (
+abbrev pub Need-some-intervals-requires : Type 0
+Need-some-intervals-requires = Lts.Need-some-intervals-requires (
   Reads'3.Asked,
   Reads'3.Learnt,
   Reads''.Asked,
   Reads''.Learnt,
   Reads'4.Asked,
   Reads'4.Learnt,
-  Reads'.Asked,
-  Reads'.Learnt,
-) Reads.Pre Reads.Post
+  Reads'5.Asked,
+  Reads'5.Learnt,
+  Reads.Asked,
+  Reads.Learnt,
+) Reads'.Pre Reads'.Post
 
-abbrev pub Need-slice-aggregate-call : Type 0
-Need-slice-aggregate-call = Lts.Need-slice-aggregate-call (
+abbrev pub Need-some-intervals-requires-2 : Type 0
+Need-some-intervals-requires-2 = Lts.Need-some-intervals-requires-2 (
   Reads'3.Asked,
   Reads'3.Learnt,
   Reads''.Asked,
   Reads''.Learnt,
   Reads'4.Asked,
   Reads'4.Learnt,
-  Reads'.Asked,
-  Reads'.Learnt,
-) Reads.Pre Reads.Post
-
-abbrev pub Need-slice-relend-prefix-call-2 : Type 0
-Need-slice-relend-prefix-call-2 = Lts.Need-slice-relend-prefix-call-2 (
-  Reads'3.Asked,
-  Reads'3.Learnt,
-  Reads''.Asked,
-  Reads''.Learnt,
-  Reads'4.Asked,
-  Reads'4.Learnt,
-  Reads'.Asked,
-  Reads'.Learnt,
-) Reads.Pre Reads.Post
-
-abbrev pub Need-slice-aggregate-call-2 : Type 0
-Need-slice-aggregate-call-2 = Lts.Need-slice-aggregate-call-2 (
-  Reads'3.Asked,
-  Reads'3.Learnt,
-  Reads''.Asked,
-  Reads''.Learnt,
-  Reads'4.Asked,
-  Reads'4.Learnt,
-  Reads'.Asked,
-  Reads'.Learnt,
-) Reads.Pre Reads.Post
+  Reads'5.Asked,
+  Reads'5.Learnt,
+  Reads.Asked,
+  Reads.Learnt,
+) Reads'.Pre Reads'.Post
 
 abbrev pub Need-array-borrow-prefix-queue : Type 0
 Need-array-borrow-prefix-queue = Lts.Need-array-borrow-prefix-queue (
@@ -1037,21 +788,25 @@ Need-array-borrow-prefix-queue = Lts.Need-array-borrow-prefix-queue (
   Reads''.Learnt,
   Reads'4.Asked,
   Reads'4.Learnt,
-  Reads'.Asked,
-  Reads'.Learnt,
-) Reads.Pre Reads.Post
+  Reads'5.Asked,
+  Reads'5.Learnt,
+  Reads.Asked,
+  Reads.Learnt,
+) Reads'.Pre Reads'.Post
 
-abbrev pub Need-slice-aggregate-call-3 : Type 0
-Need-slice-aggregate-call-3 = Lts.Need-slice-aggregate-call-3 (
+abbrev pub Need-slice-aggregate-process-tables : Type 0
+Need-slice-aggregate-process-tables = Lts.Need-slice-aggregate-process-tables (
   Reads'3.Asked,
   Reads'3.Learnt,
   Reads''.Asked,
   Reads''.Learnt,
   Reads'4.Asked,
   Reads'4.Learnt,
-  Reads'.Asked,
-  Reads'.Learnt,
-) Reads.Pre Reads.Post
+  Reads'5.Asked,
+  Reads'5.Learnt,
+  Reads.Asked,
+  Reads.Learnt,
+) Reads'.Pre Reads'.Post
 
 abbrev pub Need-array-borrow-prefix-window-counts : Type 0
 Need-array-borrow-prefix-window-counts = Lts.Need-array-borrow-prefix-window-counts (
@@ -1061,21 +816,25 @@ Need-array-borrow-prefix-window-counts = Lts.Need-array-borrow-prefix-window-cou
   Reads''.Learnt,
   Reads'4.Asked,
   Reads'4.Learnt,
-  Reads'.Asked,
-  Reads'.Learnt,
-) Reads.Pre Reads.Post
+  Reads'5.Asked,
+  Reads'5.Learnt,
+  Reads.Asked,
+  Reads.Learnt,
+) Reads'.Pre Reads'.Post
 
-abbrev pub Need-slice-aggregate-call-4 : Type 0
-Need-slice-aggregate-call-4 = Lts.Need-slice-aggregate-call-4 (
+abbrev pub Need-slice-aggregate-process-tables-2 : Type 0
+Need-slice-aggregate-process-tables-2 = Lts.Need-slice-aggregate-process-tables-2 (
   Reads'3.Asked,
   Reads'3.Learnt,
   Reads''.Asked,
   Reads''.Learnt,
   Reads'4.Asked,
   Reads'4.Learnt,
-  Reads'.Asked,
-  Reads'.Learnt,
-) Reads.Pre Reads.Post
+  Reads'5.Asked,
+  Reads'5.Learnt,
+  Reads.Asked,
+  Reads.Learnt,
+) Reads'.Pre Reads'.Post
 
 abbrev pub Need-array-borrow-prefix-scan-counts : Type 0
 Need-array-borrow-prefix-scan-counts = Lts.Need-array-borrow-prefix-scan-counts (
@@ -1085,21 +844,25 @@ Need-array-borrow-prefix-scan-counts = Lts.Need-array-borrow-prefix-scan-counts 
   Reads''.Learnt,
   Reads'4.Asked,
   Reads'4.Learnt,
-  Reads'.Asked,
-  Reads'.Learnt,
-) Reads.Pre Reads.Post
+  Reads'5.Asked,
+  Reads'5.Learnt,
+  Reads.Asked,
+  Reads.Learnt,
+) Reads'.Pre Reads'.Post
 
-abbrev pub Need-slice-aggregate-call-5 : Type 0
-Need-slice-aggregate-call-5 = Lts.Need-slice-aggregate-call-5 (
+abbrev pub Need-slice-aggregate-process-tables-3 : Type 0
+Need-slice-aggregate-process-tables-3 = Lts.Need-slice-aggregate-process-tables-3 (
   Reads'3.Asked,
   Reads'3.Learnt,
   Reads''.Asked,
   Reads''.Learnt,
   Reads'4.Asked,
   Reads'4.Learnt,
-  Reads'.Asked,
-  Reads'.Learnt,
-) Reads.Pre Reads.Post
+  Reads'5.Asked,
+  Reads'5.Learnt,
+  Reads.Asked,
+  Reads.Learnt,
+) Reads'.Pre Reads'.Post
 
 abbrev pub Need-array-borrow-prefix-candidates : Type 0
 Need-array-borrow-prefix-candidates = Lts.Need-array-borrow-prefix-candidates (
@@ -1109,21 +872,25 @@ Need-array-borrow-prefix-candidates = Lts.Need-array-borrow-prefix-candidates (
   Reads''.Learnt,
   Reads'4.Asked,
   Reads'4.Learnt,
-  Reads'.Asked,
-  Reads'.Learnt,
-) Reads.Pre Reads.Post
+  Reads'5.Asked,
+  Reads'5.Learnt,
+  Reads.Asked,
+  Reads.Learnt,
+) Reads'.Pre Reads'.Post
 
-abbrev pub Need-slice-aggregate-call-6 : Type 0
-Need-slice-aggregate-call-6 = Lts.Need-slice-aggregate-call-6 (
+abbrev pub Need-slice-aggregate-process-tables-4 : Type 0
+Need-slice-aggregate-process-tables-4 = Lts.Need-slice-aggregate-process-tables-4 (
   Reads'3.Asked,
   Reads'3.Learnt,
   Reads''.Asked,
   Reads''.Learnt,
   Reads'4.Asked,
   Reads'4.Learnt,
-  Reads'.Asked,
-  Reads'.Learnt,
-) Reads.Pre Reads.Post
+  Reads'5.Asked,
+  Reads'5.Learnt,
+  Reads.Asked,
+  Reads.Learnt,
+) Reads'.Pre Reads'.Post
 
 abbrev pub Need-array-borrow-prefix-codes : Type 0
 Need-array-borrow-prefix-codes = Lts.Need-array-borrow-prefix-codes (
@@ -1133,21 +900,25 @@ Need-array-borrow-prefix-codes = Lts.Need-array-borrow-prefix-codes (
   Reads''.Learnt,
   Reads'4.Asked,
   Reads'4.Learnt,
-  Reads'.Asked,
-  Reads'.Learnt,
-) Reads.Pre Reads.Post
+  Reads'5.Asked,
+  Reads'5.Learnt,
+  Reads.Asked,
+  Reads.Learnt,
+) Reads'.Pre Reads'.Post
 
-abbrev pub Need-slice-aggregate-call-7 : Type 0
-Need-slice-aggregate-call-7 = Lts.Need-slice-aggregate-call-7 (
+abbrev pub Need-slice-aggregate-process-tables-5 : Type 0
+Need-slice-aggregate-process-tables-5 = Lts.Need-slice-aggregate-process-tables-5 (
   Reads'3.Asked,
   Reads'3.Learnt,
   Reads''.Asked,
   Reads''.Learnt,
   Reads'4.Asked,
   Reads'4.Learnt,
-  Reads'.Asked,
-  Reads'.Learnt,
-) Reads.Pre Reads.Post
+  Reads'5.Asked,
+  Reads'5.Learnt,
+  Reads.Asked,
+  Reads.Learnt,
+) Reads'.Pre Reads'.Post
 
 abbrev pub Need-array-borrow-prefix-reverse-codes : Type 0
 Need-array-borrow-prefix-reverse-codes = Lts.Need-array-borrow-prefix-reverse-codes (
@@ -1157,177 +928,95 @@ Need-array-borrow-prefix-reverse-codes = Lts.Need-array-borrow-prefix-reverse-co
   Reads''.Learnt,
   Reads'4.Asked,
   Reads'4.Learnt,
-  Reads'.Asked,
-  Reads'.Learnt,
-) Reads.Pre Reads.Post
+  Reads'5.Asked,
+  Reads'5.Learnt,
+  Reads.Asked,
+  Reads.Learnt,
+) Reads'.Pre Reads'.Post
 
-abbrev pub Need-slice-aggregate-call-8 : Type 0
-Need-slice-aggregate-call-8 = Lts.Need-slice-aggregate-call-8 (
+abbrev pub Need-slice-aggregate-process-tables-6 : Type 0
+Need-slice-aggregate-process-tables-6 = Lts.Need-slice-aggregate-process-tables-6 (
   Reads'3.Asked,
   Reads'3.Learnt,
   Reads''.Asked,
   Reads''.Learnt,
   Reads'4.Asked,
   Reads'4.Learnt,
-  Reads'.Asked,
-  Reads'.Learnt,
-) Reads.Pre Reads.Post
+  Reads'5.Asked,
+  Reads'5.Learnt,
+  Reads.Asked,
+  Reads.Learnt,
+) Reads'.Pre Reads'.Post
 
-abbrev pub Need-array-borrow-prefix-forward-starts : Type 0
-Need-array-borrow-prefix-forward-starts = Lts.Need-array-borrow-prefix-forward-starts (
+abbrev pub Need-array-borrow-prefix-forward-list : Type 0
+Need-array-borrow-prefix-forward-list = Lts.Need-array-borrow-prefix-forward-list (
   Reads'3.Asked,
   Reads'3.Learnt,
   Reads''.Asked,
   Reads''.Learnt,
   Reads'4.Asked,
   Reads'4.Learnt,
-  Reads'.Asked,
-  Reads'.Learnt,
-) Reads.Pre Reads.Post
+  Reads'5.Asked,
+  Reads'5.Learnt,
+  Reads.Asked,
+  Reads.Learnt,
+) Reads'.Pre Reads'.Post
 
-abbrev pub Need-slice-aggregate-call-9 : Type 0
-Need-slice-aggregate-call-9 = Lts.Need-slice-aggregate-call-9 (
+abbrev pub Need-slice-aggregate-process-tables-7 : Type 0
+Need-slice-aggregate-process-tables-7 = Lts.Need-slice-aggregate-process-tables-7 (
   Reads'3.Asked,
   Reads'3.Learnt,
   Reads''.Asked,
   Reads''.Learnt,
   Reads'4.Asked,
   Reads'4.Learnt,
-  Reads'.Asked,
-  Reads'.Learnt,
-) Reads.Pre Reads.Post
+  Reads'5.Asked,
+  Reads'5.Learnt,
+  Reads.Asked,
+  Reads.Learnt,
+) Reads'.Pre Reads'.Post
 
-abbrev pub Need-array-borrow-prefix-forward-ends : Type 0
-Need-array-borrow-prefix-forward-ends = Lts.Need-array-borrow-prefix-forward-ends (
+abbrev pub Need-array-borrow-prefix-reverse-list : Type 0
+Need-array-borrow-prefix-reverse-list = Lts.Need-array-borrow-prefix-reverse-list (
   Reads'3.Asked,
   Reads'3.Learnt,
   Reads''.Asked,
   Reads''.Learnt,
   Reads'4.Asked,
   Reads'4.Learnt,
-  Reads'.Asked,
-  Reads'.Learnt,
-) Reads.Pre Reads.Post
+  Reads'5.Asked,
+  Reads'5.Learnt,
+  Reads.Asked,
+  Reads.Learnt,
+) Reads'.Pre Reads'.Post
 
-abbrev pub Need-slice-aggregate-call-10 : Type 0
-Need-slice-aggregate-call-10 = Lts.Need-slice-aggregate-call-10 (
+abbrev pub Need-slice-aggregate-process-tables-8 : Type 0
+Need-slice-aggregate-process-tables-8 = Lts.Need-slice-aggregate-process-tables-8 (
   Reads'3.Asked,
   Reads'3.Learnt,
   Reads''.Asked,
   Reads''.Learnt,
   Reads'4.Asked,
   Reads'4.Learnt,
-  Reads'.Asked,
-  Reads'.Learnt,
-) Reads.Pre Reads.Post
+  Reads'5.Asked,
+  Reads'5.Learnt,
+  Reads.Asked,
+  Reads.Learnt,
+) Reads'.Pre Reads'.Post
 
-abbrev pub Need-array-borrow-prefix-reverse-starts : Type 0
-Need-array-borrow-prefix-reverse-starts = Lts.Need-array-borrow-prefix-reverse-starts (
+abbrev pub Need-process-tables-requires : Type 0
+Need-process-tables-requires = Lts.Need-process-tables-requires (
   Reads'3.Asked,
   Reads'3.Learnt,
   Reads''.Asked,
   Reads''.Learnt,
   Reads'4.Asked,
   Reads'4.Learnt,
-  Reads'.Asked,
-  Reads'.Learnt,
-) Reads.Pre Reads.Post
-
-abbrev pub Need-slice-aggregate-call-11 : Type 0
-Need-slice-aggregate-call-11 = Lts.Need-slice-aggregate-call-11 (
-  Reads'3.Asked,
-  Reads'3.Learnt,
-  Reads''.Asked,
-  Reads''.Learnt,
-  Reads'4.Asked,
-  Reads'4.Learnt,
-  Reads'.Asked,
-  Reads'.Learnt,
-) Reads.Pre Reads.Post
-
-abbrev pub Need-array-borrow-prefix-reverse-ends : Type 0
-Need-array-borrow-prefix-reverse-ends = Lts.Need-array-borrow-prefix-reverse-ends (
-  Reads'3.Asked,
-  Reads'3.Learnt,
-  Reads''.Asked,
-  Reads''.Learnt,
-  Reads'4.Asked,
-  Reads'4.Learnt,
-  Reads'.Asked,
-  Reads'.Learnt,
-) Reads.Pre Reads.Post
-
-abbrev pub Need-slice-aggregate-call-12 : Type 0
-Need-slice-aggregate-call-12 = Lts.Need-slice-aggregate-call-12 (
-  Reads'3.Asked,
-  Reads'3.Learnt,
-  Reads''.Asked,
-  Reads''.Learnt,
-  Reads'4.Asked,
-  Reads'4.Learnt,
-  Reads'.Asked,
-  Reads'.Learnt,
-) Reads.Pre Reads.Post
-
-abbrev pub Need-slice-relend-prefix-call-3 : Type 0
-Need-slice-relend-prefix-call-3 = Lts.Need-slice-relend-prefix-call-3 (
-  Reads'3.Asked,
-  Reads'3.Learnt,
-  Reads''.Asked,
-  Reads''.Learnt,
-  Reads'4.Asked,
-  Reads'4.Learnt,
-  Reads'.Asked,
-  Reads'.Learnt,
-) Reads.Pre Reads.Post
-
-abbrev pub Need-slice-aggregate-call-13 : Type 0
-Need-slice-aggregate-call-13 = Lts.Need-slice-aggregate-call-13 (
-  Reads'3.Asked,
-  Reads'3.Learnt,
-  Reads''.Asked,
-  Reads''.Learnt,
-  Reads'4.Asked,
-  Reads'4.Learnt,
-  Reads'.Asked,
-  Reads'.Learnt,
-) Reads.Pre Reads.Post
-
-abbrev pub Need-slice-relend-prefix-call-4 : Type 0
-Need-slice-relend-prefix-call-4 = Lts.Need-slice-relend-prefix-call-4 (
-  Reads'3.Asked,
-  Reads'3.Learnt,
-  Reads''.Asked,
-  Reads''.Learnt,
-  Reads'4.Asked,
-  Reads'4.Learnt,
-  Reads'.Asked,
-  Reads'.Learnt,
-) Reads.Pre Reads.Post
-
-abbrev pub Need-slice-aggregate-call-14 : Type 0
-Need-slice-aggregate-call-14 = Lts.Need-slice-aggregate-call-14 (
-  Reads'3.Asked,
-  Reads'3.Learnt,
-  Reads''.Asked,
-  Reads''.Learnt,
-  Reads'4.Asked,
-  Reads'4.Learnt,
-  Reads'.Asked,
-  Reads'.Learnt,
-) Reads.Pre Reads.Post
-
-abbrev pub Need-call-requires : Type 0
-Need-call-requires = Lts.Need-call-requires (
-  Reads'3.Asked,
-  Reads'3.Learnt,
-  Reads''.Asked,
-  Reads''.Learnt,
-  Reads'4.Asked,
-  Reads'4.Learnt,
-  Reads'.Asked,
-  Reads'.Learnt,
-) Reads.Pre Reads.Post
+  Reads'5.Asked,
+  Reads'5.Learnt,
+  Reads.Asked,
+  Reads.Learnt,
+) Reads'.Pre Reads'.Post
 
 abbrev pub Need-same-length : Type 0
 Need-same-length = Lts.Need-same-length (
@@ -1337,45 +1026,11 @@ Need-same-length = Lts.Need-same-length (
   Reads''.Learnt,
   Reads'4.Asked,
   Reads'4.Learnt,
-  Reads'.Asked,
-  Reads'.Learnt,
-) Reads.Pre Reads.Post
-
-abbrev pub Need-same-length-2 : Type 0
-Need-same-length-2 = Lts.Need-same-length-2 (
-  Reads'3.Asked,
-  Reads'3.Learnt,
-  Reads''.Asked,
-  Reads''.Learnt,
-  Reads'4.Asked,
-  Reads'4.Learnt,
-  Reads'.Asked,
-  Reads'.Learnt,
-) Reads.Pre Reads.Post
-
-abbrev pub Need-same-length-3 : Type 0
-Need-same-length-3 = Lts.Need-same-length-3 (
-  Reads'3.Asked,
-  Reads'3.Learnt,
-  Reads''.Asked,
-  Reads''.Learnt,
-  Reads'4.Asked,
-  Reads'4.Learnt,
-  Reads'.Asked,
-  Reads'.Learnt,
-) Reads.Pre Reads.Post
-
-abbrev pub Need-same-length-4 : Type 0
-Need-same-length-4 = Lts.Need-same-length-4 (
-  Reads'3.Asked,
-  Reads'3.Learnt,
-  Reads''.Asked,
-  Reads''.Learnt,
-  Reads'4.Asked,
-  Reads'4.Learnt,
-  Reads'.Asked,
-  Reads'.Learnt,
-) Reads.Pre Reads.Post
+  Reads'5.Asked,
+  Reads'5.Learnt,
+  Reads.Asked,
+  Reads.Learnt,
+) Reads'.Pre Reads'.Post
 
 abbrev pub Need-returns : Type 0
 Need-returns = Lts.Need-returns (
@@ -1385,9 +1040,11 @@ Need-returns = Lts.Need-returns (
   Reads''.Learnt,
   Reads'4.Asked,
   Reads'4.Learnt,
-  Reads'.Asked,
-  Reads'.Learnt,
-) Reads.Pre Reads.Post
+  Reads'5.Asked,
+  Reads'5.Learnt,
+  Reads.Asked,
+  Reads.Learnt,
+) Reads'.Pre Reads'.Post
 
 module _ {M : Type 1} where
   pub spec :
@@ -1395,12 +1052,10 @@ module _ {M : Type 1} where
       (answer : Need-least-requires-2) →
       (answer : Need-mul-kmers) →
       (answer : Need-shl-kmers) →
-      (answer : Need-add-rows) →
-      (answer : Need-add-rows-2) →
-      (answer : Need-div-rows) →
-      (answer : Need-add-entries) →
+      (answer : Need-add-most) →
+      (answer : Need-add-most-2) →
+      (answer : Need-div-most) →
       (answer : Need-entries-requires) →
-      (answer : Need-add-entries-2) →
       (answer : Need-entries-requires-2) →
       (answer : Need-entries-requires-3) →
       (answer : Need-entries-requires-4) →
@@ -1408,46 +1063,27 @@ module _ {M : Type 1} where
       (answer : Need-entries-requires-6) →
       (answer : Need-entries-requires-7) →
       (answer : Need-entries-requires-8) →
-      (answer : Need-entries-requires-9) →
-      (answer : Need-entries-requires-10) →
-      (answer : Need-entries-requires-11) →
-      (answer : Need-entries-requires-12) →
-      (answer : Need-entries-requires-13) →
-      (answer : Need-entries-requires-14) →
       (answer : Need-some-candidates-requires) →
-      (answer : Need-slice-relend-prefix-call) →
-      (answer : Need-slice-aggregate-call) →
-      (answer : Need-slice-relend-prefix-call-2) →
-      (answer : Need-slice-aggregate-call-2) →
+      (answer : Need-some-intervals-requires) →
+      (answer : Need-some-intervals-requires-2) →
       (answer : Need-array-borrow-prefix-queue) →
-      (answer : Need-slice-aggregate-call-3) →
+      (answer : Need-slice-aggregate-process-tables) →
       (answer : Need-array-borrow-prefix-window-counts) →
-      (answer : Need-slice-aggregate-call-4) →
+      (answer : Need-slice-aggregate-process-tables-2) →
       (answer : Need-array-borrow-prefix-scan-counts) →
-      (answer : Need-slice-aggregate-call-5) →
+      (answer : Need-slice-aggregate-process-tables-3) →
       (answer : Need-array-borrow-prefix-candidates) →
-      (answer : Need-slice-aggregate-call-6) →
+      (answer : Need-slice-aggregate-process-tables-4) →
       (answer : Need-array-borrow-prefix-codes) →
-      (answer : Need-slice-aggregate-call-7) →
+      (answer : Need-slice-aggregate-process-tables-5) →
       (answer : Need-array-borrow-prefix-reverse-codes) →
-      (answer : Need-slice-aggregate-call-8) →
-      (answer : Need-array-borrow-prefix-forward-starts) →
-      (answer : Need-slice-aggregate-call-9) →
-      (answer : Need-array-borrow-prefix-forward-ends) →
-      (answer : Need-slice-aggregate-call-10) →
-      (answer : Need-array-borrow-prefix-reverse-starts) →
-      (answer : Need-slice-aggregate-call-11) →
-      (answer : Need-array-borrow-prefix-reverse-ends) →
-      (answer : Need-slice-aggregate-call-12) →
-      (answer : Need-slice-relend-prefix-call-3) →
-      (answer : Need-slice-aggregate-call-13) →
-      (answer : Need-slice-relend-prefix-call-4) →
-      (answer : Need-slice-aggregate-call-14) →
-      (answer : Need-call-requires) →
+      (answer : Need-slice-aggregate-process-tables-6) →
+      (answer : Need-array-borrow-prefix-forward-list) →
+      (answer : Need-slice-aggregate-process-tables-7) →
+      (answer : Need-array-borrow-prefix-reverse-list) →
+      (answer : Need-slice-aggregate-process-tables-8) →
+      (answer : Need-process-tables-requires) →
       (answer : Need-same-length) →
-      (answer : Need-same-length-2) →
-      (answer : Need-same-length-3) →
-      (answer : Need-same-length-4) →
       (answer : Need-returns) →
       Lts.Closed (
         Reads'3.Asked,
@@ -1456,28 +1092,30 @@ module _ {M : Type 1} where
         Reads''.Learnt,
         Reads'4.Asked,
         Reads'4.Learnt,
-        Reads'.Asked,
-        Reads'.Learnt,
-      ) Reads.Pre Reads.Post M
+        Reads'5.Asked,
+        Reads'5.Learnt,
+        Reads.Asked,
+        Reads.Learnt,
+      ) Reads'.Pre Reads'.Post M
   spec =
       λ answer answer' answer'' answer'3 answer'4 answer'5 answer'6 answer'7 answer'8 answer'9
       answer'10 answer'11 answer'12 answer'13 answer'14 answer'15 answer'16 answer'17 answer'18
       answer'19 answer'20 answer'21 answer'22 answer'23 answer'24 answer'25 answer'26 answer'27
-      answer'28 answer'29 answer'30 answer'31 answer'32 answer'33 answer'34 answer'35 answer'36
-      answer'37 answer'38 answer'39 answer'40 answer'41 answer'42 answer'43 answer'44 answer'45
-      answer'46 answer'47 answer'48 answer'49 answer'50 answer'51 answer'52 answer'53 answer'54
-      answer'55 answer'56 answer'57. Lts.spec (
+      answer'28 answer'29 answer'30 answer'31 answer'32 answer'33 answer'34 answer'35
+      answer'36. Lts.spec (
         Reads'3.Asked,
         Reads'3.Learnt,
         Reads''.Asked,
         Reads''.Learnt,
         Reads'4.Asked,
         Reads'4.Learnt,
-        Reads'.Asked,
-        Reads'.Learnt,
+        Reads'5.Asked,
+        Reads'5.Learnt,
+        Reads.Asked,
+        Reads.Learnt,
       )
-      Reads.Pre
-      Reads.Post
+      Reads'.Pre
+      Reads'.Post
       answer
       answer'
       answer''
@@ -1515,29 +1153,7 @@ module _ {M : Type 1} where
       answer'34
       answer'35
       answer'36
-      answer'37
-      answer'38
-      answer'39
-      answer'40
-      answer'41
-      answer'42
-      answer'43
-      answer'44
-      answer'45
-      answer'46
-      answer'47
-      answer'48
-      answer'49
-      answer'50
-      answer'51
-      answer'52
-      answer'53
-      answer'54
-      answer'55
-      answer'56
-      answer'57
 
-  -- antt refused `close` as it was built: the module's report says why
   pub close : Lts.Closed (
     Reads'3.Asked,
     Reads'3.Learnt,
@@ -1545,30 +1161,32 @@ module _ {M : Type 1} where
     Reads''.Learnt,
     Reads'4.Asked,
     Reads'4.Learnt,
-    Reads'.Asked,
-    Reads'.Learnt,
-  ) Reads.Pre Reads.Post M → Statement.statement M
+    Reads'5.Asked,
+    Reads'5.Learnt,
+    Reads.Asked,
+    Reads.Learnt,
+  ) Reads'.Pre Reads'.Post M → Statement.statement M
   unfolding Code.routine Running.tablesOf
   close =
       λ closed 𝓤 H 𝓜 𝓖 𝓡. Written.close
-      5
+      4
       Kinds.ps
       Kinds.r
-      Reads.Ghost
-      Reads.requires
-      Reads.ensures
-      Reads.pre-read
-      Reads.Pinned
-      Reads.Owned
-      Reads.post-read
+      Reads'.Ghost
+      Reads'.requires
+      Reads'.ensures
+      Reads'.pre-read
+      Reads'.Pinned
+      Reads'.Owned
+      Reads'.post-read
       record { M = M; 𝓤 = 𝓤; H = H; 𝓜 = 𝓜; 𝓖 = 𝓖; 𝓡 = 𝓡 }
       Code.env
       Key.name
       Code.function
       (Code.unfolded 𝓤 H 𝓜 𝓡)
       (λ κs a g. tt)
-      (λ κs. Reads.owns κs record { M = M; 𝓤 = 𝓤; H = H; 𝓜 = 𝓜; 𝓖 = 𝓖; 𝓡 = 𝓡 })
-      (Reads.passes record { M = M; 𝓤 = 𝓤; H = H; 𝓜 = 𝓜; 𝓖 = 𝓖; 𝓡 = 𝓡 })
+      (λ κs. Reads'.owns κs record { M = M; 𝓤 = 𝓤; H = H; 𝓜 = 𝓜; 𝓖 = 𝓖; 𝓡 = 𝓡 })
+      (Reads'.passes record { M = M; 𝓤 = 𝓤; H = H; 𝓜 = 𝓜; 𝓖 = 𝓖; 𝓡 = 𝓡 })
       λ g. closed
       𝓤
       H
@@ -1596,10 +1214,17 @@ module _ {M : Type 1} where
       Symbol'3.routine
       Code.calls-replay·call·some-candidates
       (Met'3.met 𝓤 H 𝓜 𝓖 𝓡))
-      (Reads'.known
+      (Reads'5.known
+      record { M = M; 𝓤 = 𝓤; H = H; 𝓜 = 𝓜; 𝓖 = 𝓖; 𝓡 = 𝓡 }
+      Code.env
+      Symbol'4.name
+      Symbol'4.routine
+      Code.calls-replay·call·some-intervals
+      (Met'4.met 𝓤 H 𝓜 𝓖 𝓡))
+      (Reads.known
       record { M = M; 𝓤 = 𝓤; H = H; 𝓜 = 𝓜; 𝓖 = 𝓖; 𝓡 = 𝓡 }
       Code.env
       Symbol.name
       Symbol.routine
-      Code.calls-replay·call·call
+      Code.calls-longdust·process-tables
       (Met.met 𝓤 H 𝓜 𝓖 𝓡))

@@ -1,0 +1,3 @@
+pub mod Words
+pub mod Request
+pub mod Call
