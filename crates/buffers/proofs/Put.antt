@@ -5,7 +5,7 @@ use Prim.Native.Nat.{ℕ, suc, _+_, _-_, _≤_, _<_}
 use native.Mathlib.Numerals.{add-one}
 use native.Mathlib.Omega.{arith}
 use lib.ListN.{length, take, drop, getD, set, length-append, length-drop, take-append-drop}
-use lib.Seq.{length-take-le, take-append-seam, drop-append-seam, drop-append-le, drop-append-add, take-at, drop-at, drop-drop, set-split, take-suc}
+use lib.Seq.{length-take-le, take-append-seam, drop-append-le, drop-append-add, take-at, drop-at, drop-drop, set-split, take-suc}
 use Rattle.buffers.specs.Fill.{put, putAt}
 
 module _ {ℓ} {A : Type ℓ} where

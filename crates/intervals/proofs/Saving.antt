@@ -6,7 +6,8 @@ use mathlib.Core.Logic.{_⊎_, inl, inr, ⊎-elim, _↔_}
 use native.Mathlib.Omega.{arith}
 use lib.ListN.{length, getD}
 use borrow.Author.Tests.{le-leb, lt-leb}
-use Rattle.intervals.specs.Interval.{Interval, interval, Holds, Covers, Ascending, Canonical, EndsBelow}
+use Rattle.intervals.specs.Interval.{Interval, interval, Holds, Covers, Ascending, Canonical}
+use Rattle.intervals.specs.Terms.Bounds.{EndsBelow}
 use Rattle.intervals.specs.Save.{staying, save}
 use Rattle.intervals.proofs.Order.{lt-or-le}
 use Rattle.intervals.proofs.Covered.{first-apart}

@@ -5,7 +5,8 @@ use mathlib.Core.Logic.{⊎-elim}
 use native.Mathlib.Omega.{arith}
 use native.Mathlib.Nat.{suc-mul, le-div-iff-mul-le}
 use lib.ListN.{length}
-use Rattle.intervals.specs.Interval.{Interval, Covers, Ascending, Canonical, Inside}
+use Rattle.intervals.specs.Interval.{Interval, Covers, Ascending, Canonical}
+use Rattle.intervals.specs.Terms.Bounds.{Inside}
 use Rattle.intervals.specs.Merge.{insert, interleave, nonempty, join, merge}
 use Rattle.intervals.proofs.Order.{lt-or-le}
 use Rattle.intervals.proofs.Joining.{insert-here, insert-later, nonempty-some, join-touch, join-gap}

@@ -6,7 +6,8 @@ use native.Mathlib.Omega.{arith}
 use lib.ListN.{length, take, getD, set, length-append, length-map, List·getD-map}
 use Rattle.buffers.specs.Fill.{put, putAt}
 use Rattle.buffers.proofs.Put.{take-put, put-next}
-use Rattle.intervals.specs.Interval.{Interval, interval, Inside, pair, entries, intervalOf, listOf, Wrote}
+use Rattle.intervals.specs.Interval.{Interval, interval, pair, entries, intervalOf, listOf, Wrote}
+use Rattle.intervals.specs.Terms.Bounds.{Inside}
 use Rattle.intervals.specs.Terms.Saved.{Saved}
 
 pub list-entries : (is : List Interval) → listOf (entries is) ≡ is

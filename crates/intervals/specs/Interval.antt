@@ -43,16 +43,6 @@ Ascending n k lo (i ∷ is) = (lo ≤ i .start) × (i .start + k ≤ i .end) × 
 abbrev pub Canonical : ℕ → ℕ → List Interval → Type 0
 Canonical n k is = Ascending n k 0 is
 
--- Every end lies below e.
-abbrev pub EndsBelow : ℕ → List Interval → Type 0
-EndsBelow e [] = Unit
-EndsBelow e (i ∷ is) = (i .end < e) × EndsBelow e is
-
--- No start and no end lies past n.
-abbrev pub Inside : ℕ → List Interval → Type 0
-Inside n [] = Unit
-Inside n (i ∷ is) = (i .start ≤ n) × (i .end ≤ n) × Inside n is
-
 -- A list of intervals as a slice holds it: an entry of two numbers for each.
 abbrev pub pair : Interval → List ℕ
 pair i = i .start ∷ i .end ∷ []

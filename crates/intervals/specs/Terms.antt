@@ -1,2 +1,3 @@
 pub mod Saved
 pub mod Pick
+pub mod Bounds

@@ -6,7 +6,7 @@ use native.Mathlib.Omega.{arith}
 use lib.ListN.{length, getD, length-map}
 use borrow.Author.Tests.{eq-eqb, ne-eqb}
 use Rattle.letters.specs.Place.{ambiguous, plain}
-use Rattle.letters.specs.Entry.{decode, decoded}
+use Rattle.letters.specs.Terms.Entry.{decode, decoded}
 
 pub decode-plain : (e : ℕ) → e % 2 ≡ 0 → decode e ≡ plain (e / 2)
 unfolding decode

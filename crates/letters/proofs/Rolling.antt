@@ -14,8 +14,8 @@ use borrow.Author.Tests.{ltb-true, leb-true, leb-false, le-leb, lt-leb, lt-ltb, 
 use Rattle.buffers.proofs.At.{default-free}
 use Rattle.letters.specs.declared.Kmer.{Kmer}
 use Rattle.letters.specs.Place.{ambiguous, plain, packed, allPlain, placeAt}
-use Rattle.letters.specs.Entry.{decode}
-use Rattle.letters.specs.Rolling.{noLetter, rolledOn, kmerAfter, entryOf}
+use Rattle.letters.specs.Terms.Entry.{decode}
+use Rattle.letters.specs.Terms.Rolling.{noLetter, rolledOn, kmerAfter, entryOf}
 use Rattle.letters.proofs.Powers.{four-pos, four-small, four-two, mod-mod-four, mod-letter}
 use Rattle.letters.proofs.Entries.{decode-plain, decode-ambiguous}
 

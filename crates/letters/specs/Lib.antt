@@ -1,5 +1,4 @@
 pub mod Code
 pub mod Place
-pub mod Entry
-pub mod Rolling
 pub mod Gc
+pub mod Terms

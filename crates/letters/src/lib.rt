@@ -7,7 +7,7 @@ ghost use lib.ListN.{length};
 ghost use Rattle.buffers.specs.Fill.{put};
 ghost use Rattle.letters.specs.Code.{code, codes, complement, reverseComplement};
 ghost use Rattle.letters.specs.Gc.{gcOf};
-ghost use Rattle.letters.specs.Rolling.{noLetter, rolledOn, entryOf};
+ghost use Rattle.letters.specs.Terms.Rolling.{noLetter, rolledOn, entryOf};
 
 fn encode(b: u8) -> u8
     ensures { λ r. ⌜ r ≡ code b ⌝ }

@@ -13,7 +13,8 @@ use Rattle.letters.proofs.Codes.{codes-length}
 use Rattle.intervals.specs.Interval.{Interval, Canonical, Covers, entries, Wrote}
 use Rattle.intervals.proofs.Slice.{wrote-list, length-entries}
 use Rattle.scans.specs.declared.Params.{Params}
-use Rattle.scans.specs.Setup.{Setup, setupOf}
+use Rattle.scans.specs.Setup.{Setup}
+use Rattle.scans.specs.Terms.Numbers.{setupOf}
 use Rattle.strand.specs.Range.{inRange, CheckedSetup}
 use Rattle.longdust.specs.declared.LongdustOptions.{LongdustOptions}
 use Rattle.longdust.specs.declared.Answer.{Answer}

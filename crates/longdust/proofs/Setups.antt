@@ -11,7 +11,8 @@ use lib.Ieee.{Float, nan, inf, binary64, fits, lt}
 use Rattle.floats.specs.Binary64.{zero64}
 use Rattle.checks.specs.Tests.{thresholdBad}
 use Rattle.scans.specs.declared.Params.{Params}
-use Rattle.scans.specs.Setup.{Setup, setupOf, dropLimit, maxTest}
+use Rattle.scans.specs.Setup.{Setup, dropLimit, maxTest}
+use Rattle.scans.specs.Terms.Numbers.{setupOf}
 use Rattle.strand.specs.Range.{CheckedSetup}
 use Rattle.longdust.specs.declared.LongdustOptions.{LongdustOptions}
 use Rattle.longdust.specs.Mask.{setup}

@@ -9,7 +9,7 @@ use Rattle.buffers.specs.Fill.{put}
 use Rattle.buffers.proofs.Filling.{put-all}
 use Rattle.letters.specs.Code.{reverseComplement}
 use Rattle.letters.proofs.Codes.{reverseComplement-length}
-use Rattle.intervals.specs.Interval.{Interval, Inside, listOf, Wrote}
+use Rattle.intervals.specs.Interval.{Interval, listOf, Wrote}
 use Rattle.intervals.specs.Merge.{merge, backwards}
 use Rattle.intervals.proofs.Shape.{ascending-inside}
 use Rattle.scans.specs.declared.Params.{Params}

@@ -5,7 +5,7 @@ ghost use Prim.Native.Nat.{_<_};
 ghost use lib.ListN.{length, take};
 ghost use Rattle.intervals.specs.Interval.{listOf, Wrote};
 ghost use Rattle.intervals.specs.Merge.{merge, backwards};
-ghost use Rattle.scans.specs.Setup.{setupOf};
+ghost use Rattle.scans.specs.Terms.Numbers.{setupOf};
 ghost use Rattle.strand.specs.Range.{tableInRange, inRange};
 ghost use Rattle.longdust.specs.Buffers.{buffers, lengths};
 ghost use Rattle.longdust.specs.Mask.{maskOf};

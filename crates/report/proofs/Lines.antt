@@ -6,7 +6,8 @@ use native.Mathlib.Numerals.{add-one}
 use native.Mathlib.Omega.{arith}
 use lib.ListN.{length, take, drop, getD, length-append, take-append-drop}
 use lib.Seq.{take-all, take-suc}
-use Rattle.intervals.specs.Interval.{Interval, interval, Inside, intervalOf, listOf}
+use Rattle.intervals.specs.Interval.{Interval, interval, intervalOf, listOf}
+use Rattle.intervals.specs.Terms.Bounds.{Inside}
 use Rattle.intervals.proofs.Slice.{length-list, list-at}
 use Rattle.report.specs.Text.{line, lines, countLine, report}
 use Rattle.report.specs.Written.{Fits, Written}

@@ -7,7 +7,7 @@ use native.Mathlib.Omega.{arith}
 use lib.ListN.{length, take, drop, getD, set, length-append, length-set, take-append-drop}
 use lib.Seq.{take-at, drop-drop, length-take-le, take-all}
 use Rattle.buffers.specs.Fill.{putAt}
-use Rattle.buffers.proofs.Put.{putAt-none, putAt-next, putAt-copy, putAt-length}
+use Rattle.buffers.proofs.Put.{putAt-none, putAt-next, putAt-copy}
 use Rattle.io.specs.Counts.{Counts}
 use Rattle.report.specs.Written.{Fits, Written}
 

@@ -13,9 +13,9 @@ use Rattle.floats.specs.Arithmetic.{_⊕_, _⊖_}
 use borrow.Author.Tests.{ltb-true}
 use Rattle.floats.specs.Binary64.{zero64}
 use Rattle.letters.specs.Place.{Place, ambiguous}
-use Rattle.letters.specs.Entry.{decode}
+use Rattle.letters.specs.Terms.Entry.{decode}
 use Rattle.scans.specs.declared.Params.{Params}
-use Rattle.scans.specs.Setup.{setupOf}
+use Rattle.scans.specs.Terms.Numbers.{setupOf}
 use Rattle.scans.specs.Scans.{windowValue, ifBackwardFrom, ifBackward, maxSteps}
 use Rattle.scans.specs.Terms.Window.{At, window, ringIndex, countedValue, Windowed}
 use Rattle.scans.proofs.Ring.{ring-index-at}

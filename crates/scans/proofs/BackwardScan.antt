@@ -7,23 +7,24 @@ use Prim.Native.Nat.{ℕ, zero, suc, _+_, _-_, _/_, _%_, _^_, _<_, _≤_}
 use native.Mathlib.Omega.{arith}
 use lib.ListN.{length, getD, take, drop, replicate}
 use lib.Seq.{drop-cons, drop-length}
-use lib.Dec.{T, eqb, ltb}
+use lib.Dec.{T, ltb}
 use borrow.Author.Tests.{ltb-true, ltb-false}
 use lib.Ieee.{Float, nan, neg, lt, le, eq, ofBits, ofFields}
-use Rattle.floats.specs.Arithmetic.{_⊕_, _⊖_}
+use Rattle.floats.specs.Arithmetic.{_⊖_}
 use Rattle.floats.specs.Binary64.{zero64, nearZero}
 use Rattle.floats.proofs.Order.{lt-self, le-lt-trans}
 use Rattle.letters.specs.Place.{Place, ambiguous, plain, BelowAt, Below}
-use Rattle.letters.specs.Entry.{decode, decoded}
+use Rattle.letters.specs.Terms.Entry.{decode, decoded}
 use Rattle.letters.proofs.Entries.{decode-plain, decoded-length, decoded-at}
 use Rattle.scans.specs.declared.Params.{Params}
 use Rattle.scans.specs.declared.backward.BackwardState.{BackwardState}
-use Rattle.scans.specs.Setup.{Setup, fAt, kmers, setupOf}
-use Rattle.scans.specs.Counts.{hit, count, raise, cleared, Counted}
+use Rattle.scans.specs.Setup.{Setup, fAt, kmers}
+use Rattle.scans.specs.Terms.Numbers.{setupOf}
+use Rattle.scans.specs.Counts.{hit, count, raise, cleared}
+use Rattle.scans.specs.Terms.Counted.{Counted}
 use Rattle.scans.specs.Scans.{value, secondValue, Candidate, candidate, BackwardSums, backwardStart, isNoted, noted, isDropped, backwardJudged, Backward, backwardFrom}
 use Rattle.scans.specs.Terms.Window.{window, countedValue, Windowed}
 use Rattle.scans.specs.Terms.Parts.{backwardOf, leftValue, AddsEntry, withBestAt, withPrevious, restsAt, Fresh, pauses, tooLow, Rest, restOf, sumsWith, raisedAt, fallenTo, restOver, restFrom, restAfter, Coded, Room, Backs, GoesOn, goesOn, ScansQuick}
-use Rattle.scans.proofs.Test.{neither}
 use Rattle.scans.proofs.Counting.{hit-self, count-snoc, count-append, count-le, raise-counted, raise-hit, raise-length, cleared-counted}
 use Rattle.scans.proofs.Values.{raised-value, decode-below}
 use Rattle.scans.proofs.Parts.{Stands, stands-at, part-length, part-stands, part-coded}

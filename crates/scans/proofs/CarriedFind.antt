@@ -12,13 +12,15 @@ use lib.Ieee.{Float, lt, le}
 use Rattle.floats.specs.Arithmetic.{_⊕_, _⊖_}
 use Rattle.floats.specs.Binary64.{slack}
 use Rattle.letters.specs.Place.{Place, Below}
-use Rattle.letters.specs.Entry.{decode}
+use Rattle.letters.specs.Terms.Entry.{decode}
 use Rattle.scans.specs.declared.Params.{Params}
 use Rattle.scans.specs.declared.backward.BackwardState.{BackwardState}
 use Rattle.scans.specs.declared.Carry.{Carry}
 use Rattle.scans.specs.declared.Scanned.{Scanned}
-use Rattle.scans.specs.Setup.{Setup, fAt, kmers, setupOf}
-use Rattle.scans.specs.Counts.{cleared, Counted}
+use Rattle.scans.specs.Setup.{Setup, fAt, kmers}
+use Rattle.scans.specs.Terms.Numbers.{setupOf}
+use Rattle.scans.specs.Counts.{cleared}
+use Rattle.scans.specs.Terms.Counted.{Counted}
 use Rattle.scans.specs.Scans.{at, Forward, dustForward, dustBackward}
 use Rattle.scans.specs.Terms.Window.{ringIndex, At, queue, window, countedValue}
 use Rattle.scans.specs.Terms.Parts.{Ringed, restOf, ScansQuick}

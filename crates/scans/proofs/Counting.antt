@@ -10,7 +10,7 @@ use lib.Dec.{eqb}
 use borrow.Author.Tests.{eqb-true, eqb-false, eq-eqb, ne-eqb}
 use Rattle.letters.specs.Place.{Place, ambiguous, plain, BelowAt, Below}
 use Rattle.scans.specs.Counts.{hit, count, raise, lower}
-pub use Rattle.scans.specs.Counts.{Counted}
+pub use Rattle.scans.specs.Terms.Counted.{Counted}
 
 pub hit-self : (x : ℕ) → hit x (plain x) ≡ 1
 hit-self x = rw (eq-eqb x x refl)

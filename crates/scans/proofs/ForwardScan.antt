@@ -1,7 +1,7 @@
 -- The forward scan, a turn at a time, over a straight part of the ring, and over both parts.
 use mathlib.Core.Path.{_≡_, refl, sym, ap, _∙_, subst}
 use mathlib.Core.Bool.{Bool, true, false, cond, true≢false}
-use mathlib.Core.List.{List, [], _∷_, _++_, append-nil}
+use mathlib.Core.List.{List, [], _∷_, _++_}
 use Prim.Native.Nat.{ℕ, zero, suc, _+_, _-_, _/_, _^_, _<_, _≤_}
 use native.Mathlib.Omega.{arith}
 use lib.ListN.{length, getD, set, drop, replicate, drop-of-length-le}
@@ -9,17 +9,17 @@ use lib.Ieee.{Float, lt}
 use Rattle.floats.specs.Arithmetic.{_⊕_, _⊖_}
 use Rattle.floats.specs.Binary64.{slack}
 use Rattle.letters.specs.Place.{Place, ambiguous, plain}
-use Rattle.letters.specs.Entry.{decode, decoded}
+use Rattle.letters.specs.Terms.Entry.{decode, decoded}
 use Rattle.letters.proofs.Entries.{decoded-length}
 use Rattle.scans.specs.declared.forward.ForwardState.{ForwardState}
 use Rattle.scans.specs.declared.Params.{Params}
-use Rattle.scans.specs.Setup.{Setup, fAt, setupOf}
+use Rattle.scans.specs.Setup.{Setup, fAt}
+use Rattle.scans.specs.Terms.Numbers.{setupOf}
 use Rattle.scans.specs.Counts.{raise}
 use Rattle.scans.specs.Scans.{value, ForwardSums, Forward, forwardStart, forwardJudged, forwardFrom, dustForward}
-use Rattle.scans.specs.Terms.Window.{window, countedValue, CountsEntry}
+use Rattle.scans.specs.Terms.Window.{countedValue, CountsEntry}
 use Rattle.scans.specs.Terms.Parts.{Coded, UpTo, forwardOf, ForwardPart, Finds}
 use Rattle.scans.proofs.Counting.{raise-length, cleared-counted}
-use Rattle.scans.proofs.Ring.{window-length}
 use Rattle.scans.proofs.Walk.{rest-cons, rest-none}
 use Rattle.scans.proofs.Values.{raised-value, decode-below}
 

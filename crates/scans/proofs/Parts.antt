@@ -10,7 +10,7 @@ use lib.Seq.{ext-getD, getD-take, getD-drop, getD-append-add}
 use lib.Dec.{ltb}
 use borrow.Author.Tests.{ltb-true, ltb-false}
 use Rattle.letters.specs.Place.{Place, ambiguous}
-use Rattle.letters.specs.Entry.{decode, decoded}
+use Rattle.letters.specs.Terms.Entry.{decode, decoded}
 use Rattle.letters.proofs.Entries.{decoded-length, decoded-at}
 use Rattle.scans.specs.Terms.Window.{queue, ringEnd, At, window}
 use Rattle.scans.specs.Terms.Parts.{Queued, Coded}

@@ -10,16 +10,17 @@ use lib.Seq.{getD-append-seam}
 use lib.Dec.{T, T-not, not-T, eqb, ltb, nltb→le}
 use borrow.Author.Tests.{le-ltb, eq-eqb, ne-eqb}
 use lib.Ieee.{Float, binary64, neg, lt, le}
-use lib.Ieee.Fits.{and-i, and-l, and-r}
-use Rattle.floats.specs.Arithmetic.{_⊕_, _⊖_}
+use lib.Ieee.Fits.{and-l, and-r}
+use Rattle.floats.specs.Arithmetic.{_⊖_}
 use Rattle.floats.specs.Binary64.{zero64, tiny, nearZero}
 use Rattle.floats.proofs.Order.{lt-nle, sub-turned}
 use Rattle.letters.specs.Place.{Place, ambiguous, Below}
 use Rattle.scans.specs.Setup.{Setup, fAt, kmers}
-use Rattle.scans.specs.Counts.{raise, cleared, Counted}
-use Rattle.scans.specs.Scans.{value, Candidate, candidate, noCandidate, secondValue, BackwardSums, backwardStart, isNoted, noted, isDropped, backwardJudged, Backward, backwardFrom, withBest, none, at, dustForward, tryFrom, tried}
+use Rattle.scans.specs.Counts.{raise, cleared}
+use Rattle.scans.specs.Terms.Counted.{Counted}
+use Rattle.scans.specs.Scans.{Candidate, candidate, noCandidate, BackwardSums, backwardStart, isNoted, noted, Backward, backwardFrom, withBest, none, at, dustForward, tryFrom, tried}
 use Rattle.scans.specs.Terms.Parts.{tooLow, Rest, sumsWith, raisedAt, fallenTo, restOver, restFrom}
-use Rattle.scans.proofs.Test.{by-test, by-test-both}
+use Rattle.scans.proofs.Test.{by-test}
 use Rattle.scans.proofs.Noting.{first-not-noted}
 use Rattle.scans.proofs.BackwardScan.{restAt, read-counted, definition-turn, none-counted}
 

@@ -12,7 +12,7 @@ use lib.Seq.{ext-getD, getD-at, getD-take, getD-drop, getD-append-add, getD-set-
 use lib.Dec.{ltb}
 use borrow.Author.Tests.{ltb-true, ltb-false}
 use Rattle.letters.specs.Place.{ambiguous}
-use Rattle.letters.specs.Entry.{decode, decoded}
+use Rattle.letters.specs.Terms.Entry.{decode, decoded}
 use Rattle.letters.proofs.Entries.{decoded-length, decoded-at}
 use Rattle.scans.specs.Terms.Window.{queue, ringIndex, At, window}
 

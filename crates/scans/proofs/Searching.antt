@@ -14,7 +14,8 @@ use Rattle.scans.specs.declared.ForwardPosition.{ForwardPosition}
 use Rattle.scans.specs.declared.backward.BackwardState.{BackwardState}
 use Rattle.scans.specs.declared.candidates.Search.{Search}
 use Rattle.scans.specs.Setup.{Setup, kmers}
-use Rattle.scans.specs.Counts.{cleared, Counted}
+use Rattle.scans.specs.Counts.{cleared}
+use Rattle.scans.specs.Terms.Counted.{Counted}
 use Rattle.scans.specs.Scans.{Candidate, candidate, noCandidate, BackwardSums, backwardStart, Backward, backwardFrom, withBest}
 use Rattle.scans.specs.Terms.Parts.{backwardOf, restOf, GoesOn}
 use Rattle.scans.specs.Terms.Search.{candidateOf, candidatesIn, FreshSearch, notingAt, restingAt, goneOn, finishedOf, toTry, withFresh, resumed, sought, Noted, Searches, NextCandidate, ScansBackward}

@@ -2,7 +2,7 @@
 use mathlib.Core.Path.{_≡_, refl, sym, ap, ap₂, subst, _∙_}
 use Prim.Native.Nat.{ℕ, zero, suc, _+_, _-_, _≤_, _<_, max}
 use native.Mathlib.Omega.{arith}
-use mathlib.Core.Bool.{Bool, true, false, cond, not, _&&_}
+use mathlib.Core.Bool.{Bool, true, false, cond, _&&_}
 use mathlib.Core.List.{List, [], _∷_, _++_}
 use lib.ListN.{length, getD, drop, length-append, length-drop}
 use lib.Dec.{T, ltb, leb, eqb}
@@ -12,7 +12,8 @@ use Rattle.floats.specs.Arithmetic.{_⊕_, _⊖_}
 use Rattle.floats.specs.Binary64.{zero64, slack}
 use Rattle.letters.specs.Place.{Place, ambiguous, plain, BelowAt, Below}
 use Rattle.scans.specs.Setup.{Setup, lnAt, fAt, kmers}
-use Rattle.scans.specs.Counts.{hit, count, raise, cleared, Counted}
+use Rattle.scans.specs.Counts.{hit, count, raise, cleared}
+use Rattle.scans.specs.Terms.Counted.{Counted}
 use Rattle.scans.specs.Scans.{Outcome, none, at, extends, windowValue, ifBackwardFrom, maxSteps, ifBackward, value, ForwardSums, forwardStart, forwardJudged, Forward, forwardFrom, dustForward, Candidate, secondValue, BackwardSums, backwardStart, noted, isDropped, backwardJudged, Backward, backwardFrom, noCandidate, withBest, tryFrom, tried, dustBackward}
 use Rattle.scans.proofs.Counting.{hit-self, count-snoc, count-le, below-drop, raise-counted, cleared-counted}
 

@@ -13,7 +13,7 @@ use borrow.Author.Tests.{eqb-true, eqb-false}
 use Rattle.floats.specs.Arithmetic.{_⊕_, _⊖_}
 use Rattle.floats.specs.Binary64.{slack}
 use Rattle.letters.specs.Place.{Place, ambiguous, plain}
-use Rattle.letters.specs.Entry.{decode}
+use Rattle.letters.specs.Terms.Entry.{decode}
 use Rattle.scans.specs.Setup.{Setup, fAt, kmers}
 use Rattle.scans.specs.Counts.{hit, count, raise, lower, cleared}
 use Rattle.scans.specs.Scans.{value, ForwardSums, forwardStart, forwardJudged, Forward, forwardFrom, dustForward}

@@ -12,7 +12,7 @@ use lib.Ieee.{Float, nan}
 use Rattle.floats.specs.Arithmetic.{_⊕_, _⊖_}
 use Rattle.floats.specs.Binary64.{zero64}
 use Rattle.letters.specs.Place.{Place, ambiguous, plain, BelowAt, Below}
-use Rattle.letters.specs.Entry.{decode, decoded}
+use Rattle.letters.specs.Terms.Entry.{decode, decoded}
 use Rattle.letters.proofs.Entries.{decode-plain, decode-ambiguous}
 use Rattle.scans.specs.declared.backward.BackwardState.{BackwardState}
 use Rattle.scans.specs.Setup.{Setup}

@@ -7,10 +7,11 @@ use native.Mathlib.Omega.{arith}
 use lib.ListN.{length, getD, set, drop, replicate, length-set, drop-of-length-le}
 use lib.Seq.{drop-cons, set-getD}
 use Rattle.letters.specs.Place.{Place, ambiguous, plain, Below}
-use Rattle.letters.specs.Entry.{decode, decoded}
+use Rattle.letters.specs.Terms.Entry.{decode, decoded}
 use Rattle.letters.proofs.Entries.{decoded-length, decoded-at}
 use Rattle.scans.specs.declared.Params.{Params}
-use Rattle.scans.specs.Counts.{lower, Counted}
+use Rattle.scans.specs.Counts.{lower}
+use Rattle.scans.specs.Terms.Counted.{Counted}
 use Rattle.scans.specs.Terms.Window.{queue, window, Windowed}
 use Rattle.scans.specs.Terms.Parts.{Queued, Ringed, Coded, Walked}
 use Rattle.scans.specs.Terms.Carry.{Touched}

@@ -5,7 +5,7 @@ use Prim.Native.Nat.{ℕ, _/_, _<_}
 use native.Mathlib.Omega.{arith}
 use lib.ListN.{length, getD}
 use Rattle.letters.specs.Place.{Place, ambiguous}
-use Rattle.letters.specs.Entry.{decode}
+use Rattle.letters.specs.Terms.Entry.{decode}
 use Rattle.scans.specs.declared.Params.{Params}
 use Rattle.scans.specs.Terms.Window.{At, queue, window, Windowed}
 use Rattle.scans.proofs.Counting.{count-le}

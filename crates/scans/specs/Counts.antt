@@ -1,9 +1,8 @@
 -- The paper, 'Records' and 'Step and scans': window counts and scan counts. How often a k-mer stands among some places, and counts kept in a list, one for each k-mer.
-use mathlib.Core.Path.{_≡_}
 use Prim.Native.Nat.{ℕ, _+_, _-_}
 use mathlib.Core.Bool.{cond}
 use mathlib.Core.List.{List, [], _∷_}
-use lib.ListN.{length, getD, set, replicate}
+use lib.ListN.{getD, set, replicate}
 use lib.Dec.{eqb}
 use Rattle.letters.specs.Place.{Place, ambiguous, plain}
 use Rattle.scans.specs.Setup.{Setup, kmers}
@@ -29,8 +28,3 @@ lower counts (plain x) = set counts x (getD counts x 0 - 1)
 
 abbrev pub cleared : Setup → List ℕ
 cleared S = replicate (kmers S) 0
-
--- A list of m counts that are those of the places.
-pub record Counted (m : ℕ) (counts : List ℕ) (q : List Place) : Type 0 where
-  pub long : length counts ≡ m
-  pub counted : (x : ℕ) → getD counts x 0 ≡ count x q

@@ -9,7 +9,6 @@ use Rattle.floats.specs.Arithmetic.{_⊕_, _⊖_, _⊗_, _⊘_}
 use Rattle.floats.specs.Binary64.{zero64, number}
 use Rattle.scans.specs.declared.Xdrop.{Xdrop}
 use Rattle.scans.specs.declared.Xdrop.the-variants.{Off, Length}
-use Rattle.scans.specs.declared.Params.{Params}
 
 pub record Setup : Type 0 where
   pub kmer : ℕ  -- k
@@ -51,18 +50,3 @@ maxTestFrom t ln f (suc m) i s =
 
 unfoldable pub maxTest : ℕ → Float → List Float → List Float → ℤ
 maxTest w t ln f = maxTestFrom t ln f w 1 zero64
-
--- The setup of the code's numbers and its two tables.
-abbrev pub setupOf : Params → List Float → List Float → Setup
-setupOf p ln f =
-    record {
-      kmer = p .kmer;
-      window-size = p .«window_size»;
-      score-threshold = p .«score_threshold»;
-      min-start-cnt = p .«min_start_cnt»;
-      drop-limit = p .«drop_limit»;
-      approx = p .approx;
-      max-test = p .«max_test»;
-      ln = ln;
-      f = f;
-    }

@@ -1,3 +1,5 @@
+pub mod Numbers
+pub mod Counted
 pub mod Window
 pub mod Parts
 pub mod Carry

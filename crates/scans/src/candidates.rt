@@ -4,7 +4,7 @@ ghost use mathlib.Core.Path.{_≡_};
 ghost use mathlib.Core.List.{List};
 ghost use Prim.Native.Nat.{ℕ, _^_, _<_, _≤_, max};
 ghost use lib.ListN.{length, getD, set, replicate};
-ghost use Rattle.scans.specs.Setup.{setupOf};
+ghost use Rattle.scans.specs.Terms.Numbers.{setupOf};
 ghost use Rattle.scans.specs.Scans.{tryFrom};
 ghost use Rattle.scans.specs.Terms.Window.{window, Windowed, Roomy};
 ghost use Rattle.scans.specs.Terms.Carry.{Answers};

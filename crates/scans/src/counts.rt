@@ -3,7 +3,7 @@
 ghost use mathlib.Core.Path.{_≡_};
 ghost use Prim.Native.Nat.{_+_, _/_, _<_};
 ghost use lib.ListN.{length, getD};
-ghost use Rattle.letters.specs.Entry.{decode};
+ghost use Rattle.letters.specs.Terms.Entry.{decode};
 ghost use Rattle.scans.specs.Counts.{lower};
 ghost use Rattle.scans.specs.Terms.Window.{countedValue, CountsEntry};
 

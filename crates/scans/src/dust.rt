@@ -3,7 +3,7 @@
 ghost use mathlib.Core.Path.{_≡_};
 ghost use Prim.Native.Nat.{_-_, _^_, _<_};
 ghost use lib.ListN.{length, drop, replicate};
-ghost use Rattle.scans.specs.Setup.{setupOf};
+ghost use Rattle.scans.specs.Terms.Numbers.{setupOf};
 ghost use Rattle.scans.specs.Scans.{dustBackward};
 ghost use Rattle.scans.specs.Terms.Window.{window, Windowed, Roomy};
 ghost use Rattle.scans.specs.Terms.Carry.{Carried, Answers};

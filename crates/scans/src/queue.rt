@@ -3,8 +3,8 @@
 ghost use mathlib.Core.Path.{_≡_};
 ghost use Prim.Native.Nat.{_<_, _≤_};
 ghost use lib.ListN.{length, drop, replicate};
-ghost use Rattle.letters.specs.Entry.{decoded};
-ghost use Rattle.scans.specs.Counts.{Counted};
+ghost use Rattle.letters.specs.Terms.Entry.{decoded};
+ghost use Rattle.scans.specs.Terms.Counted.{Counted};
 ghost use Rattle.scans.specs.Terms.Window.{ringIndex, ringEnd, window};
 ghost use Rattle.scans.specs.Terms.Carry.{Touched};
 ghost use Rattle.scans.specs.Terms.Parts.{Queued, Coded, Walked};

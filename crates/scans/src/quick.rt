@@ -4,7 +4,7 @@ ghost use mathlib.Core.Path.{_≡_};
 ghost use mathlib.Core.Bool.{true};
 ghost use Prim.Native.Nat.{_-_, _^_, _<_};
 ghost use lib.ListN.{length, drop, replicate};
-ghost use Rattle.scans.specs.Setup.{setupOf};
+ghost use Rattle.scans.specs.Terms.Numbers.{setupOf};
 ghost use Rattle.scans.specs.Terms.Window.{window, Windowed};
 ghost use Rattle.scans.specs.Terms.Carry.{Carried, CarriesAhead, FindsQuickly};
 ghost use Rattle.scans.specs.Terms.Parts.{Ringed, restOf, ScansQuick};

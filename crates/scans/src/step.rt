@@ -5,7 +5,7 @@ ghost use mathlib.Core.List.{List};
 ghost use Prim.Native.Nat.{_<_, _≤_};
 ghost use lib.ListN.{length};
 ghost use lib.Ieee.{Float};
-ghost use Rattle.scans.specs.Setup.{setupOf};
+ghost use Rattle.scans.specs.Terms.Numbers.{setupOf};
 ghost use Rattle.scans.specs.Scans.{ifBackward};
 ghost use Rattle.scans.specs.Terms.Window.{window, Windowed, Extends};
 use crate::Params;

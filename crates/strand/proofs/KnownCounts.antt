@@ -13,7 +13,8 @@ use Rattle.letters.specs.Place.{Place, ambiguous, plain, Below}
 use Rattle.scans.specs.declared.Carry.{Carry}
 use Rattle.scans.specs.declared.Scanned.{Scanned}
 use Rattle.scans.specs.Setup.{Setup, kmers}
-use Rattle.scans.specs.Counts.{raise, lower, cleared, Counted}
+use Rattle.scans.specs.Counts.{raise, lower, cleared}
+use Rattle.scans.specs.Terms.Counted.{Counted}
 use Rattle.scans.specs.Scans.{Find, none, at, Outcome, dustBackward}
 use Rattle.scans.specs.Terms.Window.{findOf}
 use Rattle.scans.specs.Terms.Carry.{Carried, Touched, countsLeft, Answers, carriedOn}

@@ -10,12 +10,13 @@ use lib.Dec.{leb}
 use lib.IntN.{ℤ, pos}
 use lib.Ieee.{Float}
 use Rattle.letters.specs.Place.{Place, ambiguous, plain, placeAt}
-use Rattle.letters.specs.Entry.{decode}
-use Rattle.letters.specs.Rolling.{kmerAfter, entryOf}
+use Rattle.letters.specs.Terms.Entry.{decode}
+use Rattle.letters.specs.Terms.Rolling.{kmerAfter, entryOf}
 use Rattle.letters.proofs.Rolling.{entry-below, entry-place}
 use Rattle.intervals.specs.Interval.{Interval}
 use Rattle.scans.specs.declared.Params.{Params}
-use Rattle.scans.specs.Setup.{Setup, setupOf}
+use Rattle.scans.specs.Setup.{Setup}
+use Rattle.scans.specs.Terms.Numbers.{setupOf}
 use Rattle.scans.specs.Counts.{count}
 use Rattle.scans.specs.Scans.{Find, none, at, Outcome}
 use Rattle.scans.specs.declared.Carry.{Carry}

@@ -13,10 +13,11 @@ use lib.Ieee.{Float, nan}
 use borrow.Author.Tests.{le-leb, lt-leb}
 use Rattle.floats.specs.Arithmetic.{_⊕_, _⊖_}
 use Rattle.letters.specs.Place.{Place, ambiguous, plain, Below}
-use Rattle.letters.specs.Entry.{decode, decoded}
+use Rattle.letters.specs.Terms.Entry.{decode, decoded}
 use Rattle.scans.specs.declared.Params.{Params}
 use Rattle.scans.specs.declared.Carry.{Carry}
-use Rattle.scans.specs.Setup.{Setup, setupOf}
+use Rattle.scans.specs.Setup.{Setup}
+use Rattle.scans.specs.Terms.Numbers.{setupOf}
 use Rattle.scans.specs.Counts.{count, raise, lower}
 use Rattle.scans.specs.Terms.Window.{queue, ringIndex, window, countedValue, Windowed}
 use Rattle.scans.proofs.Counting.{Counted, hit-self, count-le, raise-counted, lower-counted}

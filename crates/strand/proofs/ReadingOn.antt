@@ -7,12 +7,13 @@ use native.Mathlib.Omega.{arith}
 use lib.ListN.{length, drop}
 use lib.Ieee.{Float}
 use Rattle.letters.specs.Place.{Place, placeAt, places}
-use Rattle.letters.specs.Rolling.{kmerAfter, entryOf}
+use Rattle.letters.specs.Terms.Rolling.{kmerAfter, entryOf}
 use Rattle.letters.proofs.Places.{places-drop}
 use Rattle.letters.proofs.Rolling.{value-small}
 use Rattle.intervals.specs.Interval.{Interval}
 use Rattle.scans.specs.declared.Params.{Params}
-use Rattle.scans.specs.Setup.{Setup, setupOf}
+use Rattle.scans.specs.Setup.{Setup}
+use Rattle.scans.specs.Terms.Numbers.{setupOf}
 use Rattle.scans.proofs.Windows.{long}
 use Rattle.strand.specs.Step.{Run, isAt, whole, step, runFrom}
 use Rattle.strand.specs.declared.Open.{Open}

@@ -9,14 +9,15 @@ use lib.Seq.{length-take-le}
 use lib.IntN.{ℤ, pos, negsuc}
 use lib.Ieee.{Float}
 use Rattle.letters.specs.Place.{placeAt, places}
-use Rattle.letters.specs.Entry.{decoded}
-use Rattle.letters.specs.Rolling.{kmerAfter, entryOf}
+use Rattle.letters.specs.Terms.Entry.{decoded}
+use Rattle.letters.specs.Terms.Rolling.{kmerAfter, entryOf}
 use Rattle.letters.proofs.Places.{places-length}
 use Rattle.letters.proofs.Rolling.{kmer-none}
 use Rattle.intervals.specs.Interval.{Interval}
 use Rattle.intervals.proofs.Slice.{length-list}
 use Rattle.scans.specs.declared.Params.{Params}
-use Rattle.scans.specs.Setup.{Setup, setupOf}
+use Rattle.scans.specs.Setup.{Setup}
+use Rattle.scans.specs.Terms.Numbers.{setupOf}
 use Rattle.scans.specs.declared.Scanned.{Scanned}
 use Rattle.scans.specs.Counts.{cleared}
 use Rattle.scans.specs.Terms.Window.{queue, window}

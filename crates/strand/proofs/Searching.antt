@@ -15,13 +15,14 @@ use borrow.Author.Tests.{le-leb, leb-true, eqb-true, eqb-false}
 use Rattle.floats.specs.Arithmetic.{_⊖_, _⊗_}
 use Rattle.floats.specs.Binary64.{zero64, number}
 use Rattle.letters.specs.Place.{Place, ambiguous, plain, Below}
-use Rattle.letters.specs.Entry.{decode, decoded}
+use Rattle.letters.specs.Terms.Entry.{decode, decoded}
 use Rattle.letters.proofs.Entries.{decode-plain, decode-ambiguous}
 use Rattle.intervals.specs.Interval.{Interval}
 use Rattle.scans.specs.declared.Params.{Params}
 use Rattle.scans.specs.declared.Carry.{Carry}
 use Rattle.scans.specs.declared.Scanned.{Scanned}
-use Rattle.scans.specs.Setup.{Setup, setupOf, kmers}
+use Rattle.scans.specs.Setup.{Setup, kmers}
+use Rattle.scans.specs.Terms.Numbers.{setupOf}
 use Rattle.scans.specs.Counts.{count, raise}
 use Rattle.scans.specs.Scans.{Find, none, at, Outcome, extends, ifBackward, dustBackward}
 use Rattle.scans.specs.Terms.Window.{queue, window, findOf, Windowed, Extends}

@@ -10,7 +10,8 @@ use lib.IntN.{ℤ, pos, negsuc, _-ℤ_}
 use lib.Signed.{ltZ}
 use Rattle.floats.proofs.Whole.{Is, is-as, is-sub}
 use Rattle.letters.specs.Place.{Place, ambiguous, plain}
-use Rattle.intervals.specs.Interval.{Interval, Canonical, EndsBelow}
+use Rattle.intervals.specs.Interval.{Interval, Canonical}
+use Rattle.intervals.specs.Terms.Bounds.{EndsBelow}
 use Rattle.intervals.proofs.Shape.{ascending-more, canonical-room}
 use Rattle.intervals.proofs.Saving.{save-canonical, save-ends, ends-more}
 use Rattle.scans.specs.Setup.{Setup}

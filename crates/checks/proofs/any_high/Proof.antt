@@ -20,15 +20,6 @@ abbrev μ-loop : tie.MeasureT-loop
 loop-holds : tie.Need-loop-holds Inv-loop μ-loop
 loop-holds c = (omega arith, omega arith, refl)
 
-shared-slice-read-all : tie.Need-shared-slice-read-all Inv-loop μ-loop
-shared-slice-read-all c = omega arith
-
-add-i : tie.Need-add-i Inv-loop μ-loop
-add-i c = omega arith
-
-loop-less : tie.Need-loop-less Inv-loop μ-loop
-loop-less c = omega arith
-
 loop-again : tie.Need-loop-again Inv-loop μ-loop
 loop-again c =
     let s = c .before .before .before .args .sequence .now in
@@ -47,4 +38,4 @@ returns c =
 pub any-high-spec : {M : Type 1} → statement M
 any-high-spec =
     tie.close
-    (tie.spec Inv-loop μ-loop loop-holds shared-slice-read-all add-i loop-less loop-again returns)
+    (tie.spec Inv-loop μ-loop loop-holds (λ c. omega arith) (λ c. omega arith) (λ c. omega arith) loop-again returns)

@@ -7,10 +7,12 @@ use lib.ListN.{length, take}
 use lib.Ieee.{Float}
 use Rattle.checks.specs.Tests.{thresholdBad, mostIntervals}
 use Rattle.letters.specs.Code.{codes, reverseComplement}
-use Rattle.intervals.specs.Interval.{Interval, Inside, listOf}
+use Rattle.intervals.specs.Interval.{Interval, listOf}
+use Rattle.intervals.specs.Terms.Bounds.{Inside}
 use Rattle.intervals.specs.Merge.{merge, backwards}
 use Rattle.scans.specs.declared.Params.{Params}
-use Rattle.scans.specs.Setup.{Setup, setupOf}
+use Rattle.scans.specs.Setup.{Setup}
+use Rattle.scans.specs.Terms.Numbers.{setupOf}
 use Rattle.strand.specs.Step.{intervalsOf}
 use Rattle.strand.specs.Range.{CheckedSetup}
 use Rattle.strand.specs.Terms.Running.{StrandLent}

@@ -12,7 +12,8 @@ use Rattle.letters.specs.Place.{Place, ambiguous, plain}
 use Rattle.scans.specs.declared.forward.ForwardState.{ForwardState}
 use Rattle.scans.specs.declared.backward.BackwardState.{BackwardState}
 use Rattle.scans.specs.Setup.{Setup, fAt, kmers}
-use Rattle.scans.specs.Counts.{count, raise, cleared, Counted}
+use Rattle.scans.specs.Counts.{count, raise, cleared}
+use Rattle.scans.specs.Terms.Counted.{Counted}
 use Rattle.scans.specs.Scans.{ForwardSums, Forward, forwardFrom, BackwardSums, backwardStart, isNoted}
 use Rattle.scans.specs.Terms.Window.{queue, countedValue}
 

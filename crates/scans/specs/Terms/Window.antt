@@ -9,7 +9,7 @@ use lib.Dec.{ltb}
 use lib.Ieee.{Float, nan}
 use Rattle.floats.specs.Binary64.{zero64}
 use Rattle.letters.specs.Place.{Place, ambiguous, plain}
-use Rattle.letters.specs.Entry.{decoded}
+use Rattle.letters.specs.Terms.Entry.{decoded}
 use Rattle.scans.specs.Setup.{Setup}
 use Rattle.scans.specs.Counts.{count, raise}
 use Rattle.scans.specs.Scans.{Find, none, at, extends}

@@ -6,11 +6,11 @@ use lib.ListN.{length, getD}
 use lib.Ieee.{Float, nan}
 use Rattle.floats.specs.Arithmetic.{_⊕_, _⊖_}
 use Rattle.letters.specs.Place.{Place, ambiguous, plain, placeAt}
-use Rattle.letters.specs.Entry.{decode}
-use Rattle.letters.specs.Rolling.{kmerAfter, entryOf}
+use Rattle.letters.specs.Terms.Entry.{decode}
+use Rattle.letters.specs.Terms.Rolling.{kmerAfter, entryOf}
 use Rattle.intervals.specs.Interval.{Interval}
 use Rattle.scans.specs.declared.Params.{Params}
-use Rattle.scans.specs.Setup.{setupOf}
+use Rattle.scans.specs.Terms.Numbers.{setupOf}
 use Rattle.scans.specs.Terms.Window.{window, Windowed}
 use Rattle.strand.specs.Step.{Run, leave, join}
 use Rattle.strand.specs.declared.Window.{Window}

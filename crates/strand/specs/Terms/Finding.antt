@@ -7,7 +7,7 @@ use lib.IntN.{ℤ, pos, negsuc}
 use lib.Ieee.{Float}
 use Rattle.intervals.specs.Interval.{Interval, listOf}
 use Rattle.scans.specs.declared.Params.{Params}
-use Rattle.scans.specs.Setup.{setupOf}
+use Rattle.scans.specs.Terms.Numbers.{setupOf}
 use Rattle.scans.specs.Counts.{count}
 use Rattle.scans.specs.Scans.{Find, none, at}
 use Rattle.scans.specs.Terms.Window.{findOf}

@@ -9,7 +9,8 @@ use lib.IntN.{ℤ, pos, negsuc}
 use Rattle.letters.specs.Place.{Place}
 use Rattle.scans.specs.declared.Params.{Params}
 use Rattle.scans.specs.Setup.{Setup, kmers}
-use Rattle.scans.specs.Counts.{cleared, Counted}
+use Rattle.scans.specs.Counts.{cleared}
+use Rattle.scans.specs.Terms.Counted.{Counted}
 use Rattle.scans.specs.Terms.Carry.{noCarry, Carried, Touched, CarriesOn}
 use Rattle.strand.specs.Step.{whole}
 use Rattle.strand.specs.declared.Window.{Window}

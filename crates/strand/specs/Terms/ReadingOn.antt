@@ -8,10 +8,11 @@ use lib.IntN.{negsuc}
 use lib.Ieee.{Float}
 use Rattle.floats.specs.Binary64.{zero64}
 use Rattle.letters.specs.Place.{Place, places}
-use Rattle.letters.specs.Rolling.{noLetter, kmerAfter}
+use Rattle.letters.specs.Terms.Rolling.{noLetter, kmerAfter}
 use Rattle.intervals.specs.Interval.{Interval}
 use Rattle.scans.specs.declared.Params.{Params}
-use Rattle.scans.specs.Setup.{Setup, setupOf}
+use Rattle.scans.specs.Setup.{Setup}
+use Rattle.scans.specs.Terms.Numbers.{setupOf}
 use Rattle.scans.specs.Counts.{count}
 use Rattle.scans.specs.Terms.Window.{window, Windowed}
 use Rattle.scans.specs.Terms.Carry.{noCarry}

@@ -6,9 +6,11 @@ use lib.ListN.{length, take, drop, replicate}
 use lib.IntN.{ℤ, pos, negsuc}
 use lib.Ieee.{Float}
 use Rattle.letters.specs.Place.{places}
-use Rattle.intervals.specs.Interval.{Interval, listOf, Canonical, EndsBelow}
+use Rattle.intervals.specs.Interval.{Interval, listOf, Canonical}
+use Rattle.intervals.specs.Terms.Bounds.{EndsBelow}
 use Rattle.scans.specs.declared.Params.{Params}
-use Rattle.scans.specs.Setup.{Setup, setupOf}
+use Rattle.scans.specs.Setup.{Setup}
+use Rattle.scans.specs.Terms.Numbers.{setupOf}
 use Rattle.scans.specs.Scans.{dustBackward}
 use Rattle.scans.specs.Terms.Window.{window, Windowed}
 use Rattle.scans.specs.Terms.Carry.{Carried, Answers}

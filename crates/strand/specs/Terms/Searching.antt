@@ -12,7 +12,8 @@ use Rattle.floats.specs.Arithmetic.{_⊖_, _⊗_}
 use Rattle.floats.specs.Binary64.{zero64, number}
 use Rattle.letters.specs.Place.{Place, ambiguous, plain}
 use Rattle.scans.specs.declared.Params.{Params}
-use Rattle.scans.specs.Setup.{Setup, setupOf}
+use Rattle.scans.specs.Setup.{Setup}
+use Rattle.scans.specs.Terms.Numbers.{setupOf}
 use Rattle.scans.specs.Counts.{count, raise}
 use Rattle.scans.specs.Scans.{none, at, Outcome, extends, dustBackward}
 use Rattle.strand.specs.Step.{Run, isAt, search}

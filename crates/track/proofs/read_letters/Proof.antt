@@ -1,6 +1,6 @@
 -- `read_letters` meets its contract. The invariant: the buffer held the letters of the blocks read so far.
 use Prim.Native.Nat.{ℕ, _≤_}
-use mathlib.Core.Path.{_≡_, _∙_}
+use mathlib.Core.Path.{_≡_}
 use mathlib.Core.List.{List, []}
 use borrow.Author.Needs.{needs}
 use lib.ListN.{length}

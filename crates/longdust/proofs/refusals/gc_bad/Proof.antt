@@ -5,15 +5,6 @@ use borrow.Author.Needs.{needs}
 use Rattle.longdust.proofs.refusals.gc_bad.Statement.{statement}
 use Rattle.longdust.proofs.refusals.gc_bad.Tie as tie
 
-enum-told : tie.Need-enum-told
-enum-told c = search needs
-
-enum-known-gc : tie.Need-enum-known-gc
-enum-known-gc c = search needs
-
-enum-told-2 : tie.Need-enum-told-2
-enum-told-2 c = search needs
-
 returns : tie.Need-returns
 unfolding gcBad
 returns c = sym (ap gcBad (c .enum-told .given .1))
@@ -27,4 +18,4 @@ unfolding gcBad
 returns-3 c = sym (ap gcBad (c .enum-told2 .given .1))
 
 pub gc-bad-spec : {M : Type 1} → statement M
-gc-bad-spec = tie.close (tie.spec enum-told enum-known-gc enum-told-2 returns returns-2 returns-3)
+gc-bad-spec = tie.close (tie.spec (λ c. search needs) (λ c. search needs) (λ c. search needs) returns returns-2 returns-3)

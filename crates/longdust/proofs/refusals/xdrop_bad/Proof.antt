@@ -5,12 +5,6 @@ use borrow.Author.Needs.{needs}
 use Rattle.longdust.proofs.refusals.xdrop_bad.Statement.{statement}
 use Rattle.longdust.proofs.refusals.xdrop_bad.Tie as tie
 
-enum-told : tie.Need-enum-told
-enum-told c = search needs
-
-enum-known-xdrop : tie.Need-enum-known-xdrop
-enum-known-xdrop c = search needs
-
 returns : tie.Need-returns
 unfolding xdropBad
 returns c = sym (ap xdropBad (c .enum-told .given .1))
@@ -20,4 +14,4 @@ unfolding xdropBad
 returns-2 c = sym (ap xdropBad (c .before .xdrop .given .1))
 
 pub xdrop-bad-spec : {M : Type 1} → statement M
-xdrop-bad-spec = tie.close (tie.spec enum-told enum-known-xdrop returns returns-2)
+xdrop-bad-spec = tie.close (tie.spec (λ c. search needs) (λ c. search needs) returns returns-2)

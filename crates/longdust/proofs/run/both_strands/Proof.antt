@@ -1,7 +1,8 @@
 -- `both_strands`: the forward list, merged with the other strand's.
 use mathlib.Core.Path.{_∙_}
 use native.Mathlib.Omega.{arith}
-use Rattle.scans.specs.Setup.{Setup, setupOf}
+use Rattle.scans.specs.Setup.{Setup}
+use Rattle.scans.specs.Terms.Numbers.{setupOf}
 use Rattle.strand.specs.Step.{intervalsOf}
 use Rattle.longdust.specs.Terms.Inner.{Scanned}
 use Rattle.longdust.proofs.Strands.{reverse-as, scanned, mergeable, merged-wrote}

@@ -5,9 +5,6 @@ use lib.ListN.{length-take}
 use Rattle.longdust.proofs.run.merge_strands.Statement.{statement}
 use Rattle.longdust.proofs.run.merge_strands.Tie as tie
 
-returns : tie.Need-returns
-returns c = search needs
-
 pub merge-strands-spec : {M : Type 1} → statement M
 merge-strands-spec =
     tie.close
@@ -16,4 +13,4 @@ merge-strands-spec =
     (λ c. simp length-take (omega arith))
     (λ c κs. search needs)
     (λ c. search needs)
-    returns)
+    (λ c. search needs))

@@ -6,15 +6,6 @@ use Rattle.longdust.proofs.Setups.{prepared, float-bits}
 use Rattle.longdust.proofs.run.prepare.Statement.{statement}
 use Rattle.longdust.proofs.run.prepare.Tie as tie
 
-cast-w : tie.Need-cast-w
-cast-w c = search needs
-
-drop-limit-requires : tie.Need-drop-limit-requires
-drop-limit-requires c κs = search needs
-
-max-test-requires : tie.Need-max-test-requires
-max-test-requires c κs = search needs
-
 returns : tie.Need-returns
 returns c =
     let s = c .before .before .before .before .before in
@@ -28,4 +19,4 @@ returns c =
     }
 
 pub prepare-spec : {M : Type 1} → statement M
-prepare-spec = tie.close (tie.spec cast-w drop-limit-requires max-test-requires returns)
+prepare-spec = tie.close (tie.spec (λ c. search needs) (λ c κs. search needs) (λ c κs. search needs) returns)

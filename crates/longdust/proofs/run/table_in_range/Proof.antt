@@ -18,17 +18,8 @@ loop-holds : tie.Need-loop-holds Inv-loop μ-loop
 unfolding tableInRange
 loop-holds c = (omega arith, refl)
 
-add-i : tie.Need-add-i Inv-loop μ-loop
-add-i c = search needs
-
 mul-x : tie.Need-mul-x Inv-loop μ-loop
 mul-x c = omega (arith, c .before .before .good)
-
-shared-slice-read-x : tie.Need-shared-slice-read-x Inv-loop μ-loop
-shared-slice-read-x c = omega arith
-
-loop-less : tie.Need-loop-less Inv-loop μ-loop
-loop-less c = omega arith
 
 loop-again : tie.Need-loop-again Inv-loop μ-loop
 unfolding tableInRange
@@ -46,9 +37,9 @@ table-in-range-spec =
     Inv-loop
     μ-loop
     loop-holds
-    add-i
+    (λ c. search needs)
     mul-x
-    shared-slice-read-x
-    loop-less
+    (λ c. omega arith)
+    (λ c. omega arith)
     loop-again
     returns)

@@ -1,6 +1,6 @@
 -- `replay::call::entries` meets its contract.
 use Prim.Native.Nat.{ℕ, _-_, min}
-use mathlib.Core.Path.{_≡_, sym, ap, _∙_}
+use mathlib.Core.Path.{_≡_, _∙_}
 use mathlib.Core.Logic.{_≢_}
 use native.Mathlib.Omega.{arith}
 use borrow.Author.Needs.{needs}

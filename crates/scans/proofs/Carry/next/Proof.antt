@@ -1,6 +1,6 @@
 use mathlib.Core.Bool.{true, false}
 use borrow.Author.Needs.{needs}
-use Rattle.scans.specs.Setup.{setupOf}
+use Rattle.scans.specs.Terms.Numbers.{setupOf}
 use Rattle.scans.proofs.Values.{decode-below}
 use Rattle.scans.proofs.CarriedScan.{carries-on}
 use Rattle.scans.proofs.Carry.next.Statement.{statement}

@@ -2,7 +2,7 @@ use mathlib.Core.Path.{sym, _∙_}
 use Prim.Native.Nat.{_-_, _≤_}
 use native.Mathlib.Omega.{arith}
 use borrow.Author.Needs.{needs}
-use Rattle.scans.specs.Setup.{setupOf}
+use Rattle.scans.specs.Terms.Numbers.{setupOf}
 use Rattle.scans.proofs.BackwardScan.{Scanning, scanning-start, scanning-end, add-ready, scanning-ended, scanning-raised, scanning-paused, scanning-stopped, scanning-fallen}
 use Rattle.scans.proofs.backward.backward_part.Statement.{statement}
 use Rattle.scans.proofs.backward.backward_part.Tie as tie

@@ -3,7 +3,7 @@ use Prim.Native.Nat.{_-_, _<_}
 use native.Mathlib.Omega.{arith}
 use borrow.Author.Needs.{needs}
 use lib.ListN.{length}
-use Rattle.scans.specs.Setup.{setupOf}
+use Rattle.scans.specs.Terms.Numbers.{setupOf}
 use Rattle.scans.specs.Terms.Window.{window}
 use Rattle.scans.specs.Terms.Search.{turns}
 use Rattle.scans.proofs.Windows.{long}

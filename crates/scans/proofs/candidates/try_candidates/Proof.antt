@@ -5,7 +5,7 @@ use native.Mathlib.Omega.{arith}
 use borrow.Author.Needs.{needs}
 use lib.ListN.{length, getD}
 use Rattle.scans.specs.declared.ForwardPosition.{ForwardPosition}
-use Rattle.scans.specs.Setup.{setupOf}
+use Rattle.scans.specs.Terms.Numbers.{setupOf}
 use Rattle.scans.specs.Scans.{noCandidate}
 use Rattle.scans.specs.Terms.Window.{window}
 use Rattle.scans.specs.Terms.Search.{candidateOf, candidatesIn}

@@ -3,7 +3,7 @@ use Prim.Native.Nat.{ℕ, _+_, _-_, _^_}
 use lib.ListN.{length, take, drop}
 use native.Mathlib.Omega.{arith}
 use borrow.Author.Needs.{needs}
-use Rattle.letters.specs.Entry.{decoded}
+use Rattle.letters.specs.Terms.Entry.{decoded}
 use Rattle.letters.proofs.Entries.{decoded-length}
 use Rattle.scans.specs.Terms.Parts.{UpTo}
 use Rattle.scans.proofs.Ring.{window-length}

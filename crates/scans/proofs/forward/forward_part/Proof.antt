@@ -1,8 +1,7 @@
 use Prim.Native.Nat.{_-_}
-use native.Mathlib.Omega.{arith}
 use borrow.Author.Needs.{needs}
 use lib.ListN.{length}
-use Rattle.scans.specs.Setup.{setupOf}
+use Rattle.scans.specs.Terms.Numbers.{setupOf}
 use Rattle.scans.proofs.ForwardScan.{Forwarding, forwarding-start, forwarding-end, entry-counts, forwarding-turn, forwarding-stop}
 use Rattle.scans.proofs.forward.forward_part.Statement.{statement}
 use Rattle.scans.proofs.forward.forward_part.Tie as tie

@@ -3,9 +3,6 @@ use borrow.Author.Needs.{needs}
 use Rattle.scans.proofs.limits.drop_limit.Statement.{statement}
 use Rattle.scans.proofs.limits.drop_limit.Tie as tie
 
-enum-told : tie.Need-enum-told
-enum-told c = search needs
-
 returns : tie.Need-returns
 unfolding dropLimit
 returns c = rw (c .before .enum-told .given .1)
@@ -18,7 +15,7 @@ pub drop-limit-spec : {M : Type 1} → statement M
 drop-limit-spec =
     tie.close
     (tie.spec
-    enum-told
+    (λ c. search needs)
     (λ c. search needs)
     (λ c. search needs)
     (λ c. search needs)

@@ -1,7 +1,7 @@
 use Prim.Native.Nat.{_-_}
 use borrow.Author.Needs.{needs}
 use lib.ListN.{length}
-use Rattle.scans.specs.Counts.{Counted}
+use Rattle.scans.specs.Terms.Counted.{Counted}
 use Rattle.scans.proofs.Walk.{Walking, walking-start, walking-end, walking-below, lowering-turn}
 use Rattle.scans.proofs.queue.uncount_part.Statement.{statement}
 use Rattle.scans.proofs.queue.uncount_part.Tie as tie

@@ -2,7 +2,7 @@ use mathlib.Core.Path.{sym, subst}
 use Prim.Native.Nat.{ℕ, _-_, _<_, _≤_}
 use native.Mathlib.Omega.{arith}
 use lib.ListN.{length, drop}
-use Rattle.scans.specs.Counts.{Counted}
+use Rattle.scans.specs.Terms.Counted.{Counted}
 use Rattle.scans.specs.Terms.Window.{window}
 use Rattle.scans.proofs.CarriedFind.{carries-off, start-in, low-in, newest-at, newest-in, count-in, carries-ahead}
 use borrow.Author.Needs.{needs}

@@ -1,6 +1,6 @@
 use mathlib.Core.Path.{sym, _∙_}
 use borrow.Author.Needs.{needs}
-use Rattle.scans.specs.Setup.{setupOf}
+use Rattle.scans.specs.Terms.Numbers.{setupOf}
 use Rattle.scans.specs.Terms.Window.{window}
 use Rattle.scans.proofs.Windows.{long}
 use Rattle.scans.proofs.BackwardScan.{Going, going-start, going-some, going-turn, going-end, window-counts-are}

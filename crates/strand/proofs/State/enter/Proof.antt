@@ -2,7 +2,7 @@ use mathlib.Core.Path.{_≡_, refl, sym, subst}
 use Prim.Native.Nat.{ℕ, _+_, _/_, _^_, _<_}
 use native.Mathlib.Omega.{arith}
 use borrow.Author.Needs.{needs}
-use Rattle.letters.specs.Rolling.{kmerAfter}
+use Rattle.letters.specs.Terms.Rolling.{kmerAfter}
 use Rattle.letters.proofs.Rolling.{kmer-next, run-few, value-small, entry-below}
 use Rattle.strand.specs.Terms.Entering.{Joined}
 use Rattle.strand.proofs.Letter.{entering}

@@ -6,10 +6,11 @@ use native.Mathlib.Omega.{arith}
 use lib.ListN.{length}
 use borrow.Author.Needs.{needs}
 use Rattle.letters.specs.Place.{plain}
-use Rattle.letters.specs.Entry.{decode}
-use Rattle.letters.specs.Rolling.{entryOf}
+use Rattle.letters.specs.Terms.Entry.{decode}
+use Rattle.letters.specs.Terms.Rolling.{entryOf}
 use Rattle.intervals.specs.Interval.{Interval}
-use Rattle.scans.specs.Setup.{Setup, setupOf}
+use Rattle.scans.specs.Setup.{Setup}
+use Rattle.scans.specs.Terms.Numbers.{setupOf}
 use Rattle.scans.specs.Counts.{count}
 use Rattle.scans.specs.Scans.{extends}
 use Rattle.strand.specs.Step.{Run, extendTried}

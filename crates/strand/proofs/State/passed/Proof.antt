@@ -2,8 +2,8 @@ use mathlib.Core.Path.{refl, sym, subst}
 use Prim.Native.Nat.{ℕ}
 use lib.ListN.{length}
 use borrow.Author.Needs.{needs}
-use Rattle.letters.specs.Entry.{decode}
-use Rattle.scans.specs.Setup.{setupOf}
+use Rattle.letters.specs.Terms.Entry.{decode}
+use Rattle.scans.specs.Terms.Numbers.{setupOf}
 use Rattle.strand.specs.Terms.KnownCounts.{Passing, Passes}
 use Rattle.strand.proofs.State.passed.Statement.{statement}
 use Rattle.strand.proofs.State.passed.Tie as tie

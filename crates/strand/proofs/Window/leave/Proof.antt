@@ -7,7 +7,7 @@ use mir.Syntax.{w64}
 use mir.Val.{SFits}
 use mir.Facts.{toZ-ofZ}
 use borrow.Author.Needs.{needs}
-use Rattle.letters.specs.Entry.{decode}
+use Rattle.letters.specs.Terms.Entry.{decode}
 use Rattle.scans.proofs.Windows.{count-in}
 use Rattle.strand.specs.Step.{lastQWithout, countsWithout}
 use Rattle.strand.specs.declared.Window.{Window}
