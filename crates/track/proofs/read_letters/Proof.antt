@@ -1,4 +1,4 @@
--- `read_letters` meets its contract. The invariant: the buffer held the letters of the blocks read so far.
+-- `read_letters` meets its contract. The invariant: the buffer holds the letters of the blocks read so far.
 use Prim.Native.Nat.{ℕ, _≤_}
 use mathlib.Core.Path.{_≡_, _∙_}
 use mathlib.Core.List.{List, []}
@@ -27,8 +27,8 @@ Inv-loop letters₀ block₀ count₀ reads₀ letters block count reads = Readi
 abbrev μ-loop : tie.MeasureT-loop
 μ-loop letters₀ block₀ count₀ reads₀ letters block count reads = reads
 
-loop-held : tie.Need-loop-held Inv-loop μ-loop
-loop-held c = record { bytes = []; held = held-nothing _; room = omega arith; same = search needs; long = search needs }
+loop-holds : tie.Need-loop-holds Inv-loop μ-loop
+loop-holds c = record { bytes = []; held = held-nothing _; room = omega arith; same = search needs; long = search needs }
 
 loop-again : tie.Need-loop-again Inv-loop μ-loop
 loop-again c =
@@ -54,7 +54,7 @@ read-letters-spec =
     Inv-loop
     μ-loop
     (λ c κs. search needs)
-    loop-held
+    loop-holds
     (λ c. search needs)
     (λ c. search needs)
     (λ c κs. search needs)
