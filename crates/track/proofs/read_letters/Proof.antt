@@ -1,4 +1,4 @@
--- `read_letters` meets its contract. The invariant: the buffer held the letters of the blocks read so far.
+-- `read_letters` meets its contract. The invariant: the buffer holds the letters of the blocks read so far.
 use Prim.Native.Nat.{ℕ, _≤_}
 use mathlib.Core.Path.{_≡_}
 use mathlib.Core.List.{List, []}
