@@ -11,15 +11,17 @@ use Rattle.intervals.specs.Interval.{Interval, listOf}
 use Rattle.intervals.proofs.Slice.{wrote-list}
 use Rattle.intervals.proofs.Shape.{ascending-inside, canonical-room}
 use Rattle.intervals.proofs.Order.{lt-or-le}
-use Rattle.report.specs.Letters.{lettersOf, Held}
+use Rattle.report.specs.Letters.{lettersOf}
+use Rattle.report.specs.Terms.Held.{Held}
 use Rattle.report.specs.Text.{report, refusalLine, sizeLine}
-use Rattle.report.specs.Written.{Fits}
+use Rattle.report.specs.Terms.Fits.{Fits}
 use Rattle.report.proofs.Decimal.{length-decimal}
 use Rattle.report.proofs.Lines.{length-report}
 use Rattle.report.proofs.Writing.{fits-as}
 use Rattle.contig.specs.declared.Outcome.{Outcome}
-use Rattle.contig.specs.Run.{contigRefusal, contigMask, unless, Ran}
+use Rattle.contig.specs.Run.{contigRefusal, contigMask}
 use Rattle.contig.specs.Printed.{answered, printed, textOf}
+use Rattle.contig.specs.Terms.Ran.{unless, Ran}
 
 pub too-many : (s : List ℕ) → 32768 < length s → sizeLine ≡ printed s
 unfolding printed

@@ -24,7 +24,8 @@ use Rattle.longdust.specs.Checks.{refusal}
 use Rattle.longdust.specs.Mask.{mask}
 use Rattle.longdust.specs.Buffers.{Buffers, buffers, lengths}
 use Rattle.longdust.specs.Call.{lnRead, fRead, Filled, Answered}
-use Rattle.contig.specs.Run.{lent, contigRefusal, contigMask, unless, Ran}
+use Rattle.contig.specs.Run.{lent, contigRefusal, contigMask}
+use Rattle.contig.specs.Terms.Ran.{unless, Ran}
 
 -- The buffers before the run, whatever the candidates and the lists are.
 abbrev pub fresh : List ForwardPosition → List (List ℕ) → List (List ℕ) → List (List ℕ) → Buffers

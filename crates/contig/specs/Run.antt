@@ -1,10 +1,8 @@
 -- The paper, 'Tables and the program': the run of the program `track` on its letters.
-use Prim.Native.Nat.{ℕ, zero, suc}
-use mathlib.Core.Path.{_≡_}
-use mathlib.Core.List.{List, []}
-use lib.ListN.{length}
+use Prim.Native.Nat.{ℕ}
+use mathlib.Core.List.{List}
 use Rattle.letters.specs.Code.{codes}
-use Rattle.intervals.specs.Interval.{Interval, Canonical, Wrote}
+use Rattle.intervals.specs.Interval.{Interval}
 use Rattle.tables.specs.declared.GcOption.the-variants.{Uniform}
 use Rattle.tables.specs.Density.{density}
 use Rattle.tables.specs.Tables.{lnTable, fTable}
@@ -12,7 +10,6 @@ use Rattle.longdust.specs.declared.Lent.{Lent}
 use Rattle.longdust.specs.Options.{defaults}
 use Rattle.longdust.specs.Checks.{refusal}
 use Rattle.longdust.specs.Mask.{mask}
-use Rattle.contig.specs.declared.Outcome.{Outcome}
 
 -- The most letters that are taken, the room for their intervals, and for the longest text: a line of 12 bytes for each, and 15.
 abbrev pub mostLetters : ℕ
@@ -48,14 +45,3 @@ contigRefusal s = refusal defaults s lent
 -- The mask of the letters s, by the tables that the formulas give for k = 7 and w = 5,000.
 unfoldable pub contigMask : List ℕ → List Interval
 contigMask s = mask defaults s (lnTable 5000) (fTable 7 5000 (density 7 Uniform (codes s)))
-
--- No interval for a refused request.
-abbrev pub unless : ℕ → List Interval → List Interval
-unless zero is = is
-unless (suc number) is = []
-
--- The run on the letters s left its list in xs′, which was xs.
-pub record Ran (s : List ℕ) (xs xs′ : List (List ℕ)) (r : Outcome) : Type 0 where
-  pub number : r .refusal ≡ contigRefusal s
-  pub list : Wrote (unless (contigRefusal s) (contigMask s)) xs xs′ (r .count)
-  pub shape : Canonical (length s) 7 (unless (contigRefusal s) (contigMask s))

@@ -5,10 +5,11 @@ ghost use Prim.Native.Nat.{ℕ, _≤_, _<_};
 ghost use mathlib.Core.List.{List};
 ghost use lib.ListN.{length};
 ghost use Rattle.io.specs.Counts.{Counts};
-ghost use Rattle.report.specs.Letters.{Held};
+ghost use Rattle.report.specs.Terms.Held.{Held};
 ghost use Rattle.report.specs.Written.{Written};
-ghost use Rattle.contig.specs.Run.{mostLetters, listRoom, textRoom, Ran};
+ghost use Rattle.contig.specs.Run.{mostLetters, listRoom, textRoom};
 ghost use Rattle.contig.specs.Printed.{printed, textOf};
+ghost use Rattle.contig.specs.Terms.Ran.{Ran};
 use longdust::LongdustOptions;
 use scans::ForwardPosition;
 

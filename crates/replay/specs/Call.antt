@@ -22,9 +22,12 @@ size number short listed room = min (cond (eqb short 12) 0 (cond (eqb short numb
 unfoldable pub filling : Bool → ℕ → ℕ → Bool
 filling lent k w = (not lent && leb k 12) && leb w 64
 
+abbrev pub fOf : LongdustOptions → List ℕ → List Float
+fOf o s = fTable (o .kmer) (o .«window_size») (density (o .kmer) (o .gc) (codes s))
+
 pub record Formulas (lent : Bool) (o : LongdustOptions) (s : List ℕ) (ln f ln′ f′ : List Float) : Type 0 where
   pub ln-is : ln′ ≡ cond (filling lent (o .kmer) (o .«window_size»)) (put (lnTable (o .«window_size»)) ln) ln
-  pub f-is : f′ ≡ cond (filling lent (o .kmer) (o .«window_size»)) (put (fTable (o .kmer) (o .«window_size») (density (o .kmer) (o .gc) (codes s))) f) f
+  pub f-is : f′ ≡ cond (filling lent (o .kmer) (o .«window_size»)) (put (fOf o s) f) f
 
 -- What the call on lent tables answers, on some buffers with these tables and this list.
 pub record Replayed (o : LongdustOptions) (s : List ℕ) (ln f : List Float) (xs xs′ : List (List ℕ)) (r : Answer) : Type 0 where

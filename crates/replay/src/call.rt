@@ -92,7 +92,8 @@ pub fn answer(
     f: &[f64],
     list: &mut [[u32; 2]],
 ) -> Answer
-    ensures { λ r. ⌜ Replayed options (now (sequence .entry)) (now (ln .entry)) (now (f .entry)) (now (list .entry)) (now (list .exit)) r ⌝ }
+    ensures { λ r. ⌜ Replayed options (now (sequence .entry)) (now (ln .entry)) (now (f .entry))
+        (now (list .entry)) (now (list .exit)) r ⌝ }
 {
     let n = sequence.len();
     let k = least(options.kmer, 6);

@@ -10,8 +10,9 @@ use lib.Dec.{eqb}
 use lib.ListN.{length, take, drop, getD, set, length-set, drop-of-length-le}
 use lib.Seq.{drop-cons, drop-drop, drop-set-lt, length-take-le, take-nil, take-suc-set}
 use borrow.Author.Tests.{eq-eqb, ne-eqb}
-use Rattle.report.specs.Letters.{lettersOf, fitting, Held}
+use Rattle.report.specs.Letters.{lettersOf}
 use Rattle.report.specs.Written.{Written}
+use Rattle.report.specs.Terms.Held.{fitting, Held}
 use Rattle.report.proofs.Writing.{take-written, written-by}
 
 fitting-none : (d : List ℕ) (from : ℕ) → fitting [] d from ≡ []

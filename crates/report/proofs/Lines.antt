@@ -10,7 +10,8 @@ use Rattle.intervals.specs.Interval.{Interval, interval, intervalOf, listOf}
 use Rattle.intervals.specs.Terms.Bounds.{Inside}
 use Rattle.intervals.proofs.Slice.{length-list, list-at}
 use Rattle.report.specs.Text.{line, lines, countLine, report}
-use Rattle.report.specs.Written.{Fits, Written}
+use Rattle.report.specs.Written.{Written}
+use Rattle.report.specs.Terms.Fits.{Fits}
 use Rattle.report.proofs.Decimal.{length-decimal}
 use Rattle.report.proofs.Writing.{none, next, written-as, fits-next}
 

@@ -9,7 +9,8 @@ use lib.Seq.{take-at, drop-drop, length-take-le, take-all}
 use Rattle.buffers.specs.Fill.{putAt}
 use Rattle.buffers.proofs.Put.{putAt-none, putAt-next, putAt-copy}
 use Rattle.io.specs.Counts.{Counts}
-use Rattle.report.specs.Written.{Fits, Written}
+use Rattle.report.specs.Written.{Written}
+use Rattle.report.specs.Terms.Fits.{Fits}
 
 -- Nothing was written yet.
 pub none : (d : List ℕ) (from : ℕ) → Written [] d from d from

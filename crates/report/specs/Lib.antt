@@ -1,4 +1,5 @@
-pub mod Letters
 pub mod Ascii
 pub mod Text
+pub mod Letters
 pub mod Written
+pub mod Terms

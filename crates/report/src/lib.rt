@@ -5,9 +5,10 @@ ghost use mathlib.Core.List.{List, _++_};
 ghost use lib.ListN.{length};
 ghost use Rattle.io.specs.Counts.{Counts};
 ghost use Rattle.intervals.specs.Interval.{interval, listOf};
-ghost use Rattle.report.specs.Letters.{fitting, Held};
 ghost use Rattle.report.specs.Text.{decimal, line, lines, numbered, countLine, report, refusalLine, sizeLine};
-ghost use Rattle.report.specs.Written.{Fits, Written};
+ghost use Rattle.report.specs.Written.{Written};
+ghost use Rattle.report.specs.Terms.Fits.{Fits};
+ghost use Rattle.report.specs.Terms.Held.{fitting, Held};
 
 // Joins a block of bytes to those read before it: its letters, as many as there is room for, follow the `count` that the buffer
 // holds. Answers how many it holds then.

@@ -5,7 +5,7 @@ ghost use Prim.Native.Nat.{ℕ, _≤_};
 ghost use mathlib.Core.Path.{_≡_};
 ghost use mathlib.Core.List.{List};
 ghost use lib.ListN.{length};
-ghost use Rattle.report.specs.Letters.{Held};
+ghost use Rattle.report.specs.Terms.Held.{Held};
 
 // What was read: how many letters are held, and whether a read failed.
 struct Input {

@@ -3,7 +3,7 @@ use borrow.Author.Needs.{needs}
 use mathlib.Core.List.{_++_}
 use Rattle.report.specs.Ascii.{ascii}
 use Rattle.report.specs.Text.{decimal}
-use Rattle.report.specs.Written.{Fits}
+use Rattle.report.specs.Terms.Fits.{Fits}
 use Rattle.report.proofs.Writing.{fits-first, fits-next, next}
 use Rattle.report.proofs.write_numbered.Statement.{statement}
 use Rattle.report.proofs.write_numbered.Tie as tie

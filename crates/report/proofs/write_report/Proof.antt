@@ -5,7 +5,7 @@ use lib.ListN.{length}
 use borrow.Author.Needs.{needs}
 use Rattle.intervals.specs.Interval.{listOf}
 use Rattle.report.specs.Text.{lines, countLine}
-use Rattle.report.specs.Written.{Fits}
+use Rattle.report.specs.Terms.Fits.{Fits}
 use Rattle.report.proofs.Lines.{report-list}
 use Rattle.report.proofs.Writing.{fits-first, fits-next, fits-as, next, written-as}
 use Rattle.report.proofs.write_report.Statement.{statement}

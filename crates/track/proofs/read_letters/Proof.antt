@@ -5,7 +5,7 @@ use mathlib.Core.List.{List, []}
 use borrow.Author.Needs.{needs}
 use lib.ListN.{length}
 use native.Mathlib.Omega.{arith}
-use Rattle.report.specs.Letters.{Held}
+use Rattle.report.specs.Terms.Held.{Held}
 use Rattle.report.proofs.Letters.{held-nothing}
 use Rattle.track.proofs.read_letters.Statement.{statement}
 use Rattle.track.proofs.read_letters.Tie as tie
