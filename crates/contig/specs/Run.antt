@@ -11,10 +11,14 @@ use Rattle.longdust.specs.Options.{defaults}
 use Rattle.longdust.specs.Checks.{refusal}
 use Rattle.longdust.specs.Mask.{mask}
 
--- The most letters that are taken, the room for their intervals, and for the longest text: a line of 12 bytes for each, and 15.
+-- The most letters that are taken, and room for one more, so that too many show.
 abbrev pub mostLetters : ℕ
 mostLetters = 32768
 
+abbrev pub lettersRoom : ℕ
+lettersRoom = 32769
+
+-- Room for their intervals, and for the longest text: a line of 12 bytes for each, and the count's line of 15.
 abbrev pub listRoom : ℕ
 listRoom = 4096
 

@@ -6,6 +6,7 @@ ghost use mathlib.Core.Path.{_≡_};
 ghost use mathlib.Core.List.{List};
 ghost use lib.ListN.{length};
 ghost use Rattle.report.specs.Terms.Held.{Held};
+ghost use Rattle.contig.specs.Run.{lettersRoom};
 
 // What was read: how many letters are held, and whether a read failed.
 struct Input {
@@ -16,9 +17,9 @@ struct Input {
 // Reads until standard input ends, a read fails or there is no more room. The buffer holds the letters of some bytes: no
 // contract can say which bytes a read brings. A loop has to be shown to end: this one would after 2^64 - 1 reads.
 fn read_letters(letters: &mut [u8]) -> Input
-    requires { ⌜ length (now letters) ≡ 32769 ⌝ }
+    requires { ⌜ length (now letters) ≡ lettersRoom ⌝ }
     ensures { λ r. ⌜ ((bytes : List ℕ) × Held bytes (now (letters .exit)) (r .count)) ⌝ }
-    ensures { λ r. ⌜ r .count ≤ 32769 ⌝ }
+    ensures { λ r. ⌜ r .count ≤ lettersRoom ⌝ }
 {
     let mut block = io::large_buffer();
     let mut count = 0;

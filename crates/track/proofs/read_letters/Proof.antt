@@ -7,18 +7,19 @@ use lib.ListN.{length}
 use native.Mathlib.Omega.{arith}
 use Rattle.report.specs.Terms.Held.{Held}
 use Rattle.report.proofs.Letters.{held-nothing}
+use Rattle.contig.specs.Run.{lettersRoom}
 use Rattle.track.proofs.read_letters.Statement.{statement}
 use Rattle.track.proofs.read_letters.Tie as tie
 
 record Reading (letters₀ letters block : List ℕ) (count : ℕ) : Type 0 where
   bytes : List ℕ
   held : Held bytes letters count
-  room : count ≤ 32769
+  room : count ≤ lettersRoom
   same : length letters ≡ length letters₀
   long : 65536 ≡ length block
 
 -- What every return says.
-told : {letters₀ letters block : List ℕ} {count : ℕ} → Reading letters₀ letters block count → ((bytes : List ℕ) × Held bytes letters count) × (count ≤ 32769)
+told : {letters₀ letters block : List ℕ} {count : ℕ} → Reading letters₀ letters block count → ((bytes : List ℕ) × Held bytes letters count) × (count ≤ lettersRoom)
 told R = ((R .bytes, R .held), R .room)
 
 abbrev Inv-loop : tie.InvT-loop
