@@ -39,12 +39,14 @@ check() {
   fi
 }
 
-# The C example: letters in, the exit status and the lines that must come out.
+# The C example: letters in, the exit status and the lines that must come out, and its argument.
 mask() {
   local got status=0
-  got=$(printf '%b' "$1" | "$example") || status=$?
-  check "mask $1: status $status, $got" test "$status $got" = "$2"
+  got=$(printf '%b' "$1" | "$example" "${@:3}") || status=$?
+  check "mask $1 ${*:3}: status $status, $got" test "$status $got" = "$2"
 }
+
+genes=GATTACAGGCTTAACGGATTACAGGCTTAACGGATTACAGGCTTAACG
 
 # The same program, built with further options of the compiler.
 masks() {
@@ -57,6 +59,12 @@ masks() {
   mask ACGTACG '1 refused 3'
   mask '' '1 refused 3'
   mask '\0303\0244AAAAAAAAAA' '1 refused 2'
+  mask CGCGATAAAAAAAAAAAAAAAAGC '0 CGCGATaaaaaaaaaaaaaaaaGC' --soft
+  mask "${genes}ACACACACACACACACACACTTGCA" "0 ${genes}acacacacacac"$'\nacacacacTTGCA' --soft
+  mask "$genes" "0 $genes" --soft
+  mask ACGTACG '1 refused 3' --soft
+  check "an unknown argument" test "$("$example" --hard < /dev/null 2>&1 || echo "status $?")" \
+    = $'usage: mask [--soft] < contig\nstatus 2'
   check "a directory as input" test "$("$example" < . 2>&1 || echo "status $?")" = $'cannot read: Is a directory\nstatus 2'
   check "a full disk" test "$(printf AAAAAAAAAA | "$example" 2>&1 > /dev/full || echo "status $?")" \
     = $'cannot write: No space left on device\nstatus 2'
@@ -77,6 +85,7 @@ run "$program" cases
 run "$program" tables
 run "$program" random 1 200000
 run "$program" long 1 240
+run "$program" copies 1 200000
 run "$program" large quick
 echo "$passed passed, $failed failed"
 [[ $failed -eq 0 ]]

@@ -1,11 +1,14 @@
-/* A contig on standard input, its masked intervals on standard output, with the usual options.
+/* A contig on standard input, its masked intervals on standard output, with the usual options; with
+ * --soft the contig itself, its masked letters in lower case, in lines of 60 letters.
  * Line ends (byte 10) are dropped; every other byte is a letter.
  *
  *   rt staticlib longdust_c
  *   cc -O2 -Iinclude examples/mask.c -o mask target/staticlib/liblongdust_c.a
  *   printf AAAAAAAAAAAAAAAAAAAA | ./mask
+ *   printf CGCGATAAAAAAAAAAAAAAAA | ./mask --soft
  *
- * The exit status is 0, or 1 if the contig is refused, or 2 if reading, writing or memory failed.
+ * The exit status is 0, or 1 if the contig is refused, or 2 if reading, writing or memory failed, or for
+ * any other argument.
  */
 #include <errno.h>
 #include <inttypes.h>
@@ -15,7 +18,7 @@
 
 #include "longdust.h"
 
-enum { KMER = 7, WINDOW = 5000, KMERS = 1 << (2 * KMER) };
+enum { KMER = 7, WINDOW = 5000, KMERS = 1 << (2 * KMER), LINE = 60 };
 
 static double ln[WINDOW + 1], f[WINDOW + 2];
 static uint32_t queue[WINDOW];
@@ -23,13 +26,14 @@ static struct longdust_forward_position candidates[WINDOW];
 static uint16_t window_counts[KMERS], scan_counts[KMERS];
 
 /* What depends on the contig's length. */
-static uint8_t *contig, *codes, *reverse_codes;
+static uint8_t *contig, *codes, *reverse_codes, *copy;
 static uint32_t (*list[3])[2];
 
 static void free_all(void) {
     free(contig);
     free(codes);
     free(reverse_codes);
+    free(copy);
     for (int i = 0; i < 3; i++) free(list[i]);
 }
 
@@ -58,8 +62,8 @@ static size_t read_contig(void) {
     return n;
 }
 
-/* Masks the contig and prints its intervals; 1 if it is refused, else 0. */
-static int mask(size_t n) {
+/* Masks the contig and answers the number of its intervals, or minus a refusal. */
+static int64_t mask(size_t n) {
     size_t rows = (n + 1) / (KMER + 1);
     uint32_t in_range;
     codes = room(NULL, n);
@@ -77,14 +81,38 @@ static int mask(size_t n) {
         list[0], rows, list[1], rows, list[2], rows,
         &in_range);
 
-    if (count < 0) printf("refused %" PRId64 "\n", -count);
-    for (int64_t i = 0; i < count; i++) printf("%" PRIu32 "\t%" PRIu32 "\n", list[2][i][0], list[2][i][1]);
-    return count < 0;
+    return count;
 }
 
-int main(void) {
+static void print_intervals(size_t count) {
+    for (size_t i = 0; i < count; i++) printf("%" PRIu32 "\t%" PRIu32 "\n", list[2][i][0], list[2][i][1]);
+}
+
+static void print_soft(size_t n, size_t count) {
+    copy = room(NULL, n);
+    longdust_masked_copy(contig, n, list[2], count, 1, 0, copy, n);
+    for (size_t i = 0; i < n; i += LINE) {
+        fwrite(copy + i, 1, n - i < LINE ? n - i : LINE, stdout);
+        putchar('\n');
+    }
+}
+
+int main(int argc, char **argv) {
+    int soft = argc == 2 && strcmp(argv[1], "--soft") == 0;
+    if (argc > 1 && !soft) {
+        fputs("usage: mask [--soft] < contig\n", stderr);
+        return 2;
+    }
     atexit(free_all);
-    int refused = mask(read_contig());
+    size_t n = read_contig();
+    int64_t count = mask(n);
+    if (count < 0) {
+        printf("refused %" PRId64 "\n", -count);
+    } else if (soft) {
+        print_soft(n, (size_t)count);
+    } else {
+        print_intervals((size_t)count);
+    }
     if (fflush(stdout) != 0 || ferror(stdout)) stop("cannot write");
-    return refused;
+    return count < 0;
 }

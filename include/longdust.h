@@ -1,12 +1,13 @@
-/* Low-complexity masking of a nucleotide sequence: two calls, which differ in who fills the tables.
+/* Low-complexity masking of a nucleotide sequence: two calls, which differ in who fills the tables, and
+ * longdust_masked_copy, which shows a mask in the letters (below, with its own slices and checks).
  *
- * Link target/staticlib/liblongdust_c.a, which `rt staticlib longdust_c` makes for x86-64. Neither
+ * Link target/staticlib/liblongdust_c.a, which `rt staticlib longdust_c` makes for x86-64. No
  * call allocates, keeps state or reads anything but its arguments, so threads may call at once, each
  * with its own buffers. A call takes less than 16 KB of stack.
  *
  * Write n for sequence_len, k for kmer, w for window_size, and R for (n + 1) / (k + 1) rounded down.
  * Every slice is a pointer and its number of elements. The pointer is aligned as its element type asks,
- * and may be null where the length is 0 (no request with an empty slice is accepted). A slice that a call
+ * and may be null where the length is 0 (neither masking call accepts an empty slice). A slice that a call
  * writes may overlap no other slice; those that it only reads may overlap each other. in_range points to
  * one aligned number outside all slices; it is written by every call and must not be null.
  *
@@ -108,6 +109,27 @@ int64_t longdust_process(
     uint32_t (*reverse_list)[2], size_t reverse_list_len,
     uint32_t (*list)[2], size_t list_len,
     uint32_t *in_range);
+
+/* Copies the sequence to the front of copy, its masked letters in lower case or replaced. Letter x is
+ * masked if any entry of list holds it, list[i][0] <= x < list[i][1], so a list in any order will do.
+ *   sequence     n bytes, from 0 on; any byte may stand there
+ *   list         any number of entries; they may overlap or come twice, and one whose end is not above
+ *                its start, or that lies past the sequence, holds no letter of it
+ *   lower_case   not 0: a masked byte A to Z is shown in lower case, any other as it is
+ *   replacement  'N' or 'X', shown for every masked byte if lower_case is 0, else not read
+ *   copy         n at least; bytes past the first n do not change
+ * It takes time in n and in the letters of the entries, those past the sequence left out.
+ *
+ * The result is n, the number of bytes copied. A negative result is minus the number of the first check
+ * that the request fails, and copy is not changed then:
+ *   12  lower_case is 0, and replacement is neither 'N' nor 'X'
+ *   11  copy is shorter than the sequence
+ */
+int64_t longdust_masked_copy(
+    const uint8_t *sequence, size_t sequence_len,
+    const uint32_t (*list)[2], size_t list_len,
+    uint32_t lower_case, uint8_t replacement,
+    uint8_t *copy, size_t copy_len);
 
 #ifdef __cplusplus
 }

@@ -1,5 +1,6 @@
 //! The port as liblongdust_c.a exports it (include/longdust.h).
 
+use crate::copies;
 use crate::port::{Buffers, Candidate, Lent};
 use crate::request::{Gc, Request, Tables};
 use std::ptr;
@@ -131,4 +132,27 @@ pub fn call(request: &Request, lent: &mut Buffers) -> (i64, u32) {
         )
     };
     (result, in_range)
+}
+
+extern "C" {
+    fn longdust_masked_copy(
+        sequence: *const u8,
+        sequence_len: usize,
+        list: *const [u32; 2],
+        list_len: usize,
+        lower_case: u32,
+        replacement: u8,
+        copy: *mut u8,
+        copy_len: usize,
+    ) -> i64;
+}
+
+pub fn masked_copy(request: &mut copies::Request) -> i64 {
+    let copies::Request { sequence, list, lower_case, replacement, copy } = request;
+    let (letters, entries, room) = (sequence.len(), list.len(), copy.len() - copies::GUARD);
+    let (sequence, sequence_len) = pointer(sequence, letters);
+    let (list, list_len) = pointer(list, entries);
+    let (copy, copy_len) = pointer(copy, room);
+    // SAFETY: as above.
+    unsafe { longdust_masked_copy(sequence, sequence_len, list, list_len, *lower_case, *replacement, copy, copy_len) }
 }

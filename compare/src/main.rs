@@ -7,6 +7,7 @@ mod common {
 #[cfg(port)]
 mod archive;
 mod bench;
+mod copies;
 mod fasta;
 mod formulas;
 mod generate;
@@ -34,6 +35,8 @@ compare random SEED COUNT  both on random requests, every result and buffer comp
 compare long SEED COUNT    the same on long sequences or wide windows; 240 are one round of every k and size
 compare cases              both on the paper's cases
 compare tables             filled tables bit by bit, over k, w and GC
+compare copies SEED COUNT  masked copies, the port's against a plain one, on random requests
+compare copies bench       seconds of both at 100,000,000 letters
 compare large [quick]      windows of 65,535 letters; quick: narrower ones
 compare fasta FILE..       both on every record of FASTA files, with intervals, share masked and seconds;
                            before the files, k=K sets k, and letters=N cuts a record after N letters
@@ -52,6 +55,8 @@ fn main() {
         ["random", seed, count] => random::command(port(), generate::request, number(seed), number(count)),
         ["long", seed, count] => random::command(port(), generate::long, number(seed), number(count)),
         ["fasta", ref words @ ..] => fasta::command(port(), words).unwrap_or_else(|error| stop(&error)),
+        ["copies", "bench"] => return copies::bench(copies_port()),
+        ["copies", seed, count] => copies::command(copies_port(), number(seed), number(count)),
         ["cases"] => sets::cases(port()),
         ["tables"] => sets::tables(port()),
         ["large"] => sets::large(port(), false),
@@ -67,10 +72,23 @@ fn port() -> Port {
     archive::call
 }
 
+#[cfg(port)]
+fn copies_port() -> copies::Port {
+    archive::masked_copy
+}
+
 #[cfg(not(port))]
 fn port() -> Port {
-    stop("built without the port: run `rt staticlib longdust_c`, then build this program again")
+    stop(WITHOUT_PORT)
 }
+
+#[cfg(not(port))]
+fn copies_port() -> copies::Port {
+    stop(WITHOUT_PORT)
+}
+
+#[cfg(not(port))]
+const WITHOUT_PORT: &str = "built without the port: run `rt staticlib longdust_c`, then build this program again";
 
 fn number(word: &str) -> u64 {
     word.parse().unwrap_or_else(|_| stop(USAGE))

@@ -1,5 +1,6 @@
 pub mod Numbers
 pub mod Answers
+pub mod CopyAnswers
 pub mod LongdustProcessTablesKinds
 pub mod LongdustProcessTablesReads
 pub mod LongdustProcessKinds

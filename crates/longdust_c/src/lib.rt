@@ -1,4 +1,6 @@
-// The two calls for C and Rust hosts: on numbers and slices, each slice a pointer and its number of elements (include/longdust.h).
+// The calls for C and Rust hosts: on numbers and slices, each slice a pointer and its number of elements (include/longdust.h).
+
+mod copies;
 
 ghost use mathlib.Core.Path.{_≡_};
 ghost use Prim.Native.Nat.{_<_};
