@@ -26,7 +26,7 @@
  *
  * Slices and how long they must be at least; longer ones are accepted, and entries past these
  * lengths do not change:
- *   sequence                          n letters, A C G T in either case; other bytes below 128, line ends
+ *   sequence                          n letters, A C G T in either case, U like T; other bytes below 128, line ends
  *                                     among them, are letters too, ambiguous ones
  *   ln                                w + 1; entry i stands for ln i
  *   f                                 w + 2; entry L is what a random stretch of L places scores

@@ -64,6 +64,14 @@ fn reverse_complement(letters: &[u8]) -> Vec<u8> {
     letters.iter().rev().map(complement).collect()
 }
 
+/// In some sequences U stands for each T or for some of them.
+fn transcribe(rng: &mut Rng, all: &mut [u8]) {
+    let rate = rng.pick(&[0, 0, 1, 3]);
+    if rate > 0 {
+        all.iter_mut().filter(|letter| b"Tt".contains(letter) && rng.one_in(rate)).for_each(|letter| *letter += 1);
+    }
+}
+
 /// Pieces of many kinds up to n letters.
 fn sequence(rng: &mut Rng, n: usize) -> Vec<u8> {
     let mut all: Vec<u8> = Vec::new();
@@ -97,6 +105,7 @@ fn sequence(rng: &mut Rng, n: usize) -> Vec<u8> {
     if rng.one_in(3) {
         all.iter_mut().filter(|_| rng.one_in(4)).for_each(|letter| letter.make_ascii_lowercase());
     }
+    transcribe(rng, &mut all);
     all
 }
 
@@ -344,6 +353,7 @@ fn with_repeats(rng: &mut Rng, n: usize, most: usize) -> Vec<u8> {
         all[start..start + length].copy_from_slice(&piece);
         left -= length;
     }
+    transcribe(rng, &mut all);
     all
 }
 

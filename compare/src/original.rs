@@ -37,7 +37,11 @@ macro_rules! variant {
                 let (k, w) = (request.kmer, request.window_size);
                 let f = match request.gc {
                     Gc::Fixed(gc) => calculate_f_gc(k, w + 1, gc),
-                    Gc::Auto => calculate_f_gc(k, w + 1, compute_gc_content(&encode_sequence(&request.sequence))),
+                    Gc::Auto => calculate_f_gc(
+                        k,
+                        w + 1,
+                        compute_gc_content(&encode_sequence(&crate::original::with_t(&request.sequence))),
+                    ),
                     _ => calculate_f(k, w + 1),
                 };
                 (crate::original::bits(&ln_table()[..=w]), crate::original::bits(&f))
@@ -52,6 +56,16 @@ pub(crate) use variant;
 variant!(unmodified, "/unmodified.rs");
 variant!(formulas, "/formulas.rs");
 variant!(handed, "/handed.rs");
+
+/// The original knows no U: it is fed T for each U and t for each u.
+pub fn with_t(sequence: &[u8]) -> Vec<u8> {
+    let letter = |&b: &u8| match b {
+        b'U' => b'T',
+        b'u' => b't',
+        other => other,
+    };
+    sequence.iter().map(letter).collect()
+}
 
 pub fn bits(floats: &[f64]) -> Vec<u64> {
     floats.iter().map(|x| x.to_bits()).collect()
@@ -131,7 +145,7 @@ pub fn reference(request: &Request, lent: &Buffers) -> Reference {
     if let Some(number) = refusal(request, &lent.lengths()) {
         return Reference { answer: Answer::Refused(number), filled: None };
     }
-    let (letters, w) = (&request.sequence, request.window_size);
+    let (letters, w) = (&with_t(&request.sequence)[..], request.window_size);
     let filled = (request.tables == Tables::Formula).then(|| formulas::tables(request));
     let (ln, f) = match &filled {
         Some((ln, f)) => (&ln[..], &f[..]),

@@ -2,7 +2,7 @@
 //! and wrong ports and wrong originals are found.
 
 use crate::generate;
-use crate::original::{self, floats, formulas, handed, reference, unmodified, variant};
+use crate::original::{self, floats, formulas, handed, reference, unmodified, variant, with_t};
 use crate::port::{difference, Buffers, Port, Said};
 use crate::random::{run, shrink};
 use crate::record;
@@ -21,7 +21,7 @@ type Wrong = fn(&Request, Vec<f64>, Vec<f64>) -> Mask;
 macro_rules! every {
     ($($name:ident),*) => {
         const WRONG: &[(&str, Wrong)] = &[$((stringify!($name), |request, ln, f| {
-            $name::Longdust::process(&request.sequence, $name::options(request), ln, f)
+            $name::Longdust::process(&with_t(&request.sequence), $name::options(request), ln, f)
         })),*];
     };
 }
@@ -177,12 +177,13 @@ fn own_tables_handed_in_give_the_unmodified_answer() {
         if original::refusal_before_sizes(&request).is_some() || request.kmer > 8 {
             continue;
         }
+        let letters = with_t(&request.sequence);
         let (ln, f) = unmodified::tables(&request);
-        let given = handed::Longdust::process(&request.sequence, handed::options(&request), floats(&ln), floats(&f));
-        assert_eq!(given, unmodified::Longdust::process(&request.sequence, unmodified::options(&request)), "{request}");
+        let given = handed::Longdust::process(&letters, handed::options(&request), floats(&ln), floats(&f));
+        assert_eq!(given, unmodified::Longdust::process(&letters, unmodified::options(&request)), "{request}");
         let (ln, f) = formulas::tables(&request);
-        let given = handed::Longdust::process(&request.sequence, handed::options(&request), floats(&ln), floats(&f));
-        assert_eq!(given, formulas::Longdust::process(&request.sequence, formulas::options(&request)), "{request}");
+        let given = handed::Longdust::process(&letters, handed::options(&request), floats(&ln), floats(&f));
+        assert_eq!(given, formulas::Longdust::process(&letters, formulas::options(&request)), "{request}");
     }
 }
 
@@ -237,7 +238,7 @@ fn a_right_port_passes() {
 
 #[test]
 fn a_wrong_port_is_found_and_the_request_made_small() {
-    let wrong: [Port; 9] = [
+    let wrong: [Port; 10] = [
         |r, lent| (right(r, lent).0, 1),
         |r, lent| (right(r, lent).0.max(-10), 0),
         |r, lent| (right(r, lent).0 + 1, 1),
@@ -267,6 +268,10 @@ fn a_wrong_port_is_found_and_the_request_made_small() {
             let result = right(r, lent);
             lent.sequence.iter_mut().for_each(|letter| letter.make_ascii_uppercase());
             result
+        },
+        |r, lent| {
+            let no_u = |&b: &u8| if b"Uu".contains(&b) { b'N' } else { b };
+            right(&Request { sequence: r.sequence.iter().map(no_u).collect(), ..r.clone() }, lent)
         },
         |r, lent| {
             if r.sequence.windows(3).any(|three| three == b"CAT") && r.forward_only {
@@ -306,6 +311,7 @@ const THERE: &[(&str, There)] = &[
     ("131,072 letters or more, given tables", |r| {
         r.sequence.len() >= 131072 && matches!(r.tables, Tables::Given { .. })
     }),
+    ("more than 4,000 letters, a U among them", |r| r.sequence.len() > 4000 && r.sequence.contains(&b'U')),
     ("xdrop of 6 to 49", |r| r.xdrop.is_some_and(|length| (6..50).contains(&length))),
     ("xdrop above 50", |r| r.xdrop.is_some_and(|length| (51..u32::MAX).contains(&length))),
     ("min_start_cnt above 6", |r| r.min_start_cnt > 6),

@@ -12,6 +12,11 @@ letters : codes (65 ∷ 99 ∷ 103 ∷ 84 ∷ 78 ∷ 45 ∷ []) ≡ 0 ∷ 1 ∷ 
 unfolding codes code
 letters = refl
 
+-- "AcgUu-"
+rna-letters : codes (65 ∷ 99 ∷ 103 ∷ 85 ∷ 117 ∷ 45 ∷ []) ≡ 0 ∷ 1 ∷ 2 ∷ 3 ∷ 3 ∷ 4 ∷ []
+unfolding codes code
+rna-letters = refl
+
 other-strand : reverseComplement (0 ∷ 1 ∷ 4 ∷ 3 ∷ []) ≡ 0 ∷ 4 ∷ 2 ∷ 3 ∷ []
 unfolding reverseComplement complement
 other-strand = refl
@@ -25,3 +30,8 @@ two-plain = refl
 two-of-three : gcOf (codes (71 ∷ 67 ∷ 78 ∷ 65 ∷ [])) ≡ div binary64 (ofInt binary64 (pos 2)) (ofInt binary64 (pos 3))
 unfolding codes code gcOf acgtCount gcCount
 two-of-three = refl
+
+-- "GUUC"
+two-of-four : gcOf (codes (71 ∷ 85 ∷ 85 ∷ 67 ∷ [])) ≡ div binary64 (ofInt binary64 (pos 2)) (ofInt binary64 (pos 4))
+unfolding codes code gcOf acgtCount gcCount
+two-of-four = refl

@@ -4,4 +4,5 @@ pub mod Places
 pub mod Entries
 pub mod Rolling
 pub mod Gc
+pub mod Rna
 pub mod Examples

@@ -4,13 +4,14 @@ use mathlib.Core.Bool.{_||_, cond}
 use mathlib.Core.List.{List, map, reverse}
 use lib.Dec.{eqb, ltb}
 
--- A C G T in either case are 0 1 2 3, every other byte 4.
+-- A C G T in either case are 0 1 2 3, U is 3 like T, every other byte 4.
 unfoldable pub code : ℕ → ℕ
 code b =
     cond (eqb b 65 || eqb b 97) 0
     (cond (eqb b 67 || eqb b 99) 1
     (cond (eqb b 71 || eqb b 103) 2
-    (cond (eqb b 84 || eqb b 116) 3 4)))
+    (cond (eqb b 84 || eqb b 116) 3
+    (cond (eqb b 85 || eqb b 117) 3 4))))
 
 unfoldable pub codes : List ℕ → List ℕ
 codes sequence = map code sequence

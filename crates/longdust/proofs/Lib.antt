@@ -7,6 +7,7 @@ pub mod Answers
 pub mod Agreeing
 pub mod PublicCalls
 pub mod Theorems
+pub mod Rna
 pub mod Examples
 pub mod RunReverseStrandKinds
 pub mod RunReverseStrandReads
