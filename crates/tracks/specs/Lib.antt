@@ -1,0 +1,3 @@
+pub mod Stretches
+pub mod Tracks
+pub mod Terms
