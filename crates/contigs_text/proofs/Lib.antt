@@ -1,0 +1,5 @@
+pub mod Fitting
+pub mod Opening
+pub mod Moving
+pub mod Starting
+pub mod Printing

@@ -1,0 +1,48 @@
+-- Files and what they hold.
+use Prim.Native.Nat.{ℕ}
+use Prim.Native.Char.{code}
+use Prim.Native.String.{String, [], _∷_}
+use mathlib.Core.Path.{_≡_, refl}
+use mathlib.Core.List.{List, [] as []ᴸ, _∷_ as _∷ᴸ_}
+use Rattle.fasta.specs.Lines.{lines, word}
+use Rattle.fasta.specs.Contents.{Record, Contents, ends, fails, holds, lettersOf, contents, contentsOf}
+
+abbrev ascii : String → List ℕ
+ascii [] = []ᴸ
+ascii (c ∷ s) = code c ∷ᴸ ascii s
+
+abbrev named : String → String → Record
+named name letters = record { name = ascii name; letters = ascii letters }
+
+-- Two records, a name up to a blank or a tab, empty lines, `>` in mid-line, and no line end at the end of the file.
+two : contentsOf (ascii "\n>a one\nAC\n\nG>T\n>b\ttwo\nT") ≡ holds (named "a" "ACG>T") (holds (named "b" "T") ends)
+unfolding lines word lettersOf contents
+two = refl
+
+-- A record of no letters, and a carriage return that is of the name and of the letters.
+returned : contentsOf (ascii ">a\n>b\r\nA\r\n") ≡ holds (named "a" "") (holds (named "b\r" "A\r") ends)
+unfolding lines word lettersOf contents
+returned = refl
+
+nothing : contentsOf (ascii "\n\n") ≡ ends
+unfolding lines word lettersOf contents
+nothing = refl
+
+-- Letters before the first name, also where an empty name follows them.
+letters-before : contentsOf (ascii "\nA\n>\n") ≡ fails 14
+unfolding lines word lettersOf contents
+letters-before = refl
+
+-- An empty name, at the end of the file and before a blank, also where letters follow it.
+empty-name : contentsOf (ascii ">") ≡ fails 15
+unfolding lines word lettersOf contents
+empty-name = refl
+
+blank-name : contentsOf (ascii "> a\nA\n") ≡ fails 15
+unfolding lines word lettersOf contents
+blank-name = refl
+
+-- A fault after a good record.
+later : contentsOf (ascii ">a\nA\n>\n") ≡ holds (named "a" "A") (fails 15)
+unfolding lines word lettersOf contents
+later = refl

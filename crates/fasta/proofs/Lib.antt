@@ -1,0 +1,10 @@
+pub mod Scanning
+pub mod Lengths
+pub mod Lines
+pub mod Letters
+pub mod Parts
+pub mod Stepping
+pub mod Walk
+pub mod Kept
+pub mod Joined
+pub mod Examples

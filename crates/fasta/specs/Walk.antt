@@ -1,0 +1,23 @@
+-- The answers of steps made one after the other.
+use Prim.Native.Nat.{ℕ}
+use mathlib.Core.List.{List, [], _∷_}
+use lib.ListN.{drop}
+use Rattle.fasta.specs.Contents.{Contents, ends, fails, holds, contentsOf}
+use Rattle.fasta.specs.Steps.{bytesOf, unbroken, Told}
+use Rattle.fasta.specs.declared.Step.{Step}
+use Rattle.fasta.specs.declared.Step.the-variants.{Record, End, Fault}
+
+-- Each answer is that of a step at the cursor that the one before gave; the last is the end or the fault.
+abbrev pub Answers : List ℕ → ℕ → List Step → Type 0
+Answers file at [] = ⊥
+Answers file at (End ∷ rs) = Told file at End
+Answers file at (Fault n ∷ rs) = Told file at (Fault n)
+Answers file at (Record name lines next ∷ rs) = Told file at (Record name lines next) × Answers file (next .at) rs
+
+-- The records that they show, and what ends them.
+abbrev pub gathered : List ℕ → List Step → Contents
+gathered file [] = ends
+gathered file (End ∷ rs) = ends
+gathered file (Fault n ∷ rs) = fails n
+gathered file (Record name lines next ∷ rs) =
+    holds (record { name = bytesOf name file; letters = unbroken (bytesOf lines file) }) (gathered file rs)
