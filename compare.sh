@@ -54,7 +54,7 @@ masks() {
   cc -std=c99 -Wall -Wextra -Werror "$@" -Iinclude examples/mask.c -o "$example" target/staticlib/liblongdust_c.a
   mask AAAAAAAAAAAAAAAAAAAA $'0 0\t20'
   mask 'AAAAA\nAAAAA\n' $'0 0\t10'
-  mask 'AAAAA\r\nAAAAA\r\n' '0 '
+  mask 'AAAAA\r\nAAAAA\r\n' '1 refused 13'
   mask AAAAAAAAA '0 '
   mask ACGTACG '1 refused 3'
   mask '' '1 refused 3'

@@ -26,8 +26,8 @@
  *
  * Slices and how long they must be at least; longer ones are accepted, and entries past these
  * lengths do not change:
- *   sequence                          n letters, A C G T in either case, U like T; other bytes below 128, line ends
- *                                     among them, are letters too, ambiguous ones
+ *   sequence                          n letters, A C G T in either case, U like T; any other letter A to Z, - and *
+ *                                     are ambiguous
  *   ln                                w + 1; entry i stands for ln i
  *   f                                 w + 2; entry L is what a random stretch of L places scores
  *   queue                             w
@@ -46,6 +46,7 @@
  * then, and no slice is changed:
  *    1  kmer is outside 1..12
  *    2  a letter is 128 or more
+ *   13  a letter below 128 is no letter A to Z in either case, no - and no *
  *    3  n is below k + 1
  *    4  window_size is below k + 1
  *    5  window_size is above 65,535

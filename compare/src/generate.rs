@@ -89,7 +89,7 @@ fn sequence(rng: &mut Rng, n: usize) -> Vec<u8> {
                 tandem(rng, &unit, length, errors)
             }
             9 => letters(rng, length.min(1 + length / 4), b"Nn-X"),
-            10 => vec![rng.below(128) as u8],
+            10 => letters(rng, 1, b"ABCDEFGHIJKLMNOPQRSTUVWXYZabcdefghijklmnopqrstuvwxyz-*"),
             _ => {
                 let start = rng.below(all.len() + 1);
                 let copy = &all[start..all.len().min(start + length)];
@@ -261,6 +261,12 @@ pub fn spoil(rng: &mut Rng, request: &mut Request, number: u32) {
             let place = rng.below(request.sequence.len());
             request.sequence[place] = 128 + rng.below(128) as u8;
         }
+        13 if !request.sequence.is_empty() => {
+            let place = rng.below(request.sequence.len());
+            let near = rng.pick(b"@[`{,.)+09 \n\r\t>\x7f\0");
+            let any = rng.below(128) as u8;
+            request.sequence[place] = if original::is_other(any) { rng.pick(&[any, near]) } else { near };
+        }
         3 => request.sequence.truncate(rng.below(k.min(20) + 1)),
         4 => request.window_size = rng.below(k.min(20) + 1),
         5 => request.window_size = rng.pick(&[65536, 65537, 100_000, 1 << 32, (1 << 32) + 20, usize::MAX]),
@@ -303,7 +309,7 @@ pub fn request(seed: u64, number: u64) -> Request {
     }
     if rng.one_in(8) {
         for _ in 0..1 + rng.below(3) {
-            let number = 1 + rng.below(9) as u32;
+            let number = rng.pick(&[1, 2, 13, 3, 4, 5, 6, 7, 8, 9]);
             spoil(rng, &mut request, number);
         }
     }

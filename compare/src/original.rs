@@ -120,10 +120,20 @@ fn refusal(request: &Request, lengths: &[usize; SLICES]) -> Option<u32> {
     })
 }
 
-/// Checks 1 to 9 are the original's own; the paper adds 10.
+/// Whether a byte below 128 is no letter A to Z in either case, no - and no *.
+pub fn is_other(byte: u8) -> bool {
+    byte.is_ascii() && !byte.is_ascii_alphabetic() && byte != b'-' && byte != b'*'
+}
+
+/// Checks 1 to 9 are the original's own; 13 comes straight after 2, and the paper adds 10.
 pub fn refusal_before_sizes(request: &Request) -> Option<u32> {
+    let number = checks::refusal(&unmodified::options(request), &request.sequence);
+    if number.is_some_and(|number| number <= 2) {
+        return number;
+    }
+    let other = request.sequence.iter().copied().any(is_other);
     let too_long = request.sequence.len() > 2147483647;
-    checks::refusal(&unmodified::options(request), &request.sequence).or(too_long.then_some(10))
+    other.then_some(13).or(number).or(too_long.then_some(10))
 }
 
 /// The flag: T at most 16, ln entries 1..w in 0..16 and f entries 1..w in 0..1,048,576.

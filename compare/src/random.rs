@@ -17,7 +17,7 @@ pub struct Summary {
     pub passed: u64,
     /// Numbers of the requests that differ.
     pub failed: Vec<u64>,
-    refused: [u64; 12],
+    refused: [u64; 14],
     masked: u64,
     unmasked: u64,
     in_range: u64,

@@ -48,7 +48,7 @@ pub fn requests() -> Vec<Request> {
     for n in [9, 10, 20, 64, 65, 69, 70, 71, 200] {
         all.push(Request { window_size: 64, sequence: vec![b'A'; n], kmer: 6, ..Request::default() });
     }
-    for number in [1, 2, 3, 4, 5, 6, 7, 8, 9].repeat(3) {
+    for number in [1, 2, 13, 3, 4, 5, 6, 7, 8, 9].repeat(3) {
         all.push(refused(rng, number));
     }
     for slice in 0..SLICES {
@@ -109,6 +109,11 @@ fn refused(rng: &mut Rng, number: u32) -> Request {
             f.clear();
         }
         request.sequence.iter_mut().filter(|letter| !letter.is_ascii()).for_each(|letter| *letter = 200);
+        request
+            .sequence
+            .iter_mut()
+            .filter(|letter| !(33..126).contains(*letter) && **letter < 128)
+            .for_each(|letter| *letter = b'1');
         let in_form = request.kmer.max(request.window_size) <= u32::MAX as usize && !matches!(request.gc, Gc::Kind(..));
         if in_form {
             return request;

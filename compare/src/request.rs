@@ -146,7 +146,7 @@ impl Request {
                 ["garbage", n] => request.garbage = number(n)?,
                 ["virtual_n", n] => {
                     // One letter past the limit is refused as any larger number is.
-                    request.sequence = vec![0; number::<usize>(n)?.min(1 << 31)];
+                    request.sequence = vec![b'A'; number::<usize>(n)?.min(1 << 31)];
                     request.sizes = [Some(0); SLICES];
                     request.is_virtual = true;
                 }

@@ -49,19 +49,34 @@ pub fn cases(port: Port) -> (u64, u64) {
             cases.push((request, Answer::Accepted { in_range: true, intervals: intervals.to_vec() }));
         }
     }
-    // Zeroed memory that is only read takes no room.
-    let many =
-        |n: usize| Request { sequence: vec![0; n], sizes: [Some(0); SLICES], is_virtual: true, ..Request::default() };
+    let many = |n: usize| Request {
+        sequence: vec![b'A'; n],
+        sizes: [Some(0); SLICES],
+        is_virtual: true,
+        ..Request::default()
+    };
     let mut many_with_200 = many(1 << 31);
     many_with_200.sequence[1 << 30] = 200;
+    many_with_200.sequence[0] = b'1';
     let refused = [
         (1, Request { kmer: 13, sequence: vec![200], ..Request::default() }),
         (2, many_with_200),
+        (13, Request { kmer: 2, window_size: 2, sequence: b"A1".to_vec(), ..Request::default() }),
         (3, Request { kmer: 2, window_size: 2, sequence: b"AC".to_vec(), ..Request::default() }),
         (10, many(1 << 31)),
         (11, many((1 << 31) - 1)),
     ];
     cases.extend(refused.map(|(number, request)| (request, Answer::Refused(number))));
+    // Every byte among letters without a repeat.
+    for byte in 0..=255u8 {
+        let request = Request { sequence: [b"ACGTTGCAT", &[byte][..]].concat(), ..Request::default() };
+        let answer = match byte {
+            b'A'..=b'Z' | b'a'..=b'z' | b'-' | b'*' => Answer::Accepted { in_range: true, intervals: vec![] },
+            0..=127 => Answer::Refused(13),
+            _ => Answer::Refused(2),
+        };
+        cases.push((request, answer));
+    }
 
     let mut failed = 0;
     for (request, expected) in &cases {

@@ -2,7 +2,8 @@
 use Prim.Native.Nat.{ℕ, _+_, _/_}
 use mathlib.Core.Bool.{Bool, false, not, _&&_, _||_}
 use mathlib.Core.List.{List, [], _∷_}
-use lib.Dec.{ltb, leb}
+use Prim.Native.Char.{code}
+use lib.Dec.{ltb, leb, eqb}
 use lib.Ieee.{Float, inf, lt}
 use Rattle.floats.specs.Binary64.{zero64}
 
@@ -10,10 +11,27 @@ use Rattle.floats.specs.Binary64.{zero64}
 abbrev pub kmerOutside : ℕ → Bool
 kmerOutside k = ltb k 1 || ltb 12 k
 
+-- One of the bytes passes a test.
+unfoldable pub anyByte : (ℕ → Bool) → List ℕ → Bool
+anyByte test [] = false
+anyByte test (b ∷ bs) = test b || anyByte test bs
+
 -- 2. A byte is 128 or more.
-unfoldable pub anyHigh : List ℕ → Bool
-anyHigh [] = false
-anyHigh (b ∷ bs) = leb 128 b || anyHigh bs
+abbrev pub isHigh : ℕ → Bool
+isHigh b = leb 128 b
+
+abbrev pub anyHigh : List ℕ → Bool
+anyHigh s = anyByte isHigh s
+
+-- 13. A byte below 128 is not accepted: no letter A to Z in either case, no - and no *.
+abbrev pub isAccepted : ℕ → Bool
+isAccepted b = leb (code "A") b && leb b (code "Z") || leb (code "a") b && leb b (code "z") || eqb b (code "-") || eqb b (code "*")
+
+abbrev pub isOther : ℕ → Bool
+isOther b = ltb b 128 && not (isAccepted b)
+
+abbrev pub anyOther : List ℕ → Bool
+anyOther s = anyByte isOther s
 
 -- 3. There are fewer than k + 1 letters.
 abbrev pub tooFewLetters : ℕ → ℕ → Bool

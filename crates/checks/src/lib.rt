@@ -5,7 +5,7 @@
 ghost use mathlib.Core.Path.{_≡_};
 ghost use Prim.Native.Nat.{_+_};
 ghost use lib.Dec.{ltb};
-ghost use Rattle.checks.specs.Tests.{kmerOutside, anyHigh, tooFewLetters, windowBelow, windowAbove, thresholdBad};
+ghost use Rattle.checks.specs.Tests.{kmerOutside, isOther, anyHigh, anyOther, tooFewLetters, windowBelow, windowAbove, thresholdBad};
 ghost use Rattle.checks.specs.Tests.{minStartBelow, tooManyLetters, mostIntervals};
 ghost use Rattle.checks.specs.Terms.Next.{nextCheck};
 
@@ -34,17 +34,35 @@ pub fn kmer_outside(k: usize) -> bool
     (k < 1) | (MAX_KMER < k)
 }
 
-// A byte of 128 or more has its top bit set, and so has the or of all bytes.
-pub fn any_high(sequence: &[u8]) -> bool
-    ensures { λ r. ⌜ r ≡ anyHigh (now (sequence .entry)) ⌝ }
+// Whether a sequence has a byte of 128 or more, and whether it has one below 128 that is not accepted.
+pub struct BytesFound {
+    pub high: bool,
+    pub other: bool,
+}
+
+// Whether a byte below 128 is not accepted.
+fn is_other(b: u8) -> bool
+    ensures { λ r. ⌜ r ≡ isOther b ⌝ }
 {
-    let mut all: u8 = 0;
+    let upper = (b'A' <= b) & (b <= b'Z');
+    let lower = (b'a' <= b) & (b <= b'z');
+    (b < 128) & !(upper | lower | (b == b'-') | (b == b'*'))
+}
+
+// One pass for both tests.
+pub fn find_bytes(sequence: &[u8]) -> BytesFound
+    ensures { λ r. ⌜ (r .high ≡ anyHigh (now (sequence .entry))) × (r .other ≡ anyOther (now (sequence .entry))) ⌝ }
+{
+    let mut high = false;
+    let mut other = false;
     let mut i = 0;
     while i < sequence.len() {
-        all |= sequence[i];
+        let b = sequence[i];
+        high = high | (128 <= b);
+        other = other | is_other(b);
         i += 1;
     }
-    128 <= all
+    BytesFound { high, other }
 }
 
 // Whether x is below a + b, also where this sum is too large for a number.

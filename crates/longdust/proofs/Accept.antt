@@ -11,7 +11,7 @@ use Rattle.scans.proofs.Test.{neither}
 use Rattle.longdust.specs.declared.LongdustOptions.{LongdustOptions}
 use Rattle.longdust.specs.declared.Lent.{Lent}
 use Rattle.checks.specs.Checks.{Check, check, first}
-use Rattle.checks.specs.Tests.{kmerOutside, anyHigh, tooFewLetters, windowBelow, windowAbove, thresholdBad, minStartBelow, tooManyLetters, mostIntervals}
+use Rattle.checks.specs.Tests.{kmerOutside, anyHigh, anyOther, tooFewLetters, windowBelow, windowAbove, thresholdBad, minStartBelow, tooManyLetters, mostIntervals}
 use Rattle.longdust.specs.Checks.{checks, refusal, gcBad, xdropBad, tooShort}
 use Rattle.longdust.specs.Terms.Inner.{Enough, Admitted}
 
@@ -56,14 +56,15 @@ admitted o s b e =
     let left : ℕ → List Check = λ j. drop j (checks o s b) in
     let p1 = passes 1 (kmerOutside k) (left 1) (omega arith) e in
     let p2 = passes 2 (anyHigh s) (left 2) (omega arith) (p1 .1) in
-    let p3 = passes 3 (tooFewLetters n k) (left 3) (omega arith) (p2 .1) in
-    let p4 = passes 4 (windowBelow w k) (left 4) (omega arith) (p3 .1) in
-    let p5 = passes 5 (windowAbove w) (left 5) (omega arith) (p4 .1) in
-    let p6 = passes 6 (thresholdBad (o .«score_threshold»)) (left 6) (omega arith) (p5 .1) in
-    let p7 = passes 7 (gcBad (o .gc)) (left 7) (omega arith) (p6 .1) in
-    let p8 = passes 8 (minStartBelow (o .«min_start_cnt»)) (left 8) (omega arith) (p7 .1) in
-    let p9 = passes 9 (xdropBad (o .xdrop)) (left 9) (omega arith) (p8 .1) in
-    let p10 = passes 10 (tooManyLetters n) (left 10) (omega arith) (p9 .1) in
+    let p13 = passes 13 (anyOther s) (left 3) (omega arith) (p2 .1) in
+    let p3 = passes 3 (tooFewLetters n k) (left 4) (omega arith) (p13 .1) in
+    let p4 = passes 4 (windowBelow w k) (left 5) (omega arith) (p3 .1) in
+    let p5 = passes 5 (windowAbove w) (left 6) (omega arith) (p4 .1) in
+    let p6 = passes 6 (thresholdBad (o .«score_threshold»)) (left 7) (omega arith) (p5 .1) in
+    let p7 = passes 7 (gcBad (o .gc)) (left 8) (omega arith) (p6 .1) in
+    let p8 = passes 8 (minStartBelow (o .«min_start_cnt»)) (left 9) (omega arith) (p7 .1) in
+    let p9 = passes 9 (xdropBad (o .xdrop)) (left 10) (omega arith) (p8 .1) in
+    let p10 = passes 10 (tooManyLetters n) (left 11) (omega arith) (p9 .1) in
     let p11 = passes 11 (tooShort n k w b) [] (omega arith) (p10 .1) in
     let inside = neither (ltb k 1) (ltb 12 k) (p1 .0) in
     record {

@@ -4,7 +4,7 @@ use mathlib.Core.Bool.{false}
 use mathlib.Core.List.{[], _∷_}
 use Prim.Native.Nat.{ℕ}
 use lib.Ieee.{binary64, ofBits, round}
-use Rattle.checks.specs.Tests.{anyHigh}
+use Rattle.checks.specs.Tests.{anyByte}
 use Rattle.scans.specs.declared.Xdrop.the-variants.{Off}
 use Rattle.tables.specs.declared.GcOption.the-variants.{Uniform}
 use Rattle.longdust.specs.declared.LongdustOptions.{LongdustOptions}
@@ -36,5 +36,15 @@ kmer-first b = refl
 
 -- "AC", k = w = 2
 letters-before-window : (b : Lent) → refusal (options 2 2) (65 ∷ 67 ∷ []) b ≡ 3
-unfolding refusal anyHigh
+unfolding refusal anyByte
 letters-before-window b = refl
+
+-- The order is by check and not by place: a digit first, a byte 200 later.
+high-before-other : (b : Lent) → refusal (options 2 3) (49 ∷ 200 ∷ []) b ≡ 2
+unfolding refusal anyByte
+high-before-other b = refl
+
+-- "A1", k = 2
+other-before-letters : (b : Lent) → refusal (options 2 3) (65 ∷ 49 ∷ []) b ≡ 13
+unfolding refusal anyByte
+other-before-letters b = refl

@@ -7,7 +7,7 @@ use lib.ListN.{length}
 use lib.Ieee.{le}
 use Rattle.floats.specs.Binary64.{zero64, one64}
 use Rattle.checks.specs.Checks.{Check, check, first}
-use Rattle.checks.specs.Tests.{kmerOutside, anyHigh, tooFewLetters, windowBelow, windowAbove, thresholdBad}
+use Rattle.checks.specs.Tests.{kmerOutside, anyHigh, anyOther, tooFewLetters, windowBelow, windowAbove, thresholdBad}
 use Rattle.checks.specs.Tests.{minStartBelow, tooManyLetters, mostIntervals}
 use Rattle.scans.specs.declared.Xdrop.{Xdrop}
 use Rattle.scans.specs.declared.Xdrop.the-variants.{Off, Length}
@@ -42,6 +42,7 @@ checks o s b =
     let w : ℕ = o .«window_size» in
     check 1 (kmerOutside k)  -- k is outside 1..12.
     ∷ check 2 (anyHigh s)  -- A byte is 128 or more.
+    ∷ check 13 (anyOther s)  -- Any other byte below 128 than A to Z in either case, - and *.
     ∷ check 3 (tooFewLetters n k)  -- n is below k + 1.
     ∷ check 4 (windowBelow w k)  -- w is below k + 1.
     ∷ check 5 (windowAbove w)  -- w is above 65,535.

@@ -49,7 +49,7 @@ fn intervals(text: &[u8], c: Cursor, alike: bool, list: &[[u32; 2]]) -> Compared
 
 // Reads the recorded answer and compares: refusal, flag, count and intervals.
 pub fn compare(text: &[u8], c: Cursor, answer: Answer, list: &[[u32; 2]]) -> Compared {
-    let refusal = words::number(text, c, 11);
+    let refusal = words::number(text, c, 13);
     let alike = answer.refusal as u64 == refusal.word;
     if refusal.word != 0 {
         return Compared {

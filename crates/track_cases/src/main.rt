@@ -26,6 +26,9 @@ fn main() {
     print_text(
         b"GCTAGTCCAAAAAAAAAAAAGTCGATCCTGCACACACA\nCACACACACAGGTTCAGGCNNGATTATTATTATTATTATTATCG\n",
     );
+    // Line ends of two bytes, and a line number.
+    print_text(b"AAAAAAAAAAAAAAA\r\nAAAAA\r\n");
+    print_text(b"1 AAAAAAAAAAAAAAAAAAAA\n");
     // As many letters as are taken, none of them plain.
     let ambiguous = [b'N'; contig::MOST_LETTERS];
     print_text(&ambiguous);
