@@ -5,4 +5,5 @@ pub mod Entries
 pub mod Rolling
 pub mod Gc
 pub mod Rna
+pub mod AllBytes
 pub mod Examples

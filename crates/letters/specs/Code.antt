@@ -1,17 +1,29 @@
 -- The paper, 'Letters and places': letters as codes, and the reverse complement.
 use Prim.Native.Nat.{ℕ, _-_}
-use mathlib.Core.Bool.{_||_, cond}
+use mathlib.Core.Bool.{Bool, _||_, cond}
 use mathlib.Core.List.{List, map, reverse}
+use Prim.Native.Char.{Char}
+use Prim.Native.Char as Native
 use lib.Dec.{eqb, ltb}
 
--- A C G T in either case are 0 1 2 3, U is 3 like T, every other byte 4.
+-- The byte of a letter.
+abbrev pub letter : Char → ℕ
+letter c = Native.code c
+
+-- The byte b is this letter, in upper or in lower case.
+abbrev pub is : Char → Char → ℕ → Bool
+is upper lower b = eqb b (letter upper) || eqb b (letter lower)
+
+-- Each base in either case, U beside T, and all other bytes.
+-- The IUPAC letters R Y S W K M B D H V N and the gap signs - and . are among the others.
 unfoldable pub code : ℕ → ℕ
 code b =
-    cond (eqb b 65 || eqb b 97) 0
-    (cond (eqb b 67 || eqb b 99) 1
-    (cond (eqb b 71 || eqb b 103) 2
-    (cond (eqb b 84 || eqb b 116) 3
-    (cond (eqb b 85 || eqb b 117) 3 4))))
+    cond (is "A" "a" b) 0
+    (cond (is "C" "c" b) 1
+    (cond (is "G" "g" b) 2
+    (cond (is "T" "t" b) 3
+    (cond (is "U" "u" b) 3
+    4))))
 
 unfoldable pub codes : List ℕ → List ℕ
 codes sequence = map code sequence

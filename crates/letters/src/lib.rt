@@ -9,6 +9,8 @@ ghost use Rattle.letters.specs.Code.{code, codes, complement, reverseCom
 ghost use Rattle.letters.specs.Gc.{gcOf};
 ghost use Rattle.letters.specs.Terms.Rolling.{noLetter, rolledOn, entryOf};
 
+// Each base in either case, U beside T, and all other bytes.
+// The IUPAC letters R Y S W K M B D H V N and the gap signs - and . are among the others.
 fn encode(b: u8) -> u8
     ensures { λ r. ⌜ r ≡ code b ⌝ }
 {
