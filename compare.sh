@@ -1,11 +1,12 @@
 #!/usr/bin/env bash
-# Holds the port against the original: builds the archive and both programs, runs them, sums up.
+# Holds the port against the original: builds the archive, the program contigs and those that compare, runs them, sums up.
 # Two minutes once the archive is proved. The last line is `N passed, M failed`; the exit status is 1 if anything differs.
 # The original is read from ../shared/docs/src, or from the folder that LONGDUST_SRC names.
 set -euo pipefail
 cd "$(dirname "$0")"
 
 rt staticlib longdust_c
+rt check contigs
 (cd compare && cargo build --release --offline)
 program=compare/target/release/compare
 example=$(mktemp)
@@ -81,11 +82,19 @@ check "cargo test" bash -c 'cd compare && cargo test --release --offline --quiet
 echo "== the recorded list of crates/replay"
 check "compare record" cmp <("$program" record) crates/replay/stdin
 
+echo "== the texts of crates/contigs and crates/contigs_cases"
+check "compare contigs text" cmp <("$program" contigs text crates/contigs/stdin) crates/contigs/stdout
+check "contigs: a directory as input" test "$(target/bin/contigs < . 2>&1)" = 'contigs: standard input: Is a directory'
+check "contigs: a full disk" test "$(printf '>a\nAAAAAAAAAAAA\n' | target/bin/contigs 2>&1 > /dev/full)" \
+  = 'contigs: standard output: No space left on device'
+check "compare contigs cases" cmp <("$program" contigs cases) crates/contigs_cases/stdout
+
 run "$program" cases
 run "$program" tables
 run "$program" random 1 200000
 run "$program" long 1 240
 run "$program" copies 1 200000
+run "$program" contigs 1 2000
 run "$program" large quick
 echo "$passed passed, $failed failed"
 [[ $failed -eq 0 ]]

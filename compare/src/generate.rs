@@ -73,7 +73,7 @@ fn transcribe(rng: &mut Rng, all: &mut [u8]) {
 }
 
 /// Pieces of many kinds up to n letters.
-fn sequence(rng: &mut Rng, n: usize) -> Vec<u8> {
+pub fn sequence(rng: &mut Rng, n: usize) -> Vec<u8> {
     let mut all: Vec<u8> = Vec::new();
     let longest = rng.pick(&[6, 15, 40, 1000]);
     while all.len() < n {

@@ -7,6 +7,7 @@ mod common {
 #[cfg(port)]
 mod archive;
 mod bench;
+mod contigs;
 mod copies;
 mod fasta;
 mod formulas;
@@ -23,6 +24,7 @@ mod tests;
 
 use port::{Buffers, Port};
 use request::{Answer, Request};
+use std::io::{self, Write};
 use std::{env, fs, process};
 
 // The original's limits, which it reads from the root of its crate.
@@ -37,6 +39,9 @@ compare cases              both on the paper's cases
 compare tables             filled tables bit by bit, over k, w and GC
 compare copies SEED COUNT  masked copies, the port's against a plain one, on random requests
 compare copies bench       seconds of both at 100,000,000 letters
+compare contigs SEED COUNT the program contigs on its cases and on random FASTA files, its text against the original's masks
+compare contigs text FILE  what contigs has to print for a file, by the original
+compare contigs cases      what crates/contigs_cases has to print, by the original
 compare large [quick]      windows of 65,535 letters; quick: narrower ones
 compare fasta FILE..       both on every record of FASTA files, with intervals, share masked and seconds;
                            before the files, k=K sets k, and letters=N cuts a record after N letters
@@ -57,6 +62,9 @@ fn main() {
         ["fasta", ref words @ ..] => fasta::command(port(), words).unwrap_or_else(|error| stop(&error)),
         ["copies", "bench"] => return copies::bench(copies_port()),
         ["copies", seed, count] => copies::command(copies_port(), number(seed), number(count)),
+        ["contigs", "cases"] => return print(&contigs::cases_text()),
+        ["contigs", "text", file] => return print(&contigs::text(&bytes(file))),
+        ["contigs", seed, count] => contigs::command(contigs::program, number(seed), number(count)),
         ["cases"] => sets::cases(port()),
         ["tables"] => sets::tables(port()),
         ["large"] => sets::large(port(), false),
@@ -99,9 +107,16 @@ fn stop(message: &str) -> ! {
     process::exit(2)
 }
 
+fn bytes(file: &str) -> Vec<u8> {
+    fs::read(file).unwrap_or_else(|error| stop(&format!("{file}: {error}")))
+}
+
+fn print(text: &[u8]) {
+    io::stdout().write_all(text).unwrap_or_else(|error| stop(&format!("standard output: {error}")));
+}
+
 fn read(file: &str) -> Request {
-    let text = fs::read(file).unwrap_or_else(|error| stop(&format!("{file}: {error}")));
-    Request::parse(&text).unwrap_or_else(|error| stop(&format!("{file}: {error}")))
+    Request::parse(&bytes(file)).unwrap_or_else(|error| stop(&format!("{file}: {error}")))
 }
 
 fn answer(file: &str) {

@@ -35,7 +35,9 @@ fn no_candidates() -> [ForwardPosition; 5000] {
     }; 5000]
 }
 
-fn no_intervals() -> [[u32; 2]; LIST_ROOM] {
+pub fn no_intervals() -> [[u32; 2]; LIST_ROOM]
+    ensures { λ r. ⌜ listRoom ≡ length r ⌝ }
+{
     [[0, 0]; LIST_ROOM]
 }
 

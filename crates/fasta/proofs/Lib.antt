@@ -1,0 +1,9 @@
+pub mod Scanning
+pub mod Lengths
+pub mod Lines
+pub mod Parts
+pub mod Stepping
+pub mod Walk
+pub mod Kept
+pub mod Joined
+pub mod Examples
