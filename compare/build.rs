@@ -11,6 +11,13 @@ use std::{env, fs, process};
 /// A place of longdust.rs: what it is, its text, and what stands there instead.
 struct Change(&'static str, &'static str, &'static str);
 
+/// Every variant tells of finds that begin before the first letter, and is otherwise what its other changes say.
+const TELLING: Change = Change("telling finds", "if st2 < end {", "crate::original::tell_start(st2); if st2 < end {");
+
+/// Starts before the first letter are raised to 0, as the request L6 asks: the one line in which the reference differs
+/// from the original where a find begins before the first letter.
+const RAISED: Change = Change("raised starts", "if st2 < end {", "let st2 = st2.max(0); if st2 < end {");
+
 /// ln, exp and powi by the paper's formulas.
 const FORMULAS: &[Change] = &[
     Change("ln in the ln table", "(i as f64).ln())", "crate::formulas::ln(i as f64))"),
@@ -39,7 +46,7 @@ const HANDED: &[Change] = &[
     Change("ln in max_test", "(i as f64).ln() /", "c_val /"),
 ];
 
-/// Wrong originals, one change each on top of HANDED: the tests demand that random requests and the
+/// Wrong originals, one change each on top of HANDED and RAISED: the tests demand that random requests and the
 /// recorded list tell every one of them from the right one.
 const WRONG: &[Change] = &[
     Change("backward_tie", "sl >= max_sb", "sl > max_sb"),
@@ -56,9 +63,9 @@ const WRONG: &[Change] = &[
     Change("back_check", "if s < 0.0", "if s <= 0.0"),
     Change("window_score", "swin > 0.0", "swin >= 0.0"),
     Change("max_test_zero", "sl > 0.0 {", "sl >= 0.0 {"),
-    Change("start_clipped", "if st2 < end {", "let st2 = st2.max(0); if st2 < end {"),
+    Change("start_dropped", "let st2 = st2.max(0);", ""),
+    Change("start_raised_to_1", "st2.max(0)", "if st2 < 0 { 1 } else { st2 }"),
     Change("st2_at_end", "if st2 < end {", "if st2 <= end {"),
-    Change("first_start", "start < 0 || st2 < start", "st2 < start"),
     Change("merge_touching", "intv.start <= end", "intv.start < end"),
     Change("save_touching", "start <= self.results[k - 1].end", "start < self.results[k - 1].end"),
     Change("last_q_stays", "last_q -= 1", "last_q -= 0"),
@@ -90,14 +97,16 @@ fn main() {
 
     let longdust = read(&folder.join("longdust.rs.txt"));
     let lib = read(&folder.join("lib.rs.txt"));
-    let handed = changed(&longdust, HANDED);
     write(&out.join("limits.rs"), &LIMITS.map(|part| cut(&lib, part, "\n")).concat());
     // A sequence is bytes here, of which an original's string is a part.
     write(&out.join("checks.rs"), &CHECKS.map(|part| cut(&lib, part, "\n}\n")).concat().replace("&str", "&[u8]"));
     write(&out.join("common.rs"), &read(&folder.join("common.rs.txt")));
-    write(&out.join("unmodified.rs"), &longdust);
-    write(&out.join("formulas.rs"), &changed(&longdust, FORMULAS));
-    write(&out.join("handed.rs"), &handed);
+    for (name, changes) in [("unmodified", &[][..]), ("formulas", FORMULAS), ("handed", HANDED)] {
+        let text = changed(&longdust, changes);
+        write(&out.join(format!("{name}.rs")), &changed(&text, &[TELLING]));
+        write(&out.join(format!("{name}_raised.rs")), &changed(&text, &[RAISED]));
+    }
+    let handed = changed(&changed(&longdust, HANDED), &[RAISED]);
     let mut list = String::new();
     for change in WRONG {
         let file = format!("wrong_{}.rs", change.0);

@@ -1,9 +1,10 @@
 //! Letters per second of both on the same synthetic genomes, as ratios.
 
 use crate::genomes;
-use crate::original::{floats, formulas, handed};
+use crate::original::{floats, formulas, handed, handed_raised, masked, Masked};
 use crate::port::{Buffers, Port};
 use crate::request::{Answer, Request, Tables};
+use std::cell::Cell;
 
 /// A synthetic genome of this seed and number of letters.
 type Genome = fn(u64, usize) -> Vec<u8>;
@@ -52,6 +53,8 @@ pub struct Turn {
     pub port_seconds: f64,
     /// The original's mask.
     pub mask: Vec<(usize, usize)>,
+    /// Whether a find began before the first letter, so that starts were raised to 0.
+    pub before_first: bool,
     pub same: bool,
 }
 
@@ -59,13 +62,24 @@ pub struct Turn {
 pub fn turn(port: Port, request: &Request, buffers: &mut Buffers) -> Turn {
     let Tables::Given { ln, f } = &request.tables else { unreachable!("a turn hands tables in") };
     let (ln, f) = (floats(ln), floats(f));
+    let original_seconds = Cell::new(0.0);
+    let as_it_stands = || {
+        let (ln, f) = (ln.clone(), f.clone());
+        let start = processor_seconds();
+        let mask = handed::Longdust::process(&request.sequence, handed::options(request), ln, f);
+        original_seconds.set(processor_seconds() - start);
+        mask
+    };
+    let raised = || {
+        handed_raised::Longdust::process(&request.sequence, handed_raised::options(request), ln.clone(), f.clone())
+    };
+    let Masked { intervals: mask, before_first } = masked(as_it_stands, raised);
     let start = processor_seconds();
-    let mask = handed::Longdust::process(&request.sequence, handed::options(request), ln, f);
-    let between = processor_seconds();
     let said = port(request, buffers);
-    let (original_seconds, port_seconds) = (between - start, processor_seconds() - between);
+    let port_seconds = processor_seconds() - start;
     let expected = Answer::Accepted { in_range: true, intervals: mask.clone() };
-    Turn { original_seconds, port_seconds, mask, same: buffers.answer(said) == Ok(expected) }
+    let same = buffers.answer(said) == Ok(expected);
+    Turn { original_seconds: original_seconds.into_inner(), port_seconds, mask, before_first, same }
 }
 
 /// Median seconds of both on the same request, turns taken.

@@ -3,6 +3,7 @@
 use crate::bench;
 use crate::original::refusal_before_sizes;
 use crate::port::{difference, Buffers, Port};
+use crate::random::kinds;
 use crate::request::{number, Request};
 use std::fs;
 
@@ -70,7 +71,7 @@ pub fn command(port: Port, words: &[&str]) -> Result<(u64, u64), String> {
             _ => files.push(word),
         }
     }
-    let (mut passed, mut failed, mut sum) = (0, 0, Sum::default());
+    let (mut passed, mut failed, mut accepted, mut before_first, mut sum) = (0, 0, 0, 0, Sum::default());
     println!(
         "k {kmer}, other options the defaults, formula tables lent to both; one turn, original first; processor time"
     );
@@ -96,6 +97,8 @@ pub fn command(port: Port, words: &[&str]) -> Result<(u64, u64), String> {
                     };
                     record.print(&name, turn.same);
                     sum.add(&record);
+                    accepted += 1;
+                    before_first += turn.before_first as u64;
                     turn.same
                 }
             };
@@ -104,6 +107,7 @@ pub fn command(port: Port, words: &[&str]) -> Result<(u64, u64), String> {
         }
     }
     sum.print("all", true);
+    println!("{}", kinds(accepted, before_first));
     Ok((passed, failed))
 }
 

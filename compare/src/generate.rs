@@ -222,6 +222,16 @@ fn vary(rng: &mut Rng, request: &mut Request) {
     }
 }
 
+/// A repeat from the first letter on, as long as the window and a k-mer or less: an extension then often leads to a find
+/// that begins before the first letter.
+fn begin_with_repeat(rng: &mut Rng, request: &mut Request) {
+    let period = 1 + rng.below(2);
+    let unit = letters(rng, period, b"ACGT");
+    let most = (request.window_size + rng.below(request.kmer + 1)).min(request.sequence.len());
+    let repeat = tandem(rng, &unit, most, 0);
+    request.sequence[..most].copy_from_slice(&repeat);
+}
+
 /// Sizes of a random request: small ones nearly always, every k and wide windows now and then.
 fn measures(rng: &mut Rng) -> (usize, usize, usize) {
     if rng.one_in(3) {
@@ -296,6 +306,9 @@ pub fn request(seed: u64, number: u64) -> Request {
     let rng = &mut Rng::new(seed, number);
     let (k, w, n) = measures(rng);
     let mut request = accepted(rng, k, w, n);
+    if rng.one_in(4) {
+        begin_with_repeat(rng, &mut request);
+    }
     vary(rng, &mut request);
     if rng.one_in(3) {
         for slice in 0..SLICES {

@@ -1,10 +1,12 @@
 //! The reference: the original's checks and the paper's two more, then the original itself, in three variants.
 //!
 //! `unmodified` is the original's text as it stands; `formulas` takes ln, exp and powi by the paper's
-//! formulas; `handed` takes both tables as arguments. build.rs makes them.
+//! formulas; `handed` takes both tables as arguments. Each tells of finds that begin before the first letter;
+//! where one does, the reference is the variant's twin in which such starts are raised to 0. build.rs makes them.
 
 use crate::port::Buffers;
 use crate::request::{Answer, Request, Tables, SLICES};
+use std::cell::Cell;
 
 /// Gives a variant its options, and the two tables it would make for a request, as float bits.
 macro_rules! variant {
@@ -56,6 +58,40 @@ pub(crate) use variant;
 variant!(unmodified, "/unmodified.rs");
 variant!(formulas, "/formulas.rs");
 variant!(handed, "/handed.rs");
+variant!(unmodified_raised, "/unmodified_raised.rs");
+variant!(formulas_raised, "/formulas_raised.rs");
+variant!(handed_raised, "/handed_raised.rs");
+
+thread_local! {
+    /// Whether a find of the run at hand began before the first letter.
+    static BEFORE_FIRST: Cell<bool> = const { Cell::new(false) };
+}
+
+/// What the variants call with the start of each find.
+pub fn tell_start(start: i64) {
+    if start < 0 {
+        BEFORE_FIRST.set(true);
+    }
+}
+
+/// A mask, and whether a find of the run began before the first letter.
+pub struct Masked {
+    pub intervals: Vec<(usize, usize)>,
+    pub before_first: bool,
+}
+
+/// A variant as it stands; where it tells of a find before the first letter, its twin.
+pub fn masked(
+    as_it_stands: impl Fn() -> Vec<(usize, usize)>,
+    raised: impl Fn() -> Vec<(usize, usize)>,
+) -> Masked {
+    BEFORE_FIRST.set(false);
+    let intervals = as_it_stands();
+    match BEFORE_FIRST.get() {
+        false => Masked { intervals, before_first: false },
+        true => Masked { intervals: raised(), before_first: true },
+    }
+}
 
 /// The original knows no U: it is fed T for each U and t for each u.
 pub fn with_t(sequence: &[u8]) -> Vec<u8> {
@@ -147,13 +183,15 @@ fn in_range(request: &Request, ln: &[u64], f: &[u64]) -> bool {
 /// The reference's answer, and the tables that the port must have filled.
 pub struct Reference {
     pub answer: Answer,
+    /// Whether a find began before the first letter, so that starts were raised to 0.
+    pub before_first: bool,
     pub filled: Option<(Vec<u64>, Vec<u64>)>,
 }
 
 /// Answers a request that lends these buffers, as they are before the call.
 pub fn reference(request: &Request, lent: &Buffers) -> Reference {
     if let Some(number) = refusal(request, &lent.lengths()) {
-        return Reference { answer: Answer::Refused(number), filled: None };
+        return Reference { answer: Answer::Refused(number), before_first: false, filled: None };
     }
     let (letters, w) = (&with_t(&request.sequence)[..], request.window_size);
     let filled = (request.tables == Tables::Formula).then(|| formulas::tables(request));
@@ -161,11 +199,20 @@ pub fn reference(request: &Request, lent: &Buffers) -> Reference {
         Some((ln, f)) => (&ln[..], &f[..]),
         None => (&lent.ln.now[..w + 1], &lent.f.now[..w + 2]),
     };
-    let intervals = match request.tables {
-        Tables::Formula => formulas::Longdust::process(letters, formulas::options(request)),
-        Tables::Own => unmodified::Longdust::process(letters, unmodified::options(request)),
-        Tables::Given { .. } => handed::Longdust::process(letters, handed::options(request), floats(ln), floats(f)),
+    let Masked { intervals, before_first } = match request.tables {
+        Tables::Formula => masked(
+            || formulas::Longdust::process(letters, formulas::options(request)),
+            || formulas_raised::Longdust::process(letters, formulas_raised::options(request)),
+        ),
+        Tables::Own => masked(
+            || unmodified::Longdust::process(letters, unmodified::options(request)),
+            || unmodified_raised::Longdust::process(letters, unmodified_raised::options(request)),
+        ),
+        Tables::Given { .. } => masked(
+            || handed::Longdust::process(letters, handed::options(request), floats(ln), floats(f)),
+            || handed_raised::Longdust::process(letters, handed_raised::options(request), floats(ln), floats(f)),
+        ),
     };
     let in_range = in_range(request, ln, f);
-    Reference { answer: Answer::Accepted { in_range, intervals }, filled }
+    Reference { answer: Answer::Accepted { in_range, intervals }, before_first, filled }
 }

@@ -1,5 +1,6 @@
 //! Both sides on random requests, with a summary, and a small request for each of the first differences.
 
+use crate::original::Reference;
 use crate::port::{difference, Port};
 use crate::request::{Answer, Request, Tables};
 use std::sync::atomic::{AtomicU64, Ordering};
@@ -21,6 +22,8 @@ pub struct Summary {
     masked: u64,
     unmasked: u64,
     in_range: u64,
+    /// Accepted, and a find began before the first letter.
+    pub before_first: u64,
     /// Accepted with formula, own and given tables.
     tables: [u64; 3],
     /// Accepted for each k.
@@ -28,14 +31,15 @@ pub struct Summary {
 }
 
 impl Summary {
-    fn add(&mut self, request: &Request, answer: &Answer) {
-        let (in_range, intervals) = match answer {
+    fn add(&mut self, request: &Request, reference: &Reference) {
+        let (in_range, intervals) = match &reference.answer {
             Answer::Refused(number) => return self.refused[*number as usize] += 1,
             Answer::Accepted { in_range, intervals } => (in_range, intervals),
         };
         self.unmasked += intervals.is_empty() as u64;
         self.masked += !intervals.is_empty() as u64;
         self.in_range += *in_range as u64;
+        self.before_first += reference.before_first as u64;
         self.kmers[request.kmer] += 1;
         self.tables[match request.tables {
             Tables::Formula => 0,
@@ -53,8 +57,13 @@ impl Summary {
         self.masked += other.masked;
         self.unmasked += other.unmasked;
         self.in_range += other.in_range;
+        self.before_first += other.before_first;
         self.failed.extend(other.failed);
         self
+    }
+
+    pub fn accepted(&self) -> u64 {
+        self.masked + self.unmasked
     }
 
     pub fn print(&self) {
@@ -62,11 +71,18 @@ impl Summary {
             let each = (1..).zip(&counts[1..]).map(|(number, count)| format!(" {number}: {count}"));
             each.collect::<String>()
         };
-        println!("accepted {}, masked {}, flag yes {}", self.masked + self.unmasked, self.masked, self.in_range);
+        println!("accepted {}, masked {}, flag yes {}", self.accepted(), self.masked, self.in_range);
+        println!("{}", kinds(self.accepted(), self.before_first));
         println!("accepted by tables, formula {}, own {}, given {}", self.tables[0], self.tables[1], self.tables[2]);
         println!("accepted by k{}", list(&self.kmers));
         println!("refused by number{}", list(&self.refused));
     }
+}
+
+/// How many accepted requests were held against the original as it stands, and how many against it with starts raised.
+pub fn kinds(accepted: u64, before_first: u64) -> String {
+    let as_it_stands = accepted - before_first;
+    format!("held against the original as it stands {as_it_stands}, with starts raised to 0 {before_first}")
 }
 
 /// The request of this number in the list of a seed.
@@ -84,7 +100,7 @@ pub fn run(port: Port, list: List, seed: u64, count: u64) -> Summary {
             }
             let request = list(seed, number);
             let (reference, differs) = difference(port, &request);
-            summary.add(&request, &reference.answer);
+            summary.add(&request, &reference);
             match differs {
                 None => summary.passed += 1,
                 Some(_) => summary.failed.push(number),

@@ -2,19 +2,22 @@
 
 use crate::genomes;
 use crate::port::{difference, Port};
+use crate::random::kinds;
 use crate::request::{Answer, Gc, Request, Tables, SLICES};
-use std::sync::atomic::{AtomicUsize, Ordering};
+use std::sync::atomic::{AtomicU64, AtomicUsize, Ordering};
 use std::sync::Mutex;
 use std::thread;
 
-/// Runs both on each named request, two at a time, and prints those that differ.
+/// Runs both on each named request, two at a time, and prints those that differ, and how many were of which kind.
 fn compare_all(port: Port, requests: &[(String, Request)]) -> (u64, u64) {
-    let (next, failed) = (AtomicUsize::new(0), Mutex::new(0));
+    let (next, failed, before_first) = (AtomicUsize::new(0), Mutex::new(0), AtomicU64::new(0));
     let work = || loop {
         let Some((name, request)) = requests.get(next.fetch_add(1, Ordering::Relaxed)) else {
             return;
         };
-        if let Some(differs) = difference(port, request).1 {
+        let (reference, differs) = difference(port, request);
+        before_first.fetch_add(reference.before_first as u64, Ordering::Relaxed);
+        if let Some(differs) = differs {
             *failed.lock().unwrap() += 1;
             println!("{name}: {differs}");
         }
@@ -24,10 +27,11 @@ fn compare_all(port: Port, requests: &[(String, Request)]) -> (u64, u64) {
         scope.spawn(work);
     });
     let failed = failed.into_inner().unwrap();
+    println!("{}", kinds(requests.len() as u64, before_first.into_inner()));
     (requests.len() as u64 - failed, failed)
 }
 
-/// The paper's cases, each with the answer that the paper says.
+/// The paper's cases, each with the answer that the paper and the requests say.
 pub fn cases(port: Port) -> (u64, u64) {
     let none: &[(usize, usize)] = &[];
     let runs_of_a: [(usize, &[(usize, usize)]); 10] = [
@@ -35,11 +39,11 @@ pub fn cases(port: Port) -> (u64, u64) {
         (10, &[(0, 10)]),
         (20, &[(0, 20)]),
         (5000, &[(0, 5000)]),
-        (5001, none),
-        (5002, none),
-        (5003, none),
-        (5004, none),
-        (5005, none),
+        (5001, &[(0, 5001)]),
+        (5002, &[(0, 5002)]),
+        (5003, &[(0, 5003)]),
+        (5004, &[(0, 5004)]),
+        (5005, &[(0, 5005)]),
         (5006, &[(0, 5006)]),
     ];
     let mut cases = Vec::new();
@@ -78,14 +82,17 @@ pub fn cases(port: Port) -> (u64, u64) {
         cases.push((request, answer));
     }
 
-    let mut failed = 0;
+    let (mut failed, mut accepted, mut before_first) = (0, 0, 0);
     for (request, expected) in &cases {
         let (reference, differs) = difference(port, request);
+        accepted += matches!(expected, Answer::Accepted { .. }) as u64;
+        before_first += reference.before_first as u64;
         if differs.is_some() || reference.answer != *expected {
             failed += 1;
             println!("{request}# the paper: {expected}# original: {}# {differs:?}", reference.answer);
         }
     }
+    println!("{}", kinds(accepted, before_first));
     (cases.len() as u64 - failed, failed)
 }
 

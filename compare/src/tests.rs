@@ -63,6 +63,14 @@ fn the_recorded_list_tells_every_wrong_original() {
     assert_eq!(not_told(record::requests().into_iter()), [""; 0]);
 }
 
+/// Both kinds are frequent: runs without a find before the first letter, and runs with one.
+#[test]
+fn random_requests_reach_both_kinds() {
+    let summary = run(right, generate::request, 5, 20_000);
+    let (accepted, before_first) = (summary.accepted(), summary.before_first);
+    assert!(before_first * 20 >= accepted && before_first * 2 <= accepted, "{before_first} of {accepted}");
+}
+
 /// Reads the recorded list as its form says.
 struct Reader<'a>(&'a [u8]);
 

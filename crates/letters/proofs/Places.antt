@@ -1,8 +1,8 @@
--- The places of a strand: their number, the list taken apart at one of them, and that every k-mer lies below 4 ^ k.
-use mathlib.Core.Path.{_≡_, refl, ap, ap₂, _∙_}
+-- The places of a strand: their number, the list taken apart at one of them, that every k-mer lies below 4 ^ k, and that a plain place has k letters up to it.
+use mathlib.Core.Path.{_≡_, refl, ap, ap₂, _∙_, subst}
 use mathlib.Core.Bool.{Bool, true, false, cond}
 use mathlib.Core.List.{List, _∷_}
-use Prim.Native.Nat.{ℕ, zero, suc, _+_, _^_, _<_}
+use Prim.Native.Nat.{ℕ, zero, suc, _+_, _^_, _≤_, _<_}
 use native.Mathlib.Nat.{pow-suc}
 use native.Mathlib.Omega.{arith}
 use lib.Dec.{T, ltb, ltb→lt}
@@ -11,7 +11,7 @@ use lib.ListN.{length, getD, drop}
 use lib.Seq.{drop-cons}
 use Rattle.buffers.specs.Fill.{tabulate, tabulateFrom}
 use Rattle.buffers.proofs.Tabulate.{tabulate-length, tabulate-at}
-use Rattle.letters.specs.Place.{Place, ambiguous, plain, packed, allPlain, placeAt, placesFrom, places, BelowAt, Below}
+use Rattle.letters.specs.Place.{Place, ambiguous, plain, packed, allPlain, placeAt, placesFrom, places, BelowAt, Below, ReadAt, ReadFrom}
 
 from-tabulate : (k : ℕ) (s : List ℕ) (p m : ℕ) → placesFrom k s p m ≡ tabulateFrom (placeAt k s) m p
 unfolding placesFrom tabulateFrom
@@ -59,3 +59,26 @@ from-below k s p (suc m) = (place-below k s p, from-below k s (suc p) m)
 pub places-below : (k : ℕ) (s : List ℕ) → Below (4 ^ k) (places k s)
 unfolding places
 places-below k s = from-below k s 0 (length s)
+
+plain-read : (s : List ℕ) (m j : ℕ) → T (allPlain s m j) → j ≤ m
+unfolding allPlain
+plain-read s m zero h = omega arith
+plain-read s zero (suc j) h = absurd h
+plain-read s (suc m) (suc j) h = let r = plain-read s m j (and-r (ltb (getD s m 4) 4) (allPlain s m j) h) in omega arith
+
+pub place-read : (k : ℕ) (s : List ℕ) (p : ℕ) → ReadAt k p (placeAt k s p)
+unfolding placeAt
+place-read k s p = go (allPlain s (suc p) k) (plain-read s (suc p) k)
+  where
+    go : (t : Bool) → (T t → k ≤ suc p) → ReadAt k p (cond t (plain (packed s (suc p) k)) ambiguous)
+    go true h = let l = h tt in omega arith
+    go false h = tt
+
+from-read : (k : ℕ) (s : List ℕ) (p m : ℕ) → ReadFrom k p (placesFrom k s p m)
+unfolding placesFrom
+from-read k s p zero = tt
+from-read k s p (suc m) = (place-read k s p, subst (λ (q : ℕ). ReadFrom k q (placesFrom k s (suc p) m)) (let e : suc p ≡ p + 1 = omega arith in e) (from-read k s (suc p) m))
+
+pub places-read : (k : ℕ) (s : List ℕ) → ReadFrom k 0 (places k s)
+unfolding places
+places-read k s = from-read k s 0 (length s)

@@ -1,5 +1,5 @@
 -- The paper, 'Letters and places': the places of a strand and their k-mers. `s` is the strand's list of codes.
-use Prim.Native.Nat.{ℕ, zero, suc, _+_, _*_, _<_}
+use Prim.Native.Nat.{ℕ, zero, suc, _+_, _*_, _≤_, _<_}
 use mathlib.Core.Bool.{Bool, true, false, cond, _&&_}
 use mathlib.Core.List.{List, [], _∷_}
 use lib.ListN.{length, getD}
@@ -41,3 +41,13 @@ BelowAt m (plain x) = x < m
 abbrev pub Below : ℕ → List Place → Type 0
 Below m [] = Unit {0}
 Below m (p ∷ ps) = BelowAt m p × Below m ps
+
+-- A term of laws: a plain place p has k letters up to it.
+abbrev pub ReadAt : ℕ → ℕ → Place → Type 0
+ReadAt k p ambiguous = Unit {0}
+ReadAt k p (plain x) = k ≤ p + 1
+
+-- The places from p on have.
+abbrev pub ReadFrom : ℕ → ℕ → List Place → Type 0
+ReadFrom k p [] = Unit {0}
+ReadFrom k p (e ∷ es) = ReadAt k p e × ReadFrom k (p + 1) es

@@ -4,7 +4,7 @@ use Prim.Native.Nat.{ℕ, suc, _+_, _*_, _≤_, _<_}
 use native.Mathlib.Nat.{mul-le-mul-right}
 use native.Mathlib.Omega.{arith}
 use mathlib.Core.Logic.{⊎-elim}
-use mathlib.Core.Bool.{cond, _||_}
+use mathlib.Core.Bool.{cond}
 use mathlib.Core.List.{List, [], _∷_}
 use lib.ListN.{length, drop, length-drop}
 use lib.Dec.{T, leb, leb→le, nleb→lt, ltb→lt}
@@ -13,9 +13,8 @@ use lib.Signed.{ltZ}
 use lib.Ieee.{binary64}
 use Rattle.floats.proofs.Binary64.{near-as}
 use Rattle.floats.proofs.Sums.{err, half, err-small, zero-near}
-use Rattle.floats.proofs.Whole.{Is}
 use Rattle.floats.proofs.Rounded.{Near, eps}
-use Rattle.letters.specs.Place.{Place, ambiguous, plain, Below}
+use Rattle.letters.specs.Place.{Place, ambiguous, plain, Below, ReadAt, ReadFrom}
 use Rattle.intervals.specs.Interval.{Interval, Covers}
 use Rattle.intervals.proofs.Order.{lt-or-le}
 use Rattle.intervals.proofs.Saving.{save-covers}
@@ -27,10 +26,10 @@ use Rattle.scans.proofs.Test.{by-test}
 use Rattle.scans.proofs.Gain.{InRange, gain, loss, gain-none}
 use Rattle.scans.proofs.Evidence.{evidence}
 use Rattle.scans.proofs.ForwardScore.{forward-inside, forward-find}
-use Rattle.strand.specs.Step.{Run, begin, sumWithout, withoutOldest, leave, join, search, st2, startAfter, whole, saveFrom, savedAfter, foundBy, found, look, step, runFrom, run, intervalsOfPlaces}
+use Rattle.strand.specs.Step.{Run, begin, sumWithout, withoutOldest, leave, join, search, firstLetter, startAfter, whole, saveFrom, savedAfter, foundBy, found, look, step, runFrom, run, intervalsOfPlaces}
 use Rattle.strand.proofs.Finds.{search-facts}
 use Rattle.strand.specs.Terms.Running.{Shaped}
-use Rattle.strand.proofs.Shape.{ShapedAt, st2-is, begin-shaped, leave-shaped, join-shaped, join-some, step-shaped}
+use Rattle.strand.proofs.Shape.{ShapedAt, first-is, begin-shaped, leave-shaped, join-shaped, join-some, step-shaped}
 use Rattle.strand.proofs.WindowSum.{leave-near, join-near, window-above}
 use Rattle.strand.proofs.Placing.{Placed, placed-room, placed-leave, placed-join, placed-below, placed-lengths, placed-stretch}
 
@@ -50,7 +49,7 @@ module _ (S : Setup) (R : InRange S) (ps : List Place) (B : Below (kmers S) ps) 
   abbrev w : ℕ
   w = S .window-size
 
-  -- The letters from st2 to the newest lie in the stretch of a backed find.
+  -- The letters from its first to the newest lie in the stretch of a backed find.
   stretch-evidence : (i j : ℕ) (q rest : List Place) → Placed ps (suc w) i q rest → j < length q → loss S (length (drop j q)) ≤ gain S (drop j q) + err (off S ps)
       → (x : ℕ) → i + j + 1 ≤ length q + x + S .kmer → x < i → Evidence S ps x
   stretch-evidence i j q rest p h l x from to =
@@ -170,8 +169,8 @@ module _ (S : Setup) (R : InRange S) (ps : List Place) (B : Below (kmers S) ps) 
     evidenced-find k start end s saved h g f =
         record {
           in-saved = by-test (λ (l : List Interval). (x : ℕ) → Covers l x → Evidence S ps x) (ltZ s end) saved (saveFrom saved start end) (λ _. g .in-saved) (λ _. saved-evidence k i start end saved h g);
-          in-open = by-test (λ (z : ℤ). (x : ℕ) → Open z (pos (i + 1)) x → Evidence S ps x) (ltZ s end) (cond (ltZ start (pos 0) || ltZ s start) s start) s
-              (λ t. by-test (λ (z : ℤ). (x : ℕ) → Open z (pos (i + 1)) x → Evidence S ps x) (ltZ start (pos 0) || ltZ s start) s start
+          in-open = by-test (λ (z : ℤ). (x : ℕ) → Open z (pos (i + 1)) x → Evidence S ps x) (ltZ s end) (cond (ltZ s start) s start) s
+              (λ t. by-test (λ (z : ℤ). (x : ℕ) → Open z (pos (i + 1)) x → Evidence S ps x) (ltZ s start) s start
               (λ _. open-new s f) (λ _. open-old start s end t f (g .in-open)))
               (λ _. open-new s f);
         }
@@ -180,9 +179,8 @@ module _ (S : Setup) (R : InRange S) (ps : List Place) (B : Below (kmers S) ps) 
   abbrev EvidencedAt : Run → Type 0
   EvidencedAt a = Evidenced (a .start) (a .end) (a .saved)
 
-  from-st2 : (z : ℤ) (i j len k x : ℕ) → Is z (i + j + 2) (len + k) → From z x → i + j + 2 ≤ len + k + x
-  from-st2 (pos s) i j len k x h f = omega arith
-  from-st2 (negsuc s) i j len k x h f = omega arith
+  from-first : (i j len k x : ℕ) → From (firstLetter k i len j) x → i + j + 2 ≤ len + k + x
+  from-first i j len k x f = let g = subst (λ (z : ℤ). From z x) (first-is k i len j) f in omega arith
 
   found-evidenced : (i : ℕ) (a : Run) (rest : List Place) (counts : List ℕ) (f : Find) → Tracked (suc w) (i + 1) (err (i + 1)) a rest → Backed S (off S ps) (a .window) f → ShapedAt S i a → EvidencedAt a
       → EvidencedAt (foundBy S i a counts f)
@@ -191,9 +189,9 @@ module _ (S : Setup) (R : InRange S) (ps : List Place) (B : Below (kmers S) ps) 
   found-evidenced i a rest counts (at j) p b h g =
       let q : List Place = a .window in
       let k : ℕ = S .kmer in
-      evidenced-find i k (a .start) (a .end) (st2 k i (length q) j) (a .saved) h g
+      evidenced-find i k (a .start) (a .end) (firstLetter k i (length q) j) (a .saved) h g
       (λ x f l.
-      let y = from-st2 (st2 k i (length q) j) i j (length q) k x (st2-is k i (length q) j) f in
+      let y = from-first i j (length q) k x f in
       stretch-evidence (i + 1) j q rest (p .stands) (b .0) (b .1) x (omega arith) l)
 
   look-evidenced : (i : ℕ) (a : Run) (e : Place) (rest : List Place) → 0 < length (a .window) → Tracked (suc w) (i + 1) (err (i + 1)) a rest → ShapedAt S i a → EvidencedAt a → EvidencedAt (look S i a e)
@@ -223,24 +221,24 @@ module _ (S : Setup) (R : InRange S) (ps : List Place) (B : Below (kmers S) ps) 
     shaped : ShapedAt S i a
     evidenced : EvidencedAt a
 
-  step-sound : (i : ℕ) (a : Run) (e : Place) (rest : List Place) → Sound i a (e ∷ rest) → Sound (i + 1) (step S i a e) rest
+  step-sound : (i : ℕ) (a : Run) (e : Place) (rest : List Place) → ReadAt (S .kmer) i e → Sound i a (e ∷ rest) → Sound (i + 1) (step S i a e) rest
   unfolding step
-  step-sound i a e rest h =
+  step-sound i a e rest r h =
       let b : Run = join S (leave S a) e in
       let p : Tracked (suc w) (i + 1) (err (i + 1)) b rest = join-tracked i (leave S a) e rest (leave-tracked i a (e ∷ rest) (h .tracked)) in
       let s : ShapedAt S i b = join-shaped S i (leave S a) e (leave-shaped S i a (h .shaped)) in
       let g : EvidencedAt b = join-evidenced (leave S a) e (leave-evidenced a (h .evidenced)) in
       record {
         tracked = look-tracked i (i + 1) (err (i + 1)) b e rest p;
-        shaped = step-shaped S i a e (h .shaped);
+        shaped = step-shaped S i a e r (h .shaped);
         evidenced = look-evidenced i b e rest (join-some S (leave S a) e) p s g;
       }
 
-  run-sound : (i : ℕ) (a : Run) (es : List Place) → Sound i a es → Sound (i + length es) (runFrom S i a es) []
+  run-sound : (i : ℕ) (a : Run) (es : List Place) → ReadFrom (S .kmer) i es → Sound i a es → Sound (i + length es) (runFrom S i a es) []
   unfolding runFrom
-  run-sound i a [] h = subst (λ (z : ℕ). Sound z a []) (omega arith) h
-  run-sound i a (e ∷ es) h =
-      subst (λ (z : ℕ). Sound z (runFrom S (i + 1) (step S i a e) es) []) (omega arith) (run-sound (i + 1) (step S i a e) es (step-sound i a e es h))
+  run-sound i a [] r h = subst (λ (z : ℕ). Sound z a []) (omega arith) h
+  run-sound i a (e ∷ es) r h =
+      subst (λ (z : ℕ). Sound z (runFrom S (i + 1) (step S i a e) es) []) (omega arith) (run-sound (i + 1) (step S i a e) es (r .1) (step-sound i a e es (r .0) h))
 
   begin-sound : Sound 0 (begin S) ps
   unfolding begin
@@ -251,9 +249,9 @@ module _ (S : Setup) (R : InRange S) (ps : List Place) (B : Below (kmers S) ps) 
         evidenced = record { in-saved = λ x c. absurd c; in-open = λ x c. absurd c };
       }
 
-  pub places-evidence : (x : ℕ) → Covers (intervalsOfPlaces S ps) x → Evidence S ps x
+  pub places-evidence : ReadFrom (S .kmer) 0 ps → (x : ℕ) → Covers (intervalsOfPlaces S ps) x → Evidence S ps x
   unfolding intervalsOfPlaces run
-  places-evidence x c =
+  places-evidence r x c =
       let a : Run = run S ps in
-      let h : Sound (0 + length ps) a [] = run-sound 0 (begin S) ps begin-sound in
+      let h : Sound (0 + length ps) a [] = run-sound 0 (begin S) ps r begin-sound in
       saved-evidence (S .kmer) (0 + length ps) (a .start) (a .end) (a .saved) (h .shaped) (h .evidenced) x c

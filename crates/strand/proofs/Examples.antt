@@ -1,17 +1,24 @@
--- A find that a run makes by a scan: the two places of `twice`, by the setup `tied`, at the second letter.
-use mathlib.Core.Path.{refl}
+-- A find that a run makes by a scan: the two places of `twice`, by the setup `tied`, at the second letter. A find that begins before the first letter.
+use mathlib.Core.Path.{_≡_, refl}
 use Prim.Native.Nat.{ℕ, zero, suc, _≤_}
 use native.Mathlib.Omega.{arith}
+use mathlib.Core.Bool.{false}
 use mathlib.Core.List.{[], _∷_}
 use lib.Dec.{T}
+use lib.IntN.{pos}
 use lib.Ieee.{binary64, fits, ofBits, ofFields, ofInt, add, sub, mul, neg, lt, le}
-use Rattle.letters.specs.Place.{plain}
-use Rattle.scans.specs.Setup.{lnAt, fAt}
+use Rattle.floats.specs.Binary64.{number, half64}
+use Rattle.letters.specs.Place.{plain, packed, allPlain, placeAt, placesFrom, places}
+use Rattle.intervals.specs.Interval.{interval}
+use Rattle.intervals.specs.Save.{staying, save}
+use Rattle.scans.specs.Setup.{Setup, lnAt, fAt}
 use Rattle.scans.specs.Scans.{ifBackwardFrom, ifBackward, extends, backwardFrom, forwardFrom, dustForward, tryFrom, tried, dustBackward}
 use Rattle.scans.proofs.Examples.{tied, twice}
-use Rattle.strand.specs.Step.{begin, leave, join, windowScore, extendTried, search, foundBy, found, look, step, runFrom, run}
+use Rattle.strand.specs.Step.{begin, leave, join, windowScore, extendTried, search, foundBy, found, look, step, runFrom, run, intervalsOfPlaces, intervalsOf}
 use Rattle.strand.specs.Range.{tableInRange, inRange, CheckedSetup}
 use Rattle.strand.specs.ScanFind.{lookedFrom, FoundByScan}
+use Rattle.strand.specs.Dropping.{foundDropping, stepDropping, runDropping, intervalsDropping}
+use Rattle.strand.specs.Terms.Searching.{lookBy}
 
 twice-found : FoundByScan tied twice 0 2
 unfolding lookedFrom begin leave join windowScore extendTried search foundBy found look step runFrom run ifBackwardFrom ifBackward extends backwardFrom forwardFrom dustForward tryFrom tried dustBackward ofBits ofFields ofInt add sub mul neg lt le
@@ -59,3 +66,28 @@ tied-checked =
     f-fits (suc zero) h = tt
     f-fits (suc (suc zero)) h = tt
     f-fits (suc (suc (suc l))) h = absurd (omega arith)
+
+-- Five A, k = 3 and a window of four places: the fifth letter extends the find to the oldest place, 1, whose k-mer begins before the first letter.
+abbrev short-window : Setup
+short-window =
+    record {
+      kmer = 3;
+      window-size = 4;
+      score-threshold = half64;
+      min-start-cnt = 2;
+      drop-limit = number 2;
+      approx = false;
+      max-test = pos 0;
+      ln = number 0 ∷ number 0 ∷ number 1 ∷ number 2 ∷ number 3 ∷ [];
+      f = number 0 ∷ number 0 ∷ number 0 ∷ number 0 ∷ number 0 ∷ number 0 ∷ [];
+    }
+
+five-a : intervalsOf short-window (0 ∷ 0 ∷ 0 ∷ 0 ∷ 0 ∷ []) ≡ interval 0 5 ∷ []
+unfolding intervalsOf intervalsOfPlaces begin leave join windowScore extendTried search foundBy found look step runFrom run ifBackwardFrom ifBackward extends backwardFrom forwardFrom dustForward tryFrom tried dustBackward
+    packed allPlain placeAt placesFrom places staying save ofBits ofFields ofInt add sub mul neg lt le
+five-a = refl
+
+five-a-dropping : intervalsDropping short-window (0 ∷ 0 ∷ 0 ∷ 0 ∷ 0 ∷ []) ≡ []
+unfolding intervalsDropping begin leave join windowScore extendTried search foundBy lookBy foundDropping stepDropping runDropping ifBackwardFrom ifBackward extends backwardFrom forwardFrom dustForward tryFrom tried dustBackward
+    packed allPlain placeAt placesFrom places staying save ofBits ofFields ofInt add sub mul neg lt le
+five-a-dropping = refl

@@ -15,7 +15,7 @@ use Rattle.intervals.specs.Interval.{Interval}
 use Rattle.intervals.specs.Save.{save}
 use Rattle.scans.specs.Scans.{at}
 use Rattle.scans.specs.Terms.Window.{findOf}
-use Rattle.strand.specs.Step.{st2, startAfter, saveFrom, savedAfter}
+use Rattle.strand.specs.Step.{firstLetter, startAfter, saveFrom, savedAfter}
 use Rattle.strand.specs.declared.Window.{Window}
 use Rattle.strand.specs.declared.Open.{Open}
 use Rattle.strand.specs.Terms.Finding.{lastQBy, Closing, Found}
@@ -64,8 +64,8 @@ module _ {k i len r : ℕ} {o : Open} {saved : List Interval} where
   pub found-none : r ≡ 0 → Found k i len o o (findOf r) saved saved
   found-none h = rw h (record { start-is = refl; end-is = refl; saved-is = refl })
 
-  -- What the code hands on of start, end and st2, it reads back from their bits.
-  pub found-at : {s s₁ s₂ start₁ end₁ start end : ℤ} {count : ℕ} {saved′ : List Interval} → (r ≡ 0 → ⊥) → s ≡ st2 k i len (r - 1)
+  -- What the code hands on of start, end and the find's first letter, it reads back from their bits.
+  pub found-at : {s s₁ s₂ start₁ end₁ start end : ℤ} {count : ℕ} {saved′ : List Interval} → (r ≡ 0 → ⊥) → s ≡ firstLetter k i len (r - 1)
       → s₁ ≡ s → s₂ ≡ s → start₁ ≡ o .start → end₁ ≡ o .end
       → start ≡ startAfter start₁ end₁ s₁ → end ≡ pos (i + 1) → saved′ ≡ savedAfter saved (o .start) (o .end) s₂
       → Found k i len o (record { start = start; end = end; count = count }) (findOf r) saved saved′

@@ -23,7 +23,7 @@ use Rattle.scans.specs.declared.Carry.{Carry}
 use Rattle.scans.specs.Terms.Window.{window, findOf, Windowed}
 use Rattle.scans.proofs.Test.{by-test}
 use Rattle.scans.proofs.Windows.{long}
-use Rattle.strand.specs.Step.{Run, join, isAt, search, st2, startAfter, savedAfter, foundBy, found, look, step}
+use Rattle.strand.specs.Step.{Run, join, isAt, search, firstLetter, startAfter, savedAfter, foundBy, found, look, step}
 use Rattle.strand.specs.declared.Window.{Window}
 use Rattle.strand.specs.declared.Open.{Open}
 use Rattle.strand.specs.declared.State.{State}
@@ -41,7 +41,7 @@ module _ (S : Setup) (i : ℕ) (a : Run) where
   abbrev nothing : Outcome
   nothing = record { find = none; counts = a .counts }
 
-  look-is : (e : Place) → look S i a e ≡ foundBy S i a (lookBy S i a e .counts) (lookBy S i a e .find)
+  pub look-is : (e : Place) → look S i a e ≡ foundBy S i a (lookBy S i a e .counts) (lookBy S i a e .find)
   unfolding look lookBy found foundBy
   look-is ambiguous = refl
   look-is (plain x) = go (leb (S .min-start-cnt) (count x (a .window)))
@@ -91,7 +91,7 @@ module _ (S : Setup) (i : ℕ) (w : Window) (o o′ : Open) (ring counts counts�
       → heldBy (lastQBy (rescanned w live carry) find) o′ ring counts′ saved′ ≡ foundBy S i (heldBy w o ring counts saved) counts′ find
   unfolding foundBy by-start
   found-is live carry none h = rw (h .start-is, h .end-is, h .saved-is)
-  found-is live carry (at j) h = rw (h .start-is, h .end-is, h .saved-is) (ap (λ (len : ℕ). by-start j (st2 (S .kmer) i len j)) (sym n))
+  found-is live carry (at j) h = rw (h .start-is, h .end-is, h .saved-is) (ap (λ (len : ℕ). by-start j (firstLetter (S .kmer) i len j)) (sym n))
 
 -- Where the window stands does not change.
 last-q-head : (w : Window) (find : Find) → lastQBy w find .head ≡ w .head

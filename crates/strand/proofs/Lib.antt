@@ -13,6 +13,7 @@ pub mod Moving
 pub mod Searching
 pub mod Hand
 pub mod Letter
+pub mod Dropping
 pub mod ReadingOn
 pub mod Running
 pub mod KnownCounts

@@ -11,7 +11,7 @@ use lib.Ieee.{Float}
 use Rattle.letters.specs.Place.{placeAt, places}
 use Rattle.letters.specs.Terms.Entry.{decoded}
 use Rattle.letters.specs.Terms.Rolling.{kmerAfter, entryOf}
-use Rattle.letters.proofs.Places.{places-length}
+use Rattle.letters.proofs.Places.{places-length, place-read}
 use Rattle.letters.proofs.Rolling.{kmer-none}
 use Rattle.intervals.specs.Interval.{Interval}
 use Rattle.intervals.proofs.Slice.{length-list}
@@ -159,7 +159,7 @@ module _ {p : Params} {codes : List ℕ} {ln f : List Float} {a : State} {ring w
           read = record { i-in = omega (arith, t .i-is, l); kmer-is = t .kmer-is ∙ s .enters .kmer-is ∙ ap (kmerAfter (p .kmer) codes) (sym i-after); windowed = t .windowed; known = t .known };
           shaped = rw i-after
               (subst (λ (z : Run). ShapedAt S (i + 1) z) (sym (code .run-is))
-              (step-shaped S i b e (shaped-more (p .kmer) (a .i) i (s .before .hand .start) (s .before .hand .end) saved (s .skims .further) shaped)));
+              (step-shaped S i b e (place-read (p .kmer) codes i) (shaped-more (p .kmer) (a .i) i (s .before .hand .start) (s .before .hand .end) saved (s .skims .further) shaped)));
           count-in = count-in;
           real = step S i (x .real′) e;
           like = rw i-after (stepped saved (s .enters) at-end now (x .like));

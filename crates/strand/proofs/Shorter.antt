@@ -1,12 +1,12 @@
 -- Tables in range: a stretch that a run finds by a scan has no better shorter one from the same first place.
-use mathlib.Core.Path.{_≡_, sym, subst}
-use Prim.Native.Nat.{ℕ, suc, _+_}
+use mathlib.Core.Path.{_≡_, sym, ap, _∙_, subst}
+use Prim.Native.Nat.{ℕ, suc, _+_, _-_}
 use native.Mathlib.Omega.{arith}
 use mathlib.Core.Bool.{Bool, true, false, cond, not, _&&_}
 use mathlib.Core.List.{List, _∷_}
 use lib.ListN.{length, drop, length-drop}
 use lib.Dec.{T}
-use Rattle.floats.proofs.Whole.{Is, is-as}
+use lib.IntN.{pos}
 use Rattle.letters.specs.Place.{Place, plain, Below}
 use Rattle.scans.specs.Setup.{Setup, kmers}
 use Rattle.scans.specs.Counts.{raise}
@@ -14,9 +14,9 @@ use Rattle.scans.specs.Score.{stretch, NoBetterShorter}
 use Rattle.scans.specs.Scans.{none, at, Outcome, extends, ifBackward, dustBackward}
 use Rattle.scans.proofs.Gain.{InRange}
 use Rattle.scans.proofs.Shorter.{scan-no-better-shorter}
-use Rattle.strand.specs.Step.{Run, extendTried, search, st2, run}
+use Rattle.strand.specs.Step.{Run, extendTried, search, firstLetter, run}
 use Rattle.strand.specs.ScanFind.{lookedFrom, FoundByScan}
-use Rattle.strand.proofs.Shape.{st2-is}
+use Rattle.strand.proofs.Shape.{first-is}
 use Rattle.strand.proofs.Placing.{Placed, placed-below, placed-stretch, joined-placed, run-placed}
 
 -- A find without an extension is the backward scan's.
@@ -30,13 +30,11 @@ by-scan S i a x j t e =
     go false true o r t e = e
     go false false o r t e = let z : _≡_ {A = ℕ} 0 1 = cc in absurd (omega arith)
 
--- The run takes its letters from st2 = first - (k - 1) on.
+-- The run takes its letters from first - (k - 1) on, or from 0.
 pub found-start : (S : Setup) (ps : List Place) (first size : ℕ) (f : FoundByScan S ps first size)
-    → Is (st2 (S .kmer) (length (f .before)) (length (f .state .window)) (f .index)) (first + 1) (S .kmer)
+    → firstLetter (S .kmer) (length (f .before)) (length (f .state .window)) (f .index) ≡ pos (first + 1 - S .kmer)
 found-start S ps first size f =
-    let i : ℕ = length (f .before) in
-    let l : ℕ = length (f .state .window) in
-    is-as (st2 (S .kmer) i l (f .index)) (i + f .index + 2) (l + S .kmer) (first + 1) (S .kmer) (omega (arith, f .size-is, f .first-is)) (st2-is (S .kmer) i l (f .index))
+    first-is (S .kmer) (length (f .before)) (length (f .state .window)) (f .index) ∙ ap pos (omega (arith, f .size-is, f .first-is))
 
 pub found-no-better-shorter : (S : Setup) → InRange S → (ps : List Place) → Below (kmers S) ps → (first size : ℕ) → FoundByScan S ps first size → NoBetterShorter S (stretch ps first size)
 unfolding lookedFrom

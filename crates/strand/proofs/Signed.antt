@@ -17,17 +17,13 @@ use Rattle.letters.specs.Place.{Place}
 use Rattle.scans.specs.declared.Carry.{Carry}
 use Rattle.scans.specs.Counts.{lower}
 use Rattle.scans.specs.Terms.Carry.{noCarry}
-use Rattle.strand.specs.Step.{whole, countsWithout, lastQWithout, isAt, st2}
+use Rattle.strand.specs.Step.{whole, countsWithout, lastQWithout, isAt, firstLetter}
 use Rattle.strand.specs.Terms.KnownCounts.{carryWithout}
-use Rattle.strand.proofs.Shape.{st2-is}
+use Rattle.strand.proofs.Shape.{first-is}
 
 -- ---- What is read back.
 pub lt-back : {x y : ℤ} {b : Bool} → SFits w64 x → SFits w64 y → ltZ (toZ w64 (ofZ w64 x)) (toZ w64 (ofZ w64 y)) ≡ b → ltZ x y ≡ b
 lt-back fx fy h = rw (toZ-ofZ fx, toZ-ofZ fy) at h
-
-pub lt-back-or : {x y z : ℤ} {b : Bool} → SFits w64 x → SFits w64 y → SFits w64 z
-    → (ltZ (toZ w64 (ofZ w64 x)) (toZ w64 (ofZ w64 y)) || ltZ (toZ w64 (ofZ w64 z)) (toZ w64 (ofZ w64 x))) ≡ b → (ltZ x y || ltZ z x) ≡ b
-lt-back-or fx fy fz h = rw (toZ-ofZ fx, toZ-ofZ fy, toZ-ofZ fz) at h
 
 pub zero-fits : SFits w64 (pos 0)
 zero-fits = sfits-lit tt
@@ -69,22 +65,9 @@ pub past-is : (start : ℤ) (i len : ℕ) → leZ start (pos i -ℤ pos len) ≡
 past-is (pos s) i len = past-by (pos s) i len s 0 (omega arith)
 past-is (negsuc s) i len = past-by (negsuc s) i len 0 (suc s) (omega arith)
 
--- ---- st2 as one difference.
-is-same : (x y : ℤ) (a b : ℕ) → Is x a b → Is y a b → x ≡ y
-is-same (pos i) (pos j) a b h k = ap pos (omega arith)
-is-same (pos i) (negsuc j) a b h k = absurd (omega arith)
-is-same (negsuc i) (pos j) a b h k = absurd (omega arith)
-is-same (negsuc i) (negsuc j) a b h k = ap negsuc (omega arith)
-
-pub st2-once : (k i len r : ℕ) → 0 < r → pos (i + r + 1) -ℤ pos (len + k) ≡ st2 k i len (r - 1)
-st2-once k i len r h =
-    is-same (pos (i + r + 1) -ℤ pos (len + k)) (st2 k i len (r - 1)) (i + (r - 1) + 2) (len + k)
-    (is-as (pos (i + r + 1) -ℤ pos (len + k)) (i + r + 1 + 0) (0 + (len + k)) (i + (r - 1) + 2) (len + k) (omega arith)
-    (is-sub (pos (i + r + 1)) (pos (len + k)) (i + r + 1) 0 (len + k) 0 (omega arith) (omega arith)))
-    (st2-is k i len (r - 1))
-
-pub st2-fits : (k i len r : ℕ) → 0 < r → i < 2147483648 → len < 65536 → r ≤ len → k ≤ 12 → SFits w64 (st2 k i len (r - 1))
-st2-fits k i len r h a b c d = subst (λ (z : ℤ). SFits w64 z) (st2-once k i len r h) (diff-fits (i + r + 1) (len + k) (omega arith) (omega arith))
+-- ---- The first letter of a find.
+pub first-fits : (k i len r : ℕ) → 0 < r → i < 2147483648 → r ≤ len → SFits w64 (firstLetter k i len (r - 1))
+first-fits k i len r h a c = subst (λ (z : ℤ). SFits w64 z) (sym (first-is k i len (r - 1))) (record { sfits = omega arith })
 
 -- ---- last_q without the oldest entry.
 pub one-less-fits : (z : ℤ) → SFits w64 z → ltZ (pos 0) z ≡ true → SFits w64 (z -ℤ pos 1)

@@ -6,7 +6,7 @@ use mathlib.Core.List.{List}
 use lib.ListN.{length}
 use lib.Dec.{T}
 use Rattle.letters.specs.Place.{places}
-use Rattle.letters.proofs.Places.{places-length, places-below}
+use Rattle.letters.proofs.Places.{places-length, places-below, places-read}
 use Rattle.intervals.specs.Interval.{Canonical, Covers}
 use Rattle.intervals.proofs.Shape.{canonical-room}
 use Rattle.scans.specs.Setup.{Setup}
@@ -22,7 +22,7 @@ use Rattle.strand.proofs.Shorter.{found-no-better-shorter}
 pub strand-shape : (S : Setup) (codes : List ℕ) → Canonical (length codes) (S .kmer) (intervalsOf S codes)
 unfolding intervalsOf
 strand-shape S codes =
-    subst (λ (n : ℕ). Canonical n (S .kmer) (intervalsOf S codes)) (places-length (S .kmer) codes) (places-canonical S (places (S .kmer) codes))
+    subst (λ (n : ℕ). Canonical n (S .kmer) (intervalsOf S codes)) (places-length (S .kmer) codes) (places-canonical S (places (S .kmer) codes) (places-read (S .kmer) codes))
 
 -- R rows suffice.
 pub strand-room : (S : Setup) (codes : List ℕ) → length (intervalsOf S codes) ≤ (length codes + 1) / (S .kmer + 1)
@@ -34,7 +34,7 @@ pub strand-evidence : (S : Setup) (codes : List ℕ) → CheckedSetup S → T (i
 unfolding intervalsOf
 strand-evidence S codes a t l x c =
     let ps = places (S .kmer) codes in
-    places-evidence S (in-range S a t) ps (places-below (S .kmer) codes) (subst (λ (n : ℕ). n < 2147483648) (sym (places-length (S .kmer) codes)) l) x c
+    places-evidence S (in-range S a t) ps (places-below (S .kmer) codes) (subst (λ (n : ℕ). n < 2147483648) (sym (places-length (S .kmer) codes)) l) (places-read (S .kmer) codes) x c
 
 -- For every find of L places that the run makes by a scan, the exact score of every shorter stretch from the same first place exceeds that of the find by at most (2L + 2) / 2^32.
 -- `codes` are those of either strand.

@@ -1,4 +1,5 @@
 pub mod Step
 pub mod Range
 pub mod ScanFind
+pub mod Dropping
 pub mod Terms

@@ -98,20 +98,25 @@ search S i a x =
 abbrev pub st2 : ℕ → ℕ → ℕ → ℕ → ℤ
 st2 k i len j = pos i -ℤ (pos len -ℤ pos 1 -ℤ pos j) -ℤ (pos k -ℤ pos 1)
 
--- If st2 < end: start becomes st2 if start < 0 or st2 < start. Otherwise start = st2.
-abbrev pub startAfter : ℤ → ℤ → ℤ → ℤ
-startAfter start end s = cond (ltZ s end) (cond (ltZ start (pos 0) || ltZ s start) s start) s
-
--- The interval is saved if start >= 0; one with start below 0 is dropped.
+-- A number below zero is raised to 0.
 abbrev pub whole : ℤ → ℕ
 whole (pos e) = e
 whole (negsuc e) = 0
 
+-- The find's first letter s (L6): st2, raised to 0 before it is compared with end.
+abbrev pub firstLetter : ℕ → ℕ → ℕ → ℕ → ℤ
+firstLetter k i len j = pos (whole (st2 k i len j))
+
+-- If s < end: start becomes s if s < start. Otherwise start = s.
+abbrev pub startAfter : ℤ → ℤ → ℤ → ℤ
+startAfter start end s = cond (ltZ s end) (cond (ltZ s start) s start) s
+
+-- The interval is saved; start is -1 only while there is none.
 abbrev pub saveFrom : List Interval → ℤ → ℤ → List Interval
 saveFrom saved (pos s) end = save saved s (whole end)
 saveFrom saved (negsuc s) end = saved
 
--- Unless st2 < end, the old interval is saved.
+-- Unless s < end, the old interval is saved.
 abbrev pub savedAfter : List Interval → ℤ → ℤ → ℤ → List Interval
 savedAfter saved start end s = cond (ltZ s end) saved (saveFrom saved start end)
 
@@ -119,7 +124,7 @@ savedAfter saved start end s = cond (ltZ s end) saved (saveFrom saved start end)
 unfoldable pub foundBy : Setup → ℕ → Run → List ℕ → Find → Run
 foundBy S i a counts none = record { window = a .window; sum = a .sum; counts = counts; start = a .start; end = a .end; last-q = a .last-q; saved = a .saved }
 foundBy S i a counts (at j) =
-    let s : ℤ = st2 (S .kmer) i (length (a .window)) j in
+    let s : ℤ = firstLetter (S .kmer) i (length (a .window)) j in
     record {
       window = a .window;
       sum = a .sum;

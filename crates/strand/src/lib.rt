@@ -24,7 +24,7 @@ ghost use Rattle.scans.specs.Terms.Numbers.{setupOf};
 ghost use Rattle.scans.specs.Counts.{raise, lower};
 ghost use Rattle.scans.specs.Terms.Window.{findOf, window, Windowed};
 ghost use Rattle.scans.specs.Terms.Parts.{Queued};
-ghost use Rattle.strand.specs.Step.{whole, lastQWithout, isAt, st2, startAfter, saveFrom, savedAfter};
+ghost use Rattle.strand.specs.Step.{whole, lastQWithout, isAt, firstLetter, startAfter, saveFrom, savedAfter};
 ghost use Rattle.strand.specs.Terms.KnownCounts.{KnownCounts, Passing, Passes, Clearing, sought, extendedOf, answeredBy};
 ghost use Rattle.strand.specs.Terms.Entering.{held, newestOf, sumLess, sumMore, Left, Joined, Next, Enters};
 ghost use Rattle.strand.specs.Terms.Searching.{triedBy, Extended, isSearched, Looks};
@@ -235,12 +235,17 @@ struct Open {
     count: usize,
 }
 
-// st2 of a find at letter i: r is one past its index in a window of `len` entries.
+// The first letter of a find at letter i, 0 where it would lie before: r is one past the find's index in a window of `len` entries.
 fn first_letter(i: usize, len: usize, r: usize, k: usize) -> i64
     requires { ⌜ (i < 2147483648) × (len < 65536) × (0 < r) × (r ≤ len) × (k ≤ 12) ⌝ }
-    ensures { λ s. ⌜ s ≡ st2 k i len (r - 1) ⌝ }
+    ensures { λ s. ⌜ s ≡ firstLetter k i len (r - 1) ⌝ }
 {
-    ((i + r + 1) as i64) - ((len + k) as i64)
+    let past = i + r + 1;
+    let before = len + k;
+    if past < before {
+        return 0;
+    }
+    (past - before) as i64
 }
 
 // The start after a find from letter s on.
@@ -248,7 +253,7 @@ fn start_after(start: i64, end: i64, s: i64) -> i64
     ensures { λ r. ⌜ r ≡ startAfter start end s ⌝ }
 {
     if s < end {
-        if (start < 0) | (s < start) {
+        if s < start {
             return s;
         }
         return start;
@@ -257,7 +262,7 @@ fn start_after(start: i64, end: i64, s: i64) -> i64
 }
 
 impl Open {
-    // The interval is saved if its start is not below 0; answers how many are saved then.
+    // The interval is saved, if there is one; answers how many are saved then.
     fn close(self, list: &mut [[u32; 2]]) -> usize
         requires { ⌜ Saving self (now list) ⌝ }
         ensures { λ r. ⌜ (savedIn r (now (list .exit)) ≡ saveFrom (savedIn (self .count) (now (list .entry))) (self .start) (self .end))

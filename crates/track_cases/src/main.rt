@@ -1,4 +1,4 @@
-// What `track` prints for the inputs that the paper names, and at the bounds of what it takes.
+// What `track` prints for the inputs that the paper and the requests name, and at the bounds of what it takes.
 
 fn print_text(bytes: &[u8]) {
     let mut text = [0u8; contig::TEXT_ROOM];
@@ -11,6 +11,7 @@ fn main() {
     print_text(&letters[..20]);
     print_text(&letters[..9]);
     print_text(&letters[..10]);
+    // A window of letters; from 5,001 to 5,005 the last find begins before the first letter.
     print_text(&letters[..5000]);
     print_text(&letters[..5001]);
     print_text(&letters[..5002]);

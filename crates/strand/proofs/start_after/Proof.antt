@@ -1,17 +1,17 @@
 use mir.Facts.{toZ-ofZ}
-use Rattle.strand.proofs.Signed.{lt-back, lt-back-or, zero-fits}
+use Rattle.strand.proofs.Signed.{lt-back}
 use Rattle.strand.proofs.start_after.Statement.{statement}
 use Rattle.strand.proofs.start_after.Tie as tie
 
 returns : tie.Need-returns
 returns c =
     let f = c .before .before .fits in
-    rw (lt-back (f .s) (f .end) (c .before .if1 .taken), lt-back-or (f .start) zero-fits (f .s) (c .if2 .taken)) (toZ-ofZ (f .s))
+    rw (lt-back (f .s) (f .end) (c .before .if1 .taken), lt-back (f .s) (f .start) (c .if2 .taken)) (toZ-ofZ (f .s))
 
 returns-2 : tie.Need-returns-2
 returns-2 c =
     let f = c .before .before .fits in
-    rw (lt-back (f .s) (f .end) (c .before .if1 .taken), lt-back-or (f .start) zero-fits (f .s) (c .if2 .left)) (toZ-ofZ (f .start))
+    rw (lt-back (f .s) (f .end) (c .before .if1 .taken), lt-back (f .s) (f .start) (c .if2 .left)) (toZ-ofZ (f .start))
 
 returns-3 : tie.Need-returns-3
 returns-3 c = let f = c .before .fits in rw (lt-back (f .s) (f .end) (c .if1 .left)) (toZ-ofZ (f .s))

@@ -11,7 +11,7 @@ use Rattle.scans.specs.Terms.Numbers.{setupOf}
 use Rattle.scans.specs.Counts.{count}
 use Rattle.scans.specs.Scans.{Find, none, at}
 use Rattle.scans.specs.Terms.Window.{findOf}
-use Rattle.strand.specs.Step.{st2, startAfter, saveFrom, savedAfter}
+use Rattle.strand.specs.Step.{firstLetter, startAfter, saveFrom, savedAfter}
 use Rattle.strand.specs.declared.Window.{Window}
 use Rattle.strand.specs.declared.Open.{Open}
 use Rattle.strand.specs.declared.State.{State}
@@ -24,7 +24,7 @@ lastQBy w (at j) = record { sum = w .sum; «last_q» = pos j; head = w .head; le
 
 abbrev pub startBy : (k i len : ℕ) → Open → Find → ℤ
 startBy k i len o none = o .start
-startBy k i len o (at j) = startAfter (o .start) (o .end) (st2 k i len j)
+startBy k i len o (at j) = startAfter (o .start) (o .end) (firstLetter k i len j)
 
 abbrev pub endBy : ℕ → Open → Find → ℤ
 endBy i o none = o .end
@@ -32,14 +32,14 @@ endBy i o (at j) = pos (i + 1)
 
 abbrev pub savedBy : (k i len : ℕ) → Open → List Interval → Find → List Interval
 savedBy k i len o saved none = saved
-savedBy k i len o saved (at j) = savedAfter saved (o .start) (o .end) (st2 k i len j)
+savedBy k i len o saved (at j) = savedAfter saved (o .start) (o .end) (firstLetter k i len j)
 
 pub record Found (k i len : ℕ) (o o′ : Open) (find : Find) (saved saved′ : List Interval) : Type 0 where
   pub start-is : o′ .start ≡ startBy k i len o find
   pub end-is : o′ .end ≡ endBy i o find
   pub saved-is : saved′ ≡ savedBy k i len o saved find
 
--- An interval whose start is not below 0 has an end too, and both are numbers of 32 bits.
+-- An interval has a start and an end, both numbers of 32 bits.
 abbrev pub Closing : ℤ → ℤ → Type 0
 Closing (pos s) (pos e) = (s < 4294967296) × (e < 4294967296)
 Closing (pos s) (negsuc e) = ⊥

@@ -6,7 +6,7 @@ use mir.Syntax.{w64}
 use mir.Val.{SFits}
 use mir.Facts.{toZ-pos, toZ-ofZ}
 use borrow.Author.Needs.{needs}
-use Rattle.strand.proofs.Signed.{st2-fits}
+use Rattle.strand.proofs.Signed.{first-fits}
 use Rattle.strand.proofs.Hand.{found-none, found-at}
 use Rattle.strand.proofs.Open.found.Statement.{statement}
 use Rattle.strand.proofs.Open.found.Tie as tie
@@ -21,7 +21,7 @@ returns-2 c =
     let b = f .before .before in
     let a = b .args in
     let n = b .pre .0 in
-    let fits = st2-fits (a .k) (a .i) (a .len) (a .r) (omega (arith, f .before .if1 .left)) (n .0) (n .1) (n .2) (n .3) in
+    let fits = first-fits (a .k) (a .i) (a .len) (a .r) (omega (arith, f .before .if1 .left)) (n .0) (n .2) in
     let back = toZ-ofZ (subst (λ (z : ℤ). SFits w64 z) (sym (f .first-letter .ensures)) fits) in (
       found-at (f .before .if1 .left) (f .first-letter .ensures) back back
           (toZ-ofZ {w = w64} {z = a .self .start} (record { sfits = c .before .before .struct-told .given .0 .1 }))
