@@ -51,7 +51,7 @@ join-ranges m (p ∷ ps) =
     (λ le. rw (marked-touch m p ps le, join-touch (m .start) (m .end) (range p) (ranges ps) le) (join-ranges (grown m p) ps))
     (lt-or-le (m .end) (p .start))
 
-forward-ranges : (is : List Interval) → ranges (map fromForward is) ≡ is
+pub forward-ranges : (is : List Interval) → ranges (map fromForward is) ≡ is
 forward-ranges [] = refl
 forward-ranges (i ∷ is) = ap (λ (js : List Interval). i ∷ js) (forward-ranges is)
 
@@ -187,10 +187,10 @@ module _ (bit : Marked → Bool) where
             met = λ x. ⊎-elim (λ c. c .0) (λ c. absurd (none-shares (range m) (p .start) (p ∷ ps) (omega arith) (omega arith, h .1, h .2, h .3) c)) x;
           },
           every-map
-          (λ r a.
-          record { set = λ t. inr (a .0 .set t); met = λ x. ⊎-elim (λ c. absurd (omega (arith, c .1, a .1))) (λ c. a .0 .met c) x })
-          (joinMarked p ps)
-          (every-both (Tells (p ∷ ps)) (λ r. p .start ≤ r .start) (joinMarked p ps) (join-tells p ps (omega (arith, h .1)) (h .3)) (join-from p ps (omega (arith, h .1)) (h .3))),
+              (λ r a.
+              record { set = λ t. inr (a .0 .set t); met = λ x. ⊎-elim (λ c. absurd (omega (arith, c .1, a .1))) (λ c. a .0 .met c) x })
+              (joinMarked p ps)
+              (every-both (Tells (p ∷ ps)) (λ r. p .start ≤ r .start) (joinMarked p ps) (join-tells p ps (omega (arith, h .1)) (h .3)) (join-from p ps (omega (arith, h .1)) (h .3))),
         ))
         (λ le. rw (marked-touch m p ps le)
         (every-map (λ r a. tells-touch m p ps r (h .0) (omega (arith, h .1)) (inl l) a) (joinMarked (grown m p) ps)

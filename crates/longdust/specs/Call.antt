@@ -10,13 +10,14 @@ use Rattle.buffers.specs.Free.{Free}
 use Rattle.checks.specs.Tests.{mostIntervals}
 use Rattle.letters.specs.Code.{codes}
 use Rattle.intervals.specs.Interval.{Interval, Canonical, Covers, listOf, Wrote}
+use Rattle.intervals.specs.Merge.{marksOf}
 use Rattle.strand.specs.Range.{inRange}
 use Rattle.tables.specs.Density.{density}
 use Rattle.tables.specs.Tables.{lnTable, fTable}
 use Rattle.longdust.specs.declared.LongdustOptions.{LongdustOptions}
 use Rattle.longdust.specs.declared.Answer.{Answer}
 use Rattle.longdust.specs.Checks.{refusal}
-use Rattle.longdust.specs.Mask.{setup, mask, Evident}
+use Rattle.longdust.specs.Mask.{setup, mask, markedMask, Evident}
 use Rattle.longdust.specs.Buffers.{Buffers, lengths}
 
 -- The tables that a run reads: ln entries 0..w and f entries 0..w+1.
@@ -40,10 +41,11 @@ pub record Refused (b b′ : Buffers) (r : Answer) : Type 0 where
   pub flag : r .«in_range» ≡ false
   pub same : b′ ≡ b
 
--- The final list holds the mask, by the tables that the run reads, its other entries unchanged.
+-- The final list holds the mask, by the tables that the run reads, and the marks stand beside it; their other entries are unchanged.
 -- The other buffers hold free content within the listed sizes.
 pub record Masked (o : LongdustOptions) (s : List ℕ) (b b′ : Buffers) (count : ℕ) : Type 0 where
   pub list : Wrote (mask o s (lnRead o b′) (fRead o b′)) (b .list) (b′ .list) count
+  pub marks : b′ .marks ≡ put (marksOf (markedMask o s (lnRead o b′) (fRead o b′))) (b .marks)
   pub queue : Free (o .«window_size») (b .queue) (b′ .queue)
   pub window-counts : Free (4 ^ (o .kmer)) (b .window-counts) (b′ .window-counts)
   pub scan-counts : Free (4 ^ (o .kmer)) (b .scan-counts) (b′ .scan-counts)

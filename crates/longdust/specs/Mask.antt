@@ -1,15 +1,16 @@
--- The paper, 'Both strands': the mask, and what it is to be evident on a strand scanned.
+-- The paper, 'Both strands': the mask, its marks, and what it is to be evident on a strand scanned.
 use Prim.Native.Nat.{ℕ, _+_}
 use mathlib.Core.Path.{_≡_}
 use mathlib.Core.Logic.{_⊎_}
 use mathlib.Core.Bool.{Bool, false, cond}
-use mathlib.Core.List.{List}
+use mathlib.Core.List.{List, map}
 use lib.ListN.{length}
 use lib.Ieee.{Float}
 use Rattle.letters.specs.Code.{codes, reverseComplement}
 use Rattle.letters.specs.Place.{places}
 use Rattle.intervals.specs.Interval.{Interval}
-use Rattle.intervals.specs.Merge.{merge, backwards}
+use Rattle.intervals.specs.declared.Marked.{Marked}
+use Rattle.intervals.specs.Merge.{merge, fromForward, mergeMarked, backwards}
 use Rattle.scans.specs.Setup.{Setup, dropLimit, maxTest}
 use Rattle.scans.specs.Score.{Evidence}
 use Rattle.strand.specs.Step.{intervalsOf}
@@ -35,9 +36,18 @@ unfoldable pub maskOf : Setup → Bool → List ℕ → List Interval
 maskOf S forward-only s =
     cond forward-only (intervalsOf S s) (merge (intervalsOf S s) (backwards (length s) (intervalsOf S (reverseComplement s))))
 
+-- The same with marks (L7); a forward-only run sets the forward mark alone.
+unfoldable pub markedMaskOf : Setup → Bool → List ℕ → List Marked
+markedMaskOf S forward-only s =
+    cond forward-only (map fromForward (intervalsOf S s))
+    (mergeMarked (intervalsOf S s) (backwards (length s) (intervalsOf S (reverseComplement s))))
+
 -- The mask of a sequence of bytes.
 unfoldable pub mask : LongdustOptions → List ℕ → List Float → List Float → List Interval
 mask o sequence ln f = maskOf (setup o ln f) (o .«forward_only») (codes sequence)
+
+unfoldable pub markedMask : LongdustOptions → List ℕ → List Float → List Float → List Marked
+markedMask o sequence ln f = markedMaskOf (setup o ln f) (o .«forward_only») (codes sequence)
 
 -- A letter of the reverse complement's stretch counts here as letter n-1-x.
 pub record OtherStrand (S : Setup) (forward-only : Bool) (s : List ℕ) (x : ℕ) : Type 0 where
