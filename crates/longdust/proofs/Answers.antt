@@ -25,6 +25,7 @@ use Rattle.longdust.specs.Buffers.{Buffers, lengths}
 use Rattle.longdust.specs.Call.{lnRead, fRead, listSize, listed, Masked, Accepted}
 use Rattle.longdust.specs.Terms.Inner.{accepted, Bounds, Admitted, Prepared, Ran}
 use Rattle.longdust.proofs.Masks.{mask-shape, mask-room, mask-ranges, mask-evidence}
+use Rattle.longdust.proofs.Marking.{marked-evidence}
 use Rattle.longdust.proofs.Parts.{fronts, back, Returned, whole}
 
 -- A list written to the lent front of a slice is written to the slice.
@@ -39,7 +40,7 @@ wrote-part m {is} {xs} {ys} {count} w h k =
 accepted-by : (o : LongdustOptions) (s : List ℕ) (b b′ : Buffers) (r : Answer) → Bounds o → length s ≤ 2147483647
     → CheckedSetup (setup o (lnRead o b′) (fRead o b′)) → r .«in_range» ≡ inRange (setup o (lnRead o b′) (fRead o b′))
     → Masked o s b b′ (r .count) → Accepted o s b b′ r
-unfolding mask setup
+unfolding mask markedMask setup
 accepted-by o s b b′ r c h a flag m =
     let S = setup o (lnRead o b′) (fRead o b′) in
     let l = codes-length s in
@@ -53,6 +54,8 @@ accepted-by o s b b′ r c h a flag m =
       evidence = λ e x d.
           mask-evidence S (codes s) (c .kmer-low) a (subst T (sym (sym flag ∙ e)) tt) (omega arith) (o .«forward_only») x
           (subst (λ (z : List Interval). Covers z x) held d);
+      marked-evidence = λ e.
+          marked-evidence S (codes s) (c .kmer-low) a (subst T (sym (sym flag ∙ e)) tt) (omega arith) (o .«forward_only»);
     }
 
 module _ (o : LongdustOptions) (cs : List ℕ) (m : ℕ) (b : Buffers) (a : Admitted o (length cs) (lengths b)) (e : m ≡ 4 ^ (o .kmer)) (y : Buffers)

@@ -106,6 +106,7 @@ accepted-as o s b b′ r ln f cs d c a =
           };
       shape = a .shape;
       evidence = a .evidence;
+      marked-evidence = a .marked-evidence;
     }
 
 -- A refusal touches nothing.
