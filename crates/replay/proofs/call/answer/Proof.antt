@@ -10,7 +10,7 @@ mod Tie
 returns : tie.Need-returns
 returns c =
     let P = c .before .before .before .before .before .before .before .before .before .process-tables in
-    record { before = _; after = _; answered = P .ensures; ln-is = refl; f-is = refl; list-before = refl; list-after = refl }
+    record { before = _; after = _; answered = P .ensures; ln-is = refl; f-is = refl; list-before = refl; list-after = refl; marks-before = refl; marks-after = refl }
 
 pub answer-spec : {M : Type 1} → statement M
 answer-spec =
