@@ -21,6 +21,12 @@ fn wide(x: u32) -> u64
     x as u64
 }
 
+fn wide_byte(x: u8) -> u64
+    ensures { λ r. ⌜ r ≡ x ⌝ }
+{
+    x as u64
+}
+
 // Whether entry i of a list is there and is [start, end].
 fn has(list: &[[u32; 2]], i: usize, start: u64, end: u64) -> bool
     ensures { λ r. ⌜ (let L = now (list .entry) in
@@ -39,8 +45,7 @@ fn has_mark(marks: &[u8], i: usize, mark: u64) -> bool
     if marks.len() <= i {
         return false;
     }
-    let x = marks[i];
-    x as u64 == mark
+    wide_byte(marks[i]) == mark
 }
 
 // Reads `c.word` intervals with their marks and compares them with the first ones of a list.
