@@ -1,6 +1,6 @@
 #!/usr/bin/env bash
 # Holds the port against the original: builds the archive, the program contigs and those that compare, runs them, sums up.
-# Two minutes once the archive is proved. The last line is `N passed, M failed`; the exit status is 1 if anything differs.
+# Three minutes once the archive is proved. The last line is `N passed, M failed`; the exit status is 1 if anything differs.
 # The original is read from ../shared/docs/src, or from the folder that LONGDUST_SRC names.
 set -euo pipefail
 cd "$(dirname "$0")"
@@ -48,6 +48,9 @@ mask() {
 }
 
 genes=GATTACAGGCTTAACGGATTACAGGCTTAACGGATTACAGGCTTAACG
+# What one strand alone sees, and its reverse complement.
+seen_forward=AGTTTATGGTATGGTATGGTATGGAAAAGTTATGGTATGGTATGG
+seen_reverse=CCATACCATACCATAACTTTTCCATACCATACCATACCATAAACT
 
 # The same program, built with further options of the compiler.
 masks() {
@@ -64,8 +67,9 @@ masks() {
   mask "${genes}ACACACACACACACACACACTTGCA" "0 ${genes}acacacacacac"$'\nacacacacTTGCA' --soft
   mask "$genes" "0 $genes" --soft
   mask ACGTACG '1 refused 3' --soft
+  mask "${seen_forward}NNNNNNNN${seen_reverse}NNNNNNNNAAAAAAAAAAAA" $'0 3\t45\t+\n53\t95\t-\n106\t118\t.' --marks
   check "an unknown argument" test "$("$example" --hard < /dev/null 2>&1 || echo "status $?")" \
-    = $'usage: mask [--soft] < contig\nstatus 2'
+    = $'usage: mask [--marks | --soft] < contig\nstatus 2'
   check "a directory as input" test "$("$example" < . 2>&1 || echo "status $?")" = $'cannot read: Is a directory\nstatus 2'
   check "a full disk" test "$(printf AAAAAAAAAA | "$example" 2>&1 > /dev/full || echo "status $?")" \
     = $'cannot write: No space left on device\nstatus 2'

@@ -1,10 +1,12 @@
 /* A contig on standard input, its masked intervals on standard output, with the usual options; with
+ * --marks a third column, the strand that saw the interval: + forward, - reverse, . both; with
  * --soft the contig itself, its masked letters in lower case, in lines of 60 letters.
  * Line ends (byte 10) are dropped; every other byte is a letter.
  *
  *   rt staticlib longdust_c
  *   cc -O2 -Iinclude examples/mask.c -o mask target/staticlib/liblongdust_c.a
  *   printf AAAAAAAAAAAAAAAAAAAA | ./mask
+ *   printf AAAAAAAAAAAAAAAAAAAA | ./mask --marks
  *   printf CGCGATAAAAAAAAAAAAAAAA | ./mask --soft
  *
  * The exit status is 0, or 1 if the contig is refused, or 2 if reading, writing or memory failed, or for
@@ -26,7 +28,7 @@ static struct longdust_forward_position candidates[WINDOW];
 static uint16_t window_counts[KMERS], scan_counts[KMERS];
 
 /* What depends on the contig's length. */
-static uint8_t *contig, *codes, *reverse_codes, *copy;
+static uint8_t *contig, *codes, *reverse_codes, *copy, *marks;
 static uint32_t (*list[3])[2];
 
 static void free_all(void) {
@@ -34,6 +36,7 @@ static void free_all(void) {
     free(codes);
     free(reverse_codes);
     free(copy);
+    free(marks);
     for (int i = 0; i < 3; i++) free(list[i]);
 }
 
@@ -69,6 +72,7 @@ static int64_t mask(size_t n) {
     codes = room(NULL, n);
     reverse_codes = room(NULL, n);
     for (int i = 0; i < 3; i++) list[i] = room(NULL, rows * sizeof *list[i]);
+    marks = room(NULL, rows);
 
     int64_t count = longdust_process(
         contig, n, KMER, WINDOW, 0.6,
@@ -78,14 +82,18 @@ static int64_t mask(size_t n) {
         ln, WINDOW + 1, f, WINDOW + 2, queue, WINDOW,
         window_counts, KMERS, scan_counts, KMERS,
         candidates, WINDOW, codes, n, reverse_codes, n,
-        list[0], rows, list[1], rows, list[2], rows,
+        list[0], rows, list[1], rows, list[2], rows, marks, rows,
         &in_range);
 
     return count;
 }
 
-static void print_intervals(size_t count) {
-    for (size_t i = 0; i < count; i++) printf("%" PRIu32 "\t%" PRIu32 "\n", list[2][i][0], list[2][i][1]);
+static void print_intervals(size_t count, int with_marks) {
+    for (size_t i = 0; i < count; i++) {
+        printf("%" PRIu32 "\t%" PRIu32, list[2][i][0], list[2][i][1]);
+        if (with_marks) printf("\t%c", marks[i] == 1 ? '+' : marks[i] == 2 ? '-' : '.');
+        putchar('\n');
+    }
 }
 
 static void print_soft(size_t n, size_t count) {
@@ -99,8 +107,9 @@ static void print_soft(size_t n, size_t count) {
 
 int main(int argc, char **argv) {
     int soft = argc == 2 && strcmp(argv[1], "--soft") == 0;
-    if (argc > 1 && !soft) {
-        fputs("usage: mask [--soft] < contig\n", stderr);
+    int with_marks = argc == 2 && strcmp(argv[1], "--marks") == 0;
+    if (argc > 1 && !soft && !with_marks) {
+        fputs("usage: mask [--marks | --soft] < contig\n", stderr);
         return 2;
     }
     atexit(free_all);
@@ -111,7 +120,7 @@ int main(int argc, char **argv) {
     } else if (soft) {
         print_soft(n, (size_t)count);
     } else {
-        print_intervals((size_t)count);
+        print_intervals((size_t)count, with_marks);
     }
     if (fflush(stdout) != 0 || ferror(stdout)) stop("cannot write");
     return count < 0;

@@ -35,11 +35,13 @@
  *   candidates                        w
  *   codes, reverse_codes              n each
  *   forward_list, reverse_list, list  R each; an interval is two numbers, its start and its end
+ *   marks                             R; a byte for each interval of list
  * The work slices may hold anything before a call and are left with any content.
  *
  * The result is the number of masked intervals, and list[i][0] to list[i][1] (from 0, the end not
- * included) is the i-th of them, in order, apart from each other; entries past the last do not
- * change. *in_range is 1 if score_threshold is at most 16, ln entries 1..w lie in 0..16 and f entries
+ * included) is the i-th of them, in order, apart from each other; marks[i] says which strand saw it: 1 if
+ * an interval of the forward strand joined into it, 2 if one of the reverse complement did, 3 if both (a
+ * forward-only run: 1). Entries of list and marks past the last do not change. *in_range is 1 if score_threshold is at most 16, ln entries 1..w lie in 0..16 and f entries
  * 1..w in 0..1048576, else 0.
  *
  * A negative result is minus the number of the first check that the request fails; *in_range is 0
@@ -90,6 +92,7 @@ int64_t longdust_process_tables(
     uint32_t (*forward_list)[2], size_t forward_list_len,
     uint32_t (*reverse_list)[2], size_t reverse_list_len,
     uint32_t (*list)[2], size_t list_len,
+    uint8_t *marks, size_t marks_len,
     uint32_t *in_range);
 
 /* Fills ln 0..w and f 0..w+1 for the options and the sequence, then masks with them. */
@@ -109,6 +112,7 @@ int64_t longdust_process(
     uint32_t (*forward_list)[2], size_t forward_list_len,
     uint32_t (*reverse_list)[2], size_t reverse_list_len,
     uint32_t (*list)[2], size_t list_len,
+    uint8_t *marks, size_t marks_len,
     uint32_t *in_range);
 
 /* Copies the sequence to the front of copy, its masked letters in lower case or replaced. Letter x is

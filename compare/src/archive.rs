@@ -45,6 +45,8 @@ macro_rules! declare {
                 reverse_list_len: usize,
                 list: *mut [u32; 2],
                 list_len: usize,
+                marks: *mut u8,
+                marks_len: usize,
                 in_range: *mut u32,
             ) -> i64;
         }
@@ -90,6 +92,7 @@ pub fn call(request: &Request, lent: &mut Buffers) -> (i64, u32) {
     let (codes, codes_len) = raw(&mut lent.codes);
     let (reverse_codes, reverse_codes_len) = raw(&mut lent.reverse_codes);
     let [forward, reverse, list] = lent.lists.each_mut().map(raw);
+    let (marks, marks_len) = raw(&mut lent.marks);
     let mut in_range = 0xdead;
     // SAFETY: each pointer is null with length 0, or to a live slice at least as long as its length; none overlap.
     let result = unsafe {
@@ -128,6 +131,8 @@ pub fn call(request: &Request, lent: &mut Buffers) -> (i64, u32) {
             reverse.1,
             list.0,
             list.1,
+            marks,
+            marks_len,
             &mut in_range,
         )
     };

@@ -1,7 +1,7 @@
 //! Letters per second of both on the same synthetic genomes, as ratios.
 
 use crate::genomes;
-use crate::original::{floats, formulas, handed, handed_raised, masked, Masked};
+use crate::original::{self, floats, formulas, handed, handed_raised, masked, Masked};
 use crate::port::{Buffers, Port};
 use crate::request::{Answer, Request, Tables};
 use std::cell::Cell;
@@ -58,8 +58,8 @@ pub struct Turn {
     pub same: bool,
 }
 
-/// A turn on a request that hands tables in; the buffers may be left from the turn before.
-pub fn turn(port: Port, request: &Request, buffers: &mut Buffers) -> Turn {
+/// A turn on a request that hands tables in; the buffers and the marks may be left from the turn before.
+pub fn turn(port: Port, request: &Request, buffers: &mut Buffers, marks: &mut Option<Vec<u8>>) -> Turn {
     let Tables::Given { ln, f } = &request.tables else { unreachable!("a turn hands tables in") };
     let (ln, f) = (floats(ln), floats(f));
     let original_seconds = Cell::new(0.0);
@@ -77,17 +77,18 @@ pub fn turn(port: Port, request: &Request, buffers: &mut Buffers) -> Turn {
     let start = processor_seconds();
     let said = port(request, buffers);
     let port_seconds = processor_seconds() - start;
-    let expected = Answer::Accepted { in_range: true, intervals: mask.clone() };
+    let marks = marks.get_or_insert_with(|| original::marks(request, &ln, &f, &mask));
+    let expected = Answer::Accepted { in_range: true, intervals: mask.clone(), marks: marks.clone() };
     let same = buffers.answer(said) == Ok(expected);
     Turn { original_seconds: original_seconds.into_inner(), port_seconds, mask, before_first, same }
 }
 
 /// Median seconds of both on the same request, turns taken.
 fn turns(port: Port, request: &Request, turns: usize) -> (f64, f64) {
-    let mut buffers = Buffers::new(request);
+    let (mut buffers, mut marks) = (Buffers::new(request), None);
     let (mut original, mut ported) = (Vec::new(), Vec::new());
     for _ in 0..turns {
-        let turn = turn(port, request, &mut buffers);
+        let turn = turn(port, request, &mut buffers, &mut marks);
         assert!(turn.same, "both give the same mask");
         original.push(turn.original_seconds);
         ported.push(turn.port_seconds);

@@ -87,7 +87,7 @@ pub fn command(port: Port, words: &[&str]) -> Result<(u64, u64), String> {
                     difference(port, &request).1.is_none()
                 }
                 None => {
-                    let turn = bench::turn(port, &request, &mut Buffers::new(&request));
+                    let turn = bench::turn(port, &request, &mut Buffers::new(&request), &mut None);
                     let record = Sum {
                         letters: request.sequence.len(),
                         intervals: turn.mask.len(),

@@ -180,6 +180,47 @@ fn in_range(request: &Request, ln: &[u64], f: &[u64]) -> bool {
     request.score_threshold <= 16.0 && within(ln, 16.0) && within(f, 1048576.0)
 }
 
+/// The reverse complement, as the original's codes have it; the letters are those of `with_t`.
+fn reverse_complement(letters: &[u8]) -> Vec<u8> {
+    let complement = |letter: &u8| match letter.to_ascii_uppercase() {
+        b'A' => b'T',
+        b'C' => b'G',
+        b'G' => b'C',
+        b'T' => b'A',
+        _ => b'N',
+    };
+    letters.iter().rev().map(complement).collect()
+}
+
+/// The marks of a mask, from the lists that the original gives each strand by itself: 1 if an interval of the forward
+/// list lies in the masked one, 2 if one of the reverse complement's list does, read backwards, 3 if both.
+pub fn marks(request: &Request, ln: &[f64], f: &[f64], intervals: &[(usize, usize)]) -> Vec<u8> {
+    if intervals.is_empty() {
+        return Vec::new();
+    }
+    let letters = with_t(&request.sequence);
+    let n = letters.len();
+    let alone = Request { forward_only: true, sequence: Vec::new(), tables: Tables::Formula, ..request.clone() };
+    let strand = |letters: &[u8]| {
+        let (ln, f) = (|| ln.to_vec(), || f.to_vec());
+        let list = masked(
+            || handed::Longdust::process(letters, handed::options(&alone), ln(), f()),
+            || handed_raised::Longdust::process(letters, handed_raised::options(&alone), ln(), f()),
+        );
+        list.intervals
+    };
+    let forward = strand(&letters);
+    let reverse = match request.forward_only {
+        true => Vec::new(),
+        false => strand(&reverse_complement(&letters)).into_iter().rev().map(|(start, end)| (n - end, n - start)).collect(),
+    };
+    let lies_in = |list: &[(usize, usize)], (start, end): (usize, usize)| {
+        let first = list.partition_point(|interval| interval.0 < start);
+        list.get(first).is_some_and(|interval| interval.1 <= end)
+    };
+    intervals.iter().map(|&interval| lies_in(&forward, interval) as u8 + 2 * lies_in(&reverse, interval) as u8).collect()
+}
+
 /// The reference's answer, and the tables that the port must have filled.
 pub struct Reference {
     pub answer: Answer,
@@ -214,5 +255,6 @@ pub fn reference(request: &Request, lent: &Buffers) -> Reference {
         ),
     };
     let in_range = in_range(request, ln, f);
-    Reference { answer: Answer::Accepted { in_range, intervals }, before_first, filled }
+    let marks = marks(request, &floats(ln), &floats(f), &intervals);
+    Reference { answer: Answer::Accepted { in_range, intervals, marks }, before_first, filled }
 }

@@ -1,7 +1,7 @@
 //! The port: buffers to lend it, the call, and what must be true of the buffers afterwards.
 
 use crate::original::{self, Reference};
-use crate::request::{Answer, Request, Tables, F, FINAL, LN, NAMES, SLICES};
+use crate::request::{Answer, Request, Tables, F, FINAL, LN, MARKS, NAMES, SLICES};
 
 /// What the C interface answers: a count or minus a refusal, and the flag.
 pub type Said = (i64, u32);
@@ -67,6 +67,8 @@ pub struct Buffers {
     pub reverse_codes: Lent<u8>,
     /// The forward, the reverse and the final list: start and end of each interval.
     pub lists: [Lent<[u32; 2]>; 3],
+    /// The marks of the final list.
+    pub marks: Lent<u8>,
 }
 
 /// The length of a slice that a request says nothing of, where it is refused before the sizes.
@@ -119,6 +121,7 @@ impl Buffers {
             reverse_codes: Lent::new(length(7), |i| any(7, i) as u8),
             lists: [8, 9, FINAL]
                 .map(|slice| Lent::new(length(slice), |i| [any(slice, i) as u32, !any(slice, i) as u32])),
+            marks: Lent::new(length(MARKS), |i| any(MARKS, i) as u8),
         }
     }
 
@@ -136,6 +139,7 @@ impl Buffers {
             forward,
             reverse,
             mask,
+            &self.marks,
         ]
     }
 
@@ -152,6 +156,14 @@ impl Buffers {
         Ok(mask.now[..count].iter().map(|&[start, end]| (start as usize, end as usize)).collect())
     }
 
+    /// This many marks of the final list.
+    fn marks(&self, count: usize) -> Result<Vec<u8>, String> {
+        if count > self.marks.length {
+            return Err(format!("count {count} is past the marks"));
+        }
+        Ok(self.marks.now[..count].to_vec())
+    }
+
     /// Writes an interval of the final list.
     #[cfg(test)]
     pub fn put(&mut self, row: usize, (start, end): (usize, usize)) {
@@ -164,7 +176,11 @@ impl Buffers {
         match result {
             _ if flag > 1 || result < 0 && flag != 0 => Err(format!("result {result} with flag {flag}")),
             ..=-1 => Ok(Answer::Refused(result.unsigned_abs() as u32)),
-            count => Ok(Answer::Accepted { in_range: flag == 1, intervals: self.mask(count as usize)? }),
+            count => Ok(Answer::Accepted {
+                in_range: flag == 1,
+                intervals: self.mask(count as usize)?,
+                marks: self.marks(count as usize)?,
+            }),
         }
     }
 

@@ -22,6 +22,8 @@ pub struct Summary {
     masked: u64,
     unmasked: u64,
     in_range: u64,
+    /// Intervals with the forward mark alone, the reverse mark alone, and both.
+    pub marks: [u64; 4],
     /// Accepted, and a find began before the first letter.
     pub before_first: u64,
     /// Accepted with formula, own and given tables.
@@ -32,10 +34,11 @@ pub struct Summary {
 
 impl Summary {
     fn add(&mut self, request: &Request, reference: &Reference) {
-        let (in_range, intervals) = match &reference.answer {
+        let (in_range, intervals, marks) = match &reference.answer {
             Answer::Refused(number) => return self.refused[*number as usize] += 1,
-            Answer::Accepted { in_range, intervals } => (in_range, intervals),
+            Answer::Accepted { in_range, intervals, marks } => (in_range, intervals, marks),
         };
+        marks.iter().for_each(|mark| self.marks[*mark as usize] += 1);
         self.unmasked += intervals.is_empty() as u64;
         self.masked += !intervals.is_empty() as u64;
         self.in_range += *in_range as u64;
@@ -53,6 +56,7 @@ impl Summary {
         add(&mut self.refused, &other.refused);
         add(&mut self.tables, &other.tables);
         add(&mut self.kmers, &other.kmers);
+        add(&mut self.marks, &other.marks);
         self.passed += other.passed;
         self.masked += other.masked;
         self.unmasked += other.unmasked;
@@ -73,6 +77,8 @@ impl Summary {
         };
         println!("accepted {}, masked {}, flag yes {}", self.accepted(), self.masked, self.in_range);
         println!("{}", kinds(self.accepted(), self.before_first));
+        let [_, forward, reverse, both] = self.marks;
+        println!("intervals marked forward {forward}, reverse {reverse}, both {both}");
         println!("accepted by tables, formula {}, own {}, given {}", self.tables[0], self.tables[1], self.tables[2]);
         println!("accepted by k{}", list(&self.kmers));
         println!("refused by number{}", list(&self.refused));

@@ -6,9 +6,9 @@
 //!     k w min_start_cnt xdrop_set xdrop approx forward_only T gc_kind gc
 //!         whole numbers and two floats; gc_kind: 0 uniform, 1 fixed, 2 auto; gc is 0 unless fixed
 //!     short
-//!         0: every slice has the listed length; 1 to 11: the slice of this number in the order of the call
+//!         0: every slice has the listed length; 1 to 12: the slice of this number in the order of the call
 //!         (ln, f, queue, window counts, scan counts, candidates, codes, reverse codes,
-//!         then the forward, the reverse and the final list) has one entry less; 12: every slice is empty
+//!         then the forward, the reverse and the final list, and the marks) has one entry less; 13: every slice is empty
 //!     tables
 //!         0: the filling call; 1: the call on lent tables, which follow: the number of runs of the ln table,
 //!         for each run how often its entry stands and the entry, a float; then the f table in the same way.
@@ -16,7 +16,7 @@
 //!     n letters
 //!         the number of letters, then that many bytes from 33 to 126; `~` stands for the byte 200
 //!     refusal
-//!         0: accepted, and these follow: in_range (1 or 0), count, and count times start and end
+//!         0: accepted, and these follow: in_range (1 or 0), count, and count times start, end and marks
 //!
 //! Whole numbers are decimal and below 2^32. A float is its 64 bits as hex digits from the top, with trailing
 //! zeros left out but for the first digit: 0.5 is `3fe`, 0 is `0`, -0 is `8`. An accepted request, and one
@@ -172,9 +172,10 @@ fn line(request: &Request) -> String {
     write!(line, " {} {}", request.sequence.len(), letters.collect::<String>()).unwrap();
     match reference(request, &Buffers::new(request)).answer {
         Answer::Refused(number) => write!(line, " {number}").unwrap(),
-        Answer::Accepted { in_range, intervals } => {
+        Answer::Accepted { in_range, intervals, marks } => {
             write!(line, " 0 {} {}", in_range as u8, intervals.len()).unwrap();
-            intervals.iter().for_each(|(start, end)| write!(line, " {start} {end}").unwrap());
+            let marked = intervals.iter().zip(marks);
+            marked.into_iter().for_each(|((start, end), mark)| write!(line, " {start} {end} {mark}").unwrap());
         }
     }
     line

@@ -7,7 +7,7 @@
 //!     approx 0|1           forward_only 0|1    T <float bits in hex>
 //!     gc uniform|auto|fixed <hex>              tables formula|own|given
 //!     ln <hex>[*COUNT] ..  f <hex>[*COUNT] ..  (given tables, as long as their words)
-//!     size NAME COUNT      a buffer's length: ln f queue wcounts scounts cands code1 code2 fwd rev final
+//!     size NAME COUNT      a buffer's length: ln f queue wcounts scounts cands code1 code2 fwd rev final marks
 //!     seq N, a newline and N raw bytes; seqhex 41c3..; seqrle A*5000 AC*20
 //!     virtual_n N          a length to be checked without its letters or buffers
 //!
@@ -21,13 +21,14 @@ use crate::original::unmodified::{GcOption, LongdustOptions};
 use std::fmt::{self, Display, Formatter, Write};
 
 /// How many slices a call is lent.
-pub const SLICES: usize = 11;
+pub const SLICES: usize = 12;
 /// Their names, in the order of the call.
 pub const NAMES: [&str; SLICES] =
-    ["ln", "f", "queue", "wcounts", "scounts", "cands", "code1", "code2", "fwd", "rev", "final"];
+    ["ln", "f", "queue", "wcounts", "scounts", "cands", "code1", "code2", "fwd", "rev", "final", "marks"];
 pub const LN: usize = 0;
 pub const F: usize = 1;
 pub const FINAL: usize = 10;
+pub const MARKS: usize = 11;
 
 #[derive(Clone, Copy, Debug, PartialEq)]
 pub enum Gc {
@@ -99,7 +100,7 @@ impl Request {
         let (n, w) = (self.sequence.len(), self.window_size);
         let kmers = 1 << (2 * self.kmer);
         let rows = (n + 1) / (self.kmer + 1);
-        [w + 1, w + 2, w, kmers, kmers, w, n, n, rows, rows, rows]
+        [w + 1, w + 2, w, kmers, kmers, w, n, n, rows, rows, rows, rows]
     }
 
     /// The length that a `size` line, or given words, set for a slice.
@@ -286,16 +287,18 @@ impl Display for Request {
 #[derive(Clone, Debug, PartialEq)]
 pub enum Answer {
     Refused(u32),
-    Accepted { in_range: bool, intervals: Vec<(usize, usize)> },
+    /// Each interval with its marks: 1 forward, 2 reverse, 3 both.
+    Accepted { in_range: bool, intervals: Vec<(usize, usize)>, marks: Vec<u8> },
 }
 
 impl Display for Answer {
     fn fmt(&self, out: &mut Formatter) -> fmt::Result {
         match self {
             Answer::Refused(number) => writeln!(out, "refused {number}"),
-            Answer::Accepted { in_range, intervals } => {
+            Answer::Accepted { in_range, intervals, marks } => {
                 writeln!(out, "ok {} {}", intervals.len(), if *in_range { "yes" } else { "no" })?;
-                intervals.iter().try_for_each(|(start, end)| writeln!(out, "{start}\t{end}"))
+                let marked = intervals.iter().zip(marks);
+                marked.into_iter().try_for_each(|((start, end), mark)| writeln!(out, "{start}\t{end}\t{mark}"))
             }
         }
     }

@@ -50,7 +50,8 @@ pub fn cases(port: Port) -> (u64, u64) {
     for (n, intervals) in runs_of_a {
         for tables in [Tables::Formula, Tables::Own] {
             let request = Request { sequence: vec![b'A'; n], tables, ..Request::default() };
-            cases.push((request, Answer::Accepted { in_range: true, intervals: intervals.to_vec() }));
+            let marks = vec![3; intervals.len()];
+            cases.push((request, Answer::Accepted { in_range: true, intervals: intervals.to_vec(), marks }));
         }
     }
     let many = |n: usize| Request {
@@ -75,7 +76,9 @@ pub fn cases(port: Port) -> (u64, u64) {
     for byte in 0..=255u8 {
         let request = Request { sequence: [b"ACGTTGCAT", &[byte][..]].concat(), ..Request::default() };
         let answer = match byte {
-            b'A'..=b'Z' | b'a'..=b'z' | b'-' | b'*' => Answer::Accepted { in_range: true, intervals: vec![] },
+            b'A'..=b'Z' | b'a'..=b'z' | b'-' | b'*' => {
+                Answer::Accepted { in_range: true, intervals: vec![], marks: vec![] }
+            }
             0..=127 => Answer::Refused(13),
             _ => Answer::Refused(2),
         };

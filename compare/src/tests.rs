@@ -135,7 +135,9 @@ impl Reader<'_> {
         match self.number() {
             0 => {
                 let (in_range, count) = (self.number() == 1, self.number());
-                Answer::Accepted { in_range, intervals: (0..count).map(|_| (self.number(), self.number())).collect() }
+                let marked: Vec<_> = (0..count).map(|_| (self.number(), self.number(), self.number() as u8)).collect();
+                let intervals = marked.iter().map(|&(start, end, _)| (start, end)).collect();
+                Answer::Accepted { in_range, intervals, marks: marked.iter().map(|&(.., mark)| mark).collect() }
             }
             number => Answer::Refused(number as u32),
         }
@@ -160,7 +162,7 @@ fn the_recorded_list_reads_back() {
         }
     }
     assert!(reader.0.is_empty());
-    assert_eq!(numbers, [239, 3, 3, 3, 3, 3, 3, 3, 3, 3, 0, 11, 0, 3]);
+    assert_eq!(numbers, [238, 3, 3, 3, 3, 3, 3, 3, 3, 3, 0, 12, 0, 3]);
 }
 
 /// Prints the first part of told.txt anew: for each wrong original a small request that tells it.
@@ -215,7 +217,7 @@ fn formula_tables_are_near_the_unmodified_ones() {
 /// A port that answers as the original does, and leaves other garbage where it may.
 fn right(request: &Request, lent: &mut Buffers) -> Said {
     let reference = reference(request, lent);
-    let Answer::Accepted { in_range, intervals } = reference.answer else {
+    let Answer::Accepted { in_range, intervals, marks } = reference.answer else {
         let Answer::Refused(number) = reference.answer else { unreachable!() };
         return (-(number as i64), 0);
     };
@@ -227,8 +229,9 @@ fn right(request: &Request, lent: &mut Buffers) -> Said {
     lent.queue.now[..listed[2]].fill(7);
     lent.scan_counts.now[..listed[4]].fill(7);
     lent.lists[0].now[..listed[8]].fill([7, 7]);
-    for (row, interval) in intervals.iter().enumerate() {
+    for (row, (interval, mark)) in intervals.iter().zip(marks).enumerate() {
         lent.put(row, *interval);
+        lent.marks.now[row] = mark;
     }
     (intervals.len() as i64, in_range as u32)
 }
@@ -246,7 +249,7 @@ fn a_right_port_passes() {
 
 #[test]
 fn a_wrong_port_is_found_and_the_request_made_small() {
-    let wrong: [Port; 10] = [
+    let wrong: [Port; 14] = [
         |r, lent| (right(r, lent).0, 1),
         |r, lent| (right(r, lent).0.max(-10), 0),
         |r, lent| (right(r, lent).0 + 1, 1),
@@ -258,6 +261,29 @@ fn a_wrong_port_is_found_and_the_request_made_small() {
         |r, lent| {
             let result = right(r, lent);
             lent.put(result.0.max(0) as usize, (1, 2));
+            result
+        },
+        |r, lent| {
+            let result = right(r, lent);
+            lent.marks.now[result.0.max(0) as usize] ^= 1;
+            result
+        },
+        |r, lent| {
+            let result = right(r, lent);
+            let count = result.0.max(0) as usize;
+            lent.marks.now[..count].fill(3);
+            result
+        },
+        |r, lent| {
+            let result = right(r, lent);
+            let count = result.0.max(0) as usize;
+            lent.marks.now[..count].iter_mut().for_each(|mark| *mark = [0, 2, 1, 3][*mark as usize]);
+            result
+        },
+        |r, lent| {
+            let result = right(r, lent);
+            let count = result.0.max(0) as usize;
+            lent.marks.now[..count].iter_mut().filter(|mark| **mark == 3).for_each(|mark| *mark = 1);
             result
         },
         |r, lent| {

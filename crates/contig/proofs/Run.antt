@@ -42,6 +42,7 @@ fresh candidates forward-list reverse-list list =
     forward-list
     reverse-list
     list
+    (replicate 4096 0)
 
 module _ (cs : List ForwardPosition) (fl rl xs : List (List ℕ)) (lc : length cs ≡ 5000) (lf : length fl ≡ 4096) (lr : length rl ≡ 4096) (lx : length xs ≡ 4096) where
   fresh-lent : lengths (fresh cs fl rl xs) ≡ lent

@@ -40,6 +40,7 @@ lent =
       «forward_list» = listRoom;
       «reverse_list» = listRoom;
       list = listRoom;
+      marks = listRoom;
     }
 
 -- The refusal number of the letters s, 0 if they are accepted.

@@ -56,6 +56,7 @@ pub fn mask_letters(letters: &[u8], list: &mut [[u32; 2]]) -> Outcome
     let mut reverse_codes = [0u8; MOST_LETTERS];
     let mut forward_list = no_intervals();
     let mut reverse_list = no_intervals();
+    let mut marks = [0u8; LIST_ROOM];
     let answer = longdust::process(
         letters,
         LongdustOptions::default(),
@@ -70,6 +71,7 @@ pub fn mask_letters(letters: &[u8], list: &mut [[u32; 2]]) -> Outcome
         &mut forward_list,
         &mut reverse_list,
         list,
+        &mut marks,
     );
     Outcome {
         refusal: answer.refusal,

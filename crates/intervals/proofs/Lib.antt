@@ -5,6 +5,7 @@ pub mod Covered
 pub mod Backward
 pub mod Unique
 pub mod Theorems
+pub mod Marks
 pub mod Saving
 pub mod Examples
 pub mod Counted

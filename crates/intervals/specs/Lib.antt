@@ -1,4 +1,5 @@
 pub mod Interval
 pub mod Save
 pub mod Merge
+pub mod Marks
 pub mod Terms

@@ -4,10 +4,10 @@ ghost use mathlib.Core.Path.{_≡_};
 ghost use Prim.Native.Nat.{_+_, _-_, _≤_, _<_, min, max};
 ghost use lib.ListN.{length, take, getD};
 ghost use Rattle.buffers.specs.Fill.{putAt};
-ghost use Rattle.intervals.specs.Interval.{interval, entries, listOf, Wrote};
+ghost use Rattle.intervals.specs.Interval.{interval, entries, listOf};
 ghost use Rattle.intervals.specs.Terms.Bounds.{Inside};
 ghost use Rattle.intervals.specs.Save.{staying, save};
-ghost use Rattle.intervals.specs.Merge.{nonempty, merge, flip, backwards};
+ghost use Rattle.intervals.specs.Merge.{merge, fromForward, fromReverse, nonemptyMarked, grown, mergeMarked, ranges, markOf, marksOf, WroteMarked, flip, backwards};
 ghost use Rattle.intervals.specs.Terms.Saved.{Saved};
 ghost use Rattle.intervals.specs.Terms.Pick.{picked, Picks};
 
@@ -54,14 +54,52 @@ pub fn save_interval(list: &mut [[u32; 2]], count: usize, start: u32, end: u32) 
     k + 1
 }
 
-// Puts [start, end) after the first `count` entries if it has a letter, and answers how many there are then.
-fn push_nonempty(list: &mut [[u32; 2]], count: usize, start: u32, end: u32) -> usize
-    requires { ⌜ count + length (nonempty start end) ≤ length (now list) ⌝ }
-    ensures { λ r. ⌜ (now (list .exit) ≡ putAt count (entries (nonempty start end)) (now (list .entry)))
-        × (r ≡ count + length (nonempty start end)) ⌝ }
+// An interval with its marks: whether an interval of the forward list, and one of the reverse list, joined into it.
+pub struct Marked {
+    pub start: u32,
+    pub end: u32,
+    pub forward: bool,
+    pub reverse: bool,
+}
+
+impl Marked {
+    // With a part that overlaps or touches it joined into it.
+    fn grown(mut self, part: Marked) -> Self
+        ensures { λ r. ⌜ r ≡ grown self part ⌝ }
+    {
+        self.end = max_u32(self.end, part.end);
+        self.forward = self.forward | part.forward;
+        self.reverse = self.reverse | part.reverse;
+        self
+    }
+
+    // Its marks as a byte: 1 forward, 2 reverse, 3 both.
+    fn mark(self) -> u8
+        ensures { λ r. ⌜ r ≡ markOf self ⌝ }
+    {
+        if self.forward {
+            if self.reverse {
+                return 3;
+            }
+            return 1;
+        }
+        if self.reverse {
+            return 2;
+        }
+        0
+    }
+}
+
+// Puts an interval and its marks after the first `count` entries if it has a letter, and answers how many there are then.
+fn push_nonempty(list: &mut [[u32; 2]], marks: &mut [u8], count: usize, part: Marked) -> usize
+    requires { ⌜ (count + length (nonemptyMarked part) ≤ length (now list)) × (count + length (nonemptyMarked part) ≤ length (now marks)) ⌝ }
+    ensures { λ r. ⌜ (now (list .exit) ≡ putAt count (entries (ranges (nonemptyMarked part))) (now (list .entry)))
+        × (now (marks .exit) ≡ putAt count (marksOf (nonemptyMarked part)) (now (marks .entry)))
+        × (r ≡ count + length (nonemptyMarked part)) ⌝ }
 {
-    if start < end {
-        list[count] = [start, end];
+    if part.start < part.end {
+        list[count] = [part.start, part.end];
+        marks[count] = part.mark();
         return count + 1;
     }
     count
@@ -69,8 +107,7 @@ fn push_nonempty(list: &mut [[u32; 2]], count: usize, start: u32, end: u32) -> u
 
 // The interval that a merge takes next. Then the forward list remains from `forward` on, and of the reverse list the first `reverse`.
 struct Picked {
-    start: u32,
-    end: u32,
+    part: Marked,
     forward: usize,
     reverse: usize,
 }
@@ -78,11 +115,16 @@ struct Picked {
 // Takes interval i of the forward list.
 fn pick_forward(forward: &[[u32; 2]], i: usize, j: usize) -> Picked
     requires { ⌜ i < length (now forward) ⌝ }
-    ensures { λ r. ⌜ r ≡ picked (getD (listOf (now (forward .entry))) i (interval 0 0)) (i + 1) j ⌝ }
+    ensures { λ r. ⌜ r ≡ picked (fromForward (getD (listOf (now (forward .entry))) i (interval 0 0))) (i + 1) j ⌝ }
 {
-    Picked {
+    let part = Marked {
         start: forward[i][0],
         end: forward[i][1],
+        forward: true,
+        reverse: false,
+    };
+    Picked {
+        part,
         forward: i + 1,
         reverse: j,
     }
@@ -91,12 +133,17 @@ fn pick_forward(forward: &[[u32; 2]], i: usize, j: usize) -> Picked
 // Takes interval j - 1 of the reverse list, as seen from the other end of n letters.
 fn pick_reverse(reverse: &[[u32; 2]], i: usize, j: usize, n: u32) -> Picked
     requires { ⌜ Inside n (listOf (now reverse)) × (0 < j) × (j ≤ length (now reverse)) ⌝ }
-    ensures { λ r. ⌜ r ≡ picked (flip n (getD (listOf (now (reverse .entry))) (j - 1) (interval 0 0))) i (j - 1) ⌝ }
+    ensures { λ r. ⌜ r ≡ picked (fromReverse (flip n (getD (listOf (now (reverse .entry))) (j - 1) (interval 0 0)))) i (j - 1) ⌝ }
 {
     let last = j - 1;
-    Picked {
+    let part = Marked {
         start: n - reverse[last][1],
         end: n - reverse[last][0],
+        forward: false,
+        reverse: true,
+    };
+    Picked {
+        part,
         forward: i,
         reverse: last,
     }
@@ -120,36 +167,43 @@ fn pick(forward: &[[u32; 2]], i: usize, reverse: &[[u32; 2]], j: usize, n: u32) 
     pick_reverse(reverse, i, j, n)
 }
 
-// Joins the forward list and the reverse list, this one read backwards in n letters, and answers how many intervals there are then.
+// Joins the forward list and the reverse list, this one read backwards in n letters, with marks, and answers how many intervals there are then.
 pub fn merge_intervals(
     forward: &[[u32; 2]],
     reverse: &[[u32; 2]],
     n: u32,
     list: &mut [[u32; 2]],
+    marks: &mut [u8],
 ) -> usize
     requires { ⌜ Inside n (listOf (now reverse)) ⌝ }
-    requires { ⌜ length (merge (listOf (now forward)) (backwards n (listOf (now reverse)))) ≤ length (now list) ⌝ }
-    ensures { λ r. ⌜ Wrote (merge (listOf (now (forward .entry))) (backwards n (listOf (now (reverse .entry)))))
-        (now (list .entry)) (now (list .exit)) r ⌝ }
+    requires { ⌜ (length (merge (listOf (now forward)) (backwards n (listOf (now reverse)))) ≤ length (now list))
+        × (length (merge (listOf (now forward)) (backwards n (listOf (now reverse)))) ≤ length (now marks)) ⌝ }
+    ensures { λ r. ⌜ WroteMarked (mergeMarked (listOf (now (forward .entry))) (backwards n (listOf (now (reverse .entry)))))
+        (now (list .entry)) (now (list .exit)) (now (marks .entry)) (now (marks .exit)) r ⌝ }
 {
     let mut i = 0;
     let mut j = reverse.len();
     let mut left = forward.len() + reverse.len();
-    let mut start = 0;
-    let mut end = 0;
+    let mut part = Marked {
+        start: 0,
+        end: 0,
+        forward: false,
+        reverse: false,
+    };
     let mut count = 0;
     while 0 < left {
         let next = pick(forward, i, reverse, j, n);
         i = next.forward;
         j = next.reverse;
         left -= 1;
-        if next.start <= end {
-            end = max_u32(end, next.end);
+        let end = part.end;
+        let start = next.part.start;
+        if start <= end {
+            part = part.grown(next.part);
         } else {
-            count = push_nonempty(list, count, start, end);
-            start = next.start;
-            end = next.end;
+            count = push_nonempty(list, marks, count, part);
+            part = next.part;
         }
     }
-    push_nonempty(list, count, start, end)
+    push_nonempty(list, marks, count, part)
 }

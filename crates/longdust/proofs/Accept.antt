@@ -23,7 +23,8 @@ enough : (n k w : ℕ) (b : Lent) → tooShort n k w b ≡ false → Enough n k 
 unfolding tooShort
 enough n k w b e =
     let R = mostIntervals n k in
-    let p11 = neither _ (ltb (b .list) R) e in
+    let p12 = neither _ (ltb (b .marks) R) e in
+    let p11 = neither _ (ltb (b .list) R) (p12 .0) in
     let p10 = neither _ (ltb (b .«reverse_list») R) (p11 .0) in
     let p9 = neither _ (ltb (b .«forward_list») R) (p10 .0) in
     let p8 = neither _ (ltb (b .«reverse_codes») n) (p9 .0) in
@@ -45,6 +46,7 @@ enough n k w b e =
       forward-list = ltb-false (b .«forward_list») R (p9 .1);
       reverse-list = ltb-false (b .«reverse_list») R (p10 .1);
       list = ltb-false (b .list) R (p11 .1);
+      marks = ltb-false (b .marks) R (p12 .1);
     }
 
 pub admitted : (o : LongdustOptions) (s : List ℕ) (b : Lent) → refusal o s b ≡ 0 → Admitted o (length s) b

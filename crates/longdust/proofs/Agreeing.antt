@@ -1,4 +1,4 @@
--- Tables that agree on entries 1..w give the same mask and the same flag: neither reads ln[0], f[0] or f[w + 1].
+-- Tables that agree on entries 1..w give the same mask, the same marks and the same flag: neither reads ln[0], f[0] or f[w + 1].
 use mathlib.Core.Path.{_≡_, refl, sym, ap, _∙_}
 use Prim.Native.Nat.{ℕ, _≤_, _<_}
 use mathlib.Core.Bool.{Bool, true, false}
@@ -13,7 +13,7 @@ use Rattle.scans.proofs.Agreeing.{AgreeTo, Agree, maxTest-agree}
 use Rattle.strand.specs.Range.{inRange}
 use Rattle.strand.proofs.Agreeing.{inRange-agree, intervals-agree}
 use Rattle.longdust.specs.declared.LongdustOptions.{LongdustOptions}
-use Rattle.longdust.specs.Mask.{setup, maskOf, mask}
+use Rattle.longdust.specs.Mask.{setup, maskOf, mask, markedMaskOf, markedMask}
 
 -- Equal tables agree, and so do the fronts of tables that agree, of more than w entries.
 pub agree-equal : {w : ℕ} {table table′ : List Float} → table ≡ table′ → AgreeTo w table table′
@@ -27,6 +27,11 @@ maskOf-agree : (S S′ : Setup) → Agree S S′ → 0 < S .window-size → 2 �
 unfolding maskOf
 maskOf-agree S S′ a some twice true s = intervals-agree S S′ a some twice s
 maskOf-agree S S′ a some twice false s = rw (intervals-agree S S′ a some twice s, intervals-agree S S′ a some twice (reverseComplement s))
+
+markedOf-agree : (S S′ : Setup) → Agree S S′ → 0 < S .window-size → 2 ≤ S .min-start-cnt → (b : Bool) (s : List ℕ) → markedMaskOf S b s ≡ markedMaskOf S′ b s
+unfolding markedMaskOf
+markedOf-agree S S′ a some twice true s = rw (intervals-agree S S′ a some twice s)
+markedOf-agree S S′ a some twice false s = rw (intervals-agree S S′ a some twice s, intervals-agree S S′ a some twice (reverseComplement s))
 
 module _ (o : LongdustOptions) {ln ln′ f f′ : List Float} (al : AgreeTo (o .«window_size») ln ln′) (af : AgreeTo (o .«window_size») f f′) where
   setup-agree : Agree (setup o ln f) (setup o ln′ f′)
@@ -51,3 +56,7 @@ module _ (o : LongdustOptions) {ln ln′ f f′ : List Float} (al : AgreeTo (o .
   pub mask-agree : 0 < o .«window_size» → 2 ≤ o .«min_start_cnt» → (sequence : List ℕ) → mask o sequence ln f ≡ mask o sequence ln′ f′
   unfolding mask setup
   mask-agree some twice sequence = maskOf-agree (setup o ln f) (setup o ln′ f′) setup-agree some twice (o .«forward_only») (codes sequence)
+
+  pub marked-agree : 0 < o .«window_size» → 2 ≤ o .«min_start_cnt» → (sequence : List ℕ) → markedMask o sequence ln f ≡ markedMask o sequence ln′ f′
+  unfolding markedMask setup
+  marked-agree some twice sequence = markedOf-agree (setup o ln f) (setup o ln′ f′) setup-agree some twice (o .«forward_only») (codes sequence)

@@ -5,12 +5,14 @@ use mathlib.Core.List.{List, _++_}
 use Prim.Native.Nat.{ℕ, _+_, _/_, _^_, _≤_}
 use native.Mathlib.Omega.{arith}
 use lib.Dec.{T}
-use lib.ListN.{length, take, drop}
+use lib.ListN.{length, take, drop, length-map}
 use Rattle.buffers.proofs.Lent.{free-at}
 use Rattle.buffers.proofs.Put.{put-part}
 use Rattle.letters.specs.Code.{codes}
 use Rattle.letters.proofs.Codes.{codes-length}
 use Rattle.intervals.specs.Interval.{Interval, Canonical, Covers, entries, Wrote}
+use Rattle.intervals.specs.declared.Marked.{Marked}
+use Rattle.intervals.specs.Merge.{range, ranges, markOf, marksOf, WroteMarked}
 use Rattle.intervals.proofs.Slice.{wrote-list, length-entries}
 use Rattle.scans.specs.declared.Params.{Params}
 use Rattle.scans.specs.Setup.{Setup}
@@ -18,11 +20,12 @@ use Rattle.scans.specs.Terms.Numbers.{setupOf}
 use Rattle.strand.specs.Range.{inRange, CheckedSetup}
 use Rattle.longdust.specs.declared.LongdustOptions.{LongdustOptions}
 use Rattle.longdust.specs.declared.Answer.{Answer}
-use Rattle.longdust.specs.Mask.{setup, maskOf, mask}
+use Rattle.longdust.specs.Mask.{setup, maskOf, mask, markedMaskOf, markedMask}
 use Rattle.longdust.specs.Buffers.{Buffers, lengths}
 use Rattle.longdust.specs.Call.{lnRead, fRead, listSize, listed, Masked, Accepted}
 use Rattle.longdust.specs.Terms.Inner.{accepted, Bounds, Admitted, Prepared, Ran}
-use Rattle.longdust.proofs.Masks.{mask-shape, mask-room, mask-evidence}
+use Rattle.longdust.proofs.Masks.{mask-shape, mask-room, mask-ranges, mask-evidence}
+use Rattle.longdust.proofs.Marking.{marked-evidence}
 use Rattle.longdust.proofs.Parts.{fronts, back, Returned, whole}
 
 -- A list written to the lent front of a slice is written to the slice.
@@ -37,7 +40,7 @@ wrote-part m {is} {xs} {ys} {count} w h k =
 accepted-by : (o : LongdustOptions) (s : List ℕ) (b b′ : Buffers) (r : Answer) → Bounds o → length s ≤ 2147483647
     → CheckedSetup (setup o (lnRead o b′) (fRead o b′)) → r .«in_range» ≡ inRange (setup o (lnRead o b′) (fRead o b′))
     → Masked o s b b′ (r .count) → Accepted o s b b′ r
-unfolding mask setup
+unfolding mask markedMask setup
 accepted-by o s b b′ r c h a flag m =
     let S = setup o (lnRead o b′) (fRead o b′) in
     let l = codes-length s in
@@ -51,6 +54,8 @@ accepted-by o s b b′ r c h a flag m =
       evidence = λ e x d.
           mask-evidence S (codes s) (c .kmer-low) a (subst T (sym (sym flag ∙ e)) tt) (omega arith) (o .«forward_only») x
           (subst (λ (z : List Interval). Covers z x) held d);
+      marked-evidence = λ e.
+          marked-evidence S (codes s) (c .kmer-low) a (subst T (sym (sym flag ∙ e)) tt) (omega arith) (o .«forward_only»);
     }
 
 module _ (o : LongdustOptions) (cs : List ℕ) (m : ℕ) (b : Buffers) (a : Admitted o (length cs) (lengths b)) (e : m ≡ 4 ^ (o .kmer)) (y : Buffers)
@@ -59,9 +64,10 @@ module _ (o : LongdustOptions) (cs : List ℕ) (m : ℕ) (b : Buffers) (a : Admi
   after = back (o .«window_size») m (length cs) ((length cs + 1) / (o .kmer + 1)) b y
 
   pub ran : (p : Params) → Prepared o (lnRead o b) (fRead o b) p → (flag : Bool) → flag ≡ inRange (setupOf p (lnRead o b) (fRead o b)) → (count : ℕ)
-      → Wrote (maskOf (setupOf p (lnRead o b) (fRead o b)) (o .«forward_only») cs) (take ((length cs + 1) / (o .kmer + 1)) (b .list)) (y .list) count
+      → WroteMarked (markedMaskOf (setupOf p (lnRead o b) (fRead o b)) (o .«forward_only») cs) (take ((length cs + 1) / (o .kmer + 1)) (b .list)) (y .list)
+      (take ((length cs + 1) / (o .kmer + 1)) (b .marks)) (y .marks) count
       → (r : Answer) → r ≡ accepted count flag → Ran o cs b after r
-  unfolding mask setup
+  unfolding mask markedMask setup
   ran p q flag f count w r answer =
       record {
         number = ap (λ (z : Answer). z .refusal) answer;
@@ -71,17 +77,24 @@ module _ (o : LongdustOptions) (cs : List ℕ) (m : ℕ) (b : Buffers) (a : Admi
             let S = setup o (lnRead o b) (fRead o b) in
             let n-is : n ≡ length s = ap (λ (z : List ℕ). length z) c ∙ codes-length s in
             let R-is : R ≡ listSize o s = ap (λ (z : ℕ). (z + 1) / (o .kmer + 1)) n-is in
-            let list : maskOf (setupOf p (lnRead o b) (fRead o b)) (o .«forward_only») cs ≡ mask o s (lnRead o b) (fRead o b) =
-            ap₂ (λ (z : Setup) (x : List ℕ). maskOf z (o .«forward_only») x) (q .setup-is) c in
+            let ms : markedMaskOf (setupOf p (lnRead o b) (fRead o b)) (o .«forward_only») cs ≡ markedMask o s (lnRead o b) (fRead o b) =
+            ap₂ (λ (z : Setup) (x : List ℕ). markedMaskOf z (o .«forward_only») x) (q .setup-is) c in
             let R-codes : R ≡ (length (codes s) + 1) / (o .kmer + 1) = ap (λ (z : List ℕ). (length z + 1) / (o .kmer + 1)) c in
             let room : length (mask o s (lnRead o b) (fRead o b)) ≤ (length (codes s) + 1) / (o .kmer + 1) =
             mask-room S (o .«forward_only») (codes s) (a .bounds .kmer-low) in
-            let held = subst (λ (is : List Interval). Wrote is (take R (b .list)) (y .list) count) list w in
+            let all = markedMask o s (lnRead o b) (fRead o b) in
+            let held : WroteMarked all (take R (b .list)) (y .list) (take R (b .marks)) (y .marks) count =
+            subst (λ (z : List Marked). WroteMarked z (take R (b .list)) (y .list) (take R (b .marks)) (y .marks) count) ms w in
+            let ranges-are : ranges all ≡ mask o s (lnRead o b) (fRead o b) = mask-ranges S (o .«forward_only») (codes s) in
+            let list = subst (λ (is : List Interval). Wrote is (take R (b .list)) (y .list) count) ranges-are (held .list) in
+            let few : length (marksOf all) ≤ R =
+            omega (arith, length-map all markOf, length-map all range, ap (λ (is : List Interval). length is) ranges-are, room, R-codes) in
             let free = whole o n m b a e y t in
             subst (λ (z : Answer). Accepted o s b after z) (sym answer)
             (accepted-by o s b after (accepted count flag) (a .bounds) (omega (arith, a .letters-high, n-is)) (q .floats) (f ∙ ap inRange (q .setup-is))
             (record {
-              list = wrote-part R held (omega (arith, room, R-codes)) (a .enough .list);
+              list = wrote-part R list (omega (arith, room, R-codes)) (a .enough .list);
+              marks = ap (λ (z : List ℕ). z ++ drop R (b .marks)) (held .marks-are) ∙ put-part R (marksOf all) (b .marks) few (a .enough .marks);
               queue = free .queue;
               window-counts = free .window-counts;
               scan-counts = free .scan-counts;

@@ -20,7 +20,7 @@ use mathlib.Core.List
 use mathlib.Core.Path as Path'
 use mir.Syntax
 
-abbrev pub ps : List.List (Kinds.PK 12)
+abbrev pub ps : List.List (Kinds.PK 13)
 ps =
     List._∷_
     (ShrSlice.pShrS (Referent.rtF (Referent.fInt Syntax.w8)) 0 tt)
@@ -62,9 +62,9 @@ ps =
     (MutSlice.pMutS (Array.Array (Referent.rtF (Referent.fInt Syntax.w32)) 2) 10 tt)
     (List._∷_
     (MutSlice.pMutS (Array.Array (Referent.rtF (Referent.fInt Syntax.w32)) 2) 11 tt)
-    List.[]))))))))))))
+    (List._∷_ (MutSlice.pMutS (Referent.rtF (Referent.fInt Syntax.w8)) 12 tt) List.[])))))))))))))
 
-abbrev pub r : Kinds.RK 12
+abbrev pub r : Kinds.RK 13
 r = Value.rVal record {
   ty = Declared.row Answer.the-type;
   one = Path'.refl;

@@ -5,6 +5,7 @@ pub mod Strands
 pub mod Parts
 pub mod Answers
 pub mod Agreeing
+pub mod Marking
 pub mod PublicCalls
 pub mod Theorems
 pub mod Rna

@@ -10,16 +10,17 @@ use lib.Dec.{T}
 use Rattle.letters.specs.Code.{reverseComplement}
 use Rattle.letters.proofs.Codes.{reverseComplement-length}
 use Rattle.intervals.specs.Interval.{Canonical, Covers}
-use Rattle.intervals.specs.Merge.{merge, backwards}
+use Rattle.intervals.specs.Merge.{merge, mergeMarked, ranges, backwards}
 use Rattle.intervals.proofs.Shape.{covers-below, merge-canonical, canonical-room}
 use Rattle.intervals.proofs.Covered.{merge-covers}
 use Rattle.intervals.proofs.Backward.{backwards-canonical, backwards-covers}
 use Rattle.intervals.proofs.Theorems.{merge-alone}
+use Rattle.intervals.proofs.Marks.{forward-ranges, merged-ranges, marked-alone}
 use Rattle.scans.specs.Setup.{Setup}
 use Rattle.strand.specs.Step.{intervalsOf}
 use Rattle.strand.specs.Range.{inRange, CheckedSetup}
 use Rattle.strand.proofs.Theorems.{strand-shape, strand-evidence}
-use Rattle.longdust.specs.Mask.{maskOf, Evident}
+use Rattle.longdust.specs.Mask.{maskOf, markedMaskOf, Evident}
 use Rattle.longdust.specs.Terms.Inner.{otherIntervals}
 
 pub other-shape : (S : Setup) (s : List ℕ) → Canonical (length s) (S .kmer) (intervalsOf S (reverseComplement s))
@@ -48,6 +49,18 @@ pub mask-merged : (S : Setup) (b : Bool) (s : List ℕ) → 0 < S .kmer
 unfolding maskOf backwards
 mask-merged S true s k = merge-alone (length s) (S .kmer) (intervalsOf S s) k (strand-shape S s)
 mask-merged S false s k = refl
+
+-- With marks; without them it is the mask.
+pub marked-merged : (S : Setup) (b : Bool) (s : List ℕ) → 0 < S .kmer
+    → mergeMarked (intervalsOf S s) (backwards (length s) (otherIntervals S b s)) ≡ markedMaskOf S b s
+unfolding markedMaskOf backwards
+marked-merged S true s k = marked-alone (length s) (S .kmer) (intervalsOf S s) k (strand-shape S s)
+marked-merged S false s k = refl
+
+pub mask-ranges : (S : Setup) (b : Bool) (s : List ℕ) → ranges (markedMaskOf S b s) ≡ maskOf S b s
+unfolding maskOf markedMaskOf
+mask-ranges S true s = forward-ranges (intervalsOf S s)
+mask-ranges S false s = merged-ranges (intervalsOf S s) (backwards (length s) (intervalsOf S (reverseComplement s)))
 
 -- Evidence: each masked letter is evident on a strand scanned.
 module _ (S : Setup) (s : List ℕ) (k : 0 < S .kmer) (a : CheckedSetup S) (t : T (inRange S)) (l : length s < 2147483648) where

@@ -13,7 +13,7 @@ use Rattle.longdust.specs.declared.LongdustOptions.{LongdustOptions}
 use Rattle.longdust.specs.Buffers.{Buffers, lengths}
 use Rattle.longdust.specs.Terms.Inner.{Admitted, Exact}
 
--- w + 1 entries of ln, w + 2 of f, w of the queue and the candidates, m of the counts, n codes and R entries of each list.
+-- w + 1 entries of ln, w + 2 of f, w of the queue and the candidates, m of the counts, n codes and R entries of each list and of the marks.
 abbrev pub fronts : (w m n R : ℕ) → Buffers → Buffers
 fronts w m n R b =
     record {
@@ -28,6 +28,7 @@ fronts w m n R b =
       forward-list = take R (b .forward-list);
       reverse-list = take R (b .reverse-list);
       list = take R (b .list);
+      marks = take R (b .marks);
     }
 
 -- The fronts y in the place of b's own.
@@ -45,6 +46,7 @@ back w m n R b y =
       forward-list = y .forward-list ++ drop R (b .forward-list);
       reverse-list = y .reverse-list ++ drop R (b .reverse-list);
       list = y .list ++ drop R (b .list);
+      marks = y .marks ++ drop R (b .marks);
     }
 
 -- The fronts y are as long as b's.
@@ -57,6 +59,7 @@ pub record Returned (b y : Buffers) : Type 0 where
   pub forward-list : length (y .forward-list) ≡ length (b .forward-list)
   pub reverse-list : length (y .reverse-list) ≡ length (b .reverse-list)
   pub list : length (y .list) ≡ length (b .list)
+  pub marks : length (y .marks) ≡ length (b .marks)
 
 module _ (o : LongdustOptions) (n m : ℕ) (b : Buffers) (a : Admitted o n (lengths b)) (e : m ≡ 4 ^ (o .kmer)) where
   windows-fit : m ≤ length (b .window-counts)
@@ -103,9 +106,10 @@ module _ (o : LongdustOptions) (n m : ℕ) (b : Buffers) (a : Admitted o n (leng
         reverse =
             record { lent = sizes p k w (b .reverse-list) (g .reverse-list); codes = length-take-le n (b .reverse-codes) (g .reverse-codes) };
         list = omega (arith, length-take-le R (b .list) (g .list));
+        marks = omega (arith, length-take-le R (b .marks) (g .marks));
       }
 
-  -- Each buffer is free in its listed size; the final list is as long as it was.
+  -- Each buffer is free in its listed size; the final list and its marks are as long as they were.
   pub record Whole (b′ : Buffers) : Type 0 where
     pub queue : Free (o .«window_size») (b .queue) (b′ .queue)
     pub window-counts : Free (4 ^ (o .kmer)) (b .window-counts) (b′ .window-counts)
@@ -115,6 +119,7 @@ module _ (o : LongdustOptions) (n m : ℕ) (b : Buffers) (a : Admitted o n (leng
     pub forward-list : Free ((n + 1) / (o .kmer + 1)) (b .forward-list) (b′ .forward-list)
     pub reverse-list : Free ((n + 1) / (o .kmer + 1)) (b .reverse-list) (b′ .reverse-list)
     pub list : length (b′ .list) ≡ length (b .list)
+    pub marks : length (b′ .marks) ≡ length (b .marks)
 
   pub whole : (y : Buffers) → Returned (fronts (o .«window_size») m n ((n + 1) / (o .kmer + 1)) b) y
       → Whole (back (o .«window_size») m n ((n + 1) / (o .kmer + 1)) b y)
@@ -131,4 +136,5 @@ module _ (o : LongdustOptions) (n m : ℕ) (b : Buffers) (a : Admitted o n (leng
         forward-list = part-free R (b .forward-list) (y .forward-list) (g .forward-list) (t .forward-list);
         reverse-list = part-free R (b .reverse-list) (y .reverse-list) (g .reverse-list) (t .reverse-list);
         list = part-free R (b .list) (y .list) (g .list) (t .list) .long;
+        marks = part-free R (b .marks) (y .marks) (g .marks) (t .marks) .long;
       }

@@ -51,6 +51,7 @@ lending b ln f cs =
       forward-list = b .forward-list;
       reverse-list = b .reverse-list;
       list = b .list;
+      marks = b .marks;
     }
 
 -- The same codes, in a buffer of their own.
@@ -76,6 +77,7 @@ admitted-as o n b a cs e =
             forward-list = g .forward-list;
             reverse-list = g .reverse-list;
             list = g .list;
+            marks = g .marks;
           };
     })
 
@@ -92,6 +94,7 @@ accepted-as o s b b′ r ln f cs d c a =
       buffers =
           record {
             list = m .list;
+            marks = m .marks;
             queue = m .queue;
             window-counts = m .window-counts;
             scan-counts = m .scan-counts;
@@ -103,6 +106,7 @@ accepted-as o s b b′ r ln f cs d c a =
           };
       shape = a .shape;
       evidence = a .evidence;
+      marked-evidence = a .marked-evidence;
     }
 
 -- A refusal touches nothing.

@@ -20,7 +20,7 @@ use mathlib.Core.List
 use mathlib.Core.Path as Path'
 use mir.Syntax
 
-abbrev pub ps : List.List (Kinds.PK 11)
+abbrev pub ps : List.List (Kinds.PK 12)
 ps = List._∷_ (Value.pVal record {
   ty = Declared.row LongdustOptions.the-type;
   one = Path'.refl;
@@ -59,9 +59,9 @@ ps = List._∷_ (Value.pVal record {
     (MutSlice.pMutS (Array.Array (Referent.rtF (Referent.fInt Syntax.w32)) 2) 9 tt)
     (List._∷_
     (MutSlice.pMutS (Array.Array (Referent.rtF (Referent.fInt Syntax.w32)) 2) 10 tt)
-    List.[])))))))))))
+    (List._∷_ (MutSlice.pMutS (Referent.rtF (Referent.fInt Syntax.w8)) 11 tt) List.[]))))))))))))
 
-abbrev pub r : Kinds.RK 11
+abbrev pub r : Kinds.RK 12
 r = Value.rVal record {
   ty = Declared.row Answer.the-type;
   one = Path'.refl;

@@ -9,17 +9,18 @@ use Rattle.buffers.specs.Fill.{put}
 use Rattle.buffers.proofs.Filling.{put-all}
 use Rattle.letters.specs.Code.{reverseComplement}
 use Rattle.letters.proofs.Codes.{reverseComplement-length}
-use Rattle.intervals.specs.Interval.{Interval, listOf, Wrote}
-use Rattle.intervals.specs.Merge.{merge, backwards}
+use Rattle.intervals.specs.Interval.{Interval, listOf}
+use Rattle.intervals.specs.declared.Marked.{Marked}
+use Rattle.intervals.specs.Merge.{merge, mergeMarked, WroteMarked, backwards}
 use Rattle.intervals.proofs.Shape.{ascending-inside}
 use Rattle.scans.specs.declared.Params.{Params}
 use Rattle.scans.specs.Setup.{Setup}
 use Rattle.strand.specs.Step.{intervalsOf}
 use Rattle.strand.specs.Terms.Running.{StrandLent, StrandList}
 use Rattle.strand.proofs.Theorems.{strand-room}
-use Rattle.longdust.specs.Mask.{maskOf}
+use Rattle.longdust.specs.Mask.{maskOf, markedMaskOf}
 use Rattle.longdust.specs.Terms.Inner.{otherIntervals, Scanned, ReverseLent, Mergeable}
-use Rattle.longdust.proofs.Masks.{mask-room, mask-merged, others-shape}
+use Rattle.longdust.proofs.Masks.{mask-room, mask-merged, marked-merged, others-shape}
 
 pub lent-as : {p : Params} {n ln f q w s c l n′ q′ w′ s′ c′ : ℕ} → StrandLent p n ln f q w s c l
     → n′ ≡ n → q′ ≡ q → w′ ≡ w → s′ ≡ s → c′ ≡ c → StrandLent p n′ ln f q′ w′ s′ c′ l
@@ -52,15 +53,20 @@ module _ (S : Setup) (b : Bool) (s : List ℕ) {fs rs : List (List ℕ)} {i j : 
   merged =
       ap₂ (λ (is js : List Interval). merge is (backwards (length s) js)) (f .list-is) (r .list-is) ∙ mask-merged S b s some
 
-  pub mergeable : (list : List (List ℕ)) → (length s + 1) / (S .kmer + 1) ≤ length list → Mergeable fs i rs j (length s) list
-  mergeable list h =
+  pub mergeable : (list : List (List ℕ)) (marks : List ℕ) → (length s + 1) / (S .kmer + 1) ≤ length list → (length s + 1) / (S .kmer + 1) ≤ length marks
+      → Mergeable fs i rs j (length s) list marks
+  mergeable list marks h g =
       record {
         forward-within = f .within;
         reverse-within = r .within;
         inside = rw (r .list-is) (ascending-inside (length s) (S .kmer) 0 (otherIntervals S b s) (others-shape S b s));
         room = rw merged (let m = mask-room S b s some in omega arith);
+        marks-room = rw merged (let m = mask-room S b s some in omega arith);
       }
 
-  pub merged-wrote : {xs xs′ : List (List ℕ)} {count : ℕ}
-      → Wrote (merge (listOf (take i fs)) (backwards (length s) (listOf (take j rs)))) xs xs′ count → Wrote (maskOf S b s) xs xs′ count
-  merged-wrote {xs} {xs′} {count} w = subst (λ (is : List Interval). Wrote is xs xs′ count) merged w
+  pub merged-wrote : {xs xs′ : List (List ℕ)} {ys ys′ : List ℕ} {count : ℕ}
+      → WroteMarked (mergeMarked (listOf (take i fs)) (backwards (length s) (listOf (take j rs)))) xs xs′ ys ys′ count
+      → WroteMarked (markedMaskOf S b s) xs xs′ ys ys′ count
+  merged-wrote {xs} {xs′} {ys} {ys′} {count} w =
+      subst (λ (ms : List Marked). WroteMarked ms xs xs′ ys ys′ count)
+      (ap₂ (λ (is js : List Interval). mergeMarked is (backwards (length s) js)) (f .list-is) (r .list-is) ∙ marked-merged S b s some) w

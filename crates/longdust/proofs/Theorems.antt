@@ -1,4 +1,4 @@
--- The filling call against the other one. Demand 3, mirror: the mask of the reverse complement is the mask read backwards, over the definition and for two requests of each call.
+-- The filling call against the other one. Demand 3, mirror: the mask of the reverse complement is the mask read backwards, its marks exchanged, over the definition and for two requests of each call.
 -- Shape and evidence are fields of `Accepted`, in the contract of both calls.
 use mathlib.Core.Path.{_≡_, refl, sym, ap, ap₂, _∙_}
 use Prim.Native.Nat.{ℕ, zero, suc, _+_, _<_}
@@ -12,7 +12,8 @@ use Rattle.buffers.specs.Fill.{put}
 use Rattle.letters.specs.Code.{codes, reverseComplement}
 use Rattle.letters.proofs.Codes.{codes-length, reverseComplement-twice, reverseComplement-length}
 use Rattle.intervals.specs.Interval.{Interval, entries}
-use Rattle.intervals.specs.Merge.{merge, backwards}
+use Rattle.intervals.specs.declared.Marked.{Marked}
+use Rattle.intervals.specs.Merge.{merge, marksOf, backwards}
 use Rattle.intervals.proofs.Slice.{wrote-list}
 use Rattle.intervals.proofs.Theorems.{merge-mirror}
 use Rattle.scans.specs.Setup.{Setup}
@@ -28,12 +29,13 @@ use Rattle.longdust.specs.declared.LongdustOptions.{LongdustOptions}
 use Rattle.longdust.specs.declared.Answer.{Answer}
 use Rattle.longdust.specs.declared.Lent.{Lent}
 use Rattle.longdust.specs.Checks.{refusal}
-use Rattle.longdust.specs.Mask.{setup, maskOf, mask}
+use Rattle.longdust.specs.Mask.{setup, maskOf, mask, markedMaskOf, markedMask, backwardsMarks}
 use Rattle.longdust.specs.Buffers.{Buffers, lengths}
-use Rattle.longdust.specs.Call.{lnRead, fRead, listed, Answered, Kept, Filled}
+use Rattle.longdust.specs.Call.{lnRead, fRead, listed, listedMarks, Answered, Kept, Filled}
 use Rattle.longdust.proofs.Accept.{admitted}
-use Rattle.longdust.proofs.Masks.{other-shape}
-use Rattle.longdust.proofs.Agreeing.{agree-equal, agree-take, mask-agree}
+use Rattle.longdust.proofs.Masks.{other-shape, mask-ranges}
+use Rattle.longdust.proofs.Marking.{marked-mask-mirror, marks-backwards, marks-held}
+use Rattle.longdust.proofs.Agreeing.{agree-equal, agree-take, mask-agree, marked-agree}
 
 -- For any tables, any float bits.
 pub mask-mirror : (S : Setup) (s : List ℕ) → 0 < S .kmer → maskOf S false (reverseComplement s) ≡ backwards (length s) (maskOf S false s)
@@ -57,17 +59,17 @@ filled-f {o} {s} {b} {b′} t =
     ap (λ (z : List Float). take (w + 2) z) (t .f)
     ∙ take-at table (drop (length table) (b .f)) (w + 2) (fTable-length (o .kmer) w (density (o .kmer) (o .gc) (codes s)))
 
--- The filling call answers what the other call answers on tables that hold the formulas: the same refusal, count and flag, and the same list.
+-- The filling call answers what the other call answers on tables that hold the formulas: the same refusal, count and flag, and the same list and marks.
 module _ (o : LongdustOptions) (s : List ℕ) {b b′ c c′ : Buffers} {r q : Answer} (A : Answered Filled o s b b′ r) (B : Answered Kept o s c c′ q)
     (sizes : lengths c ≡ lengths b) (ln : lnRead o c ≡ lnTable (o .«window_size»))
-    (f : fRead o c ≡ fTable (o .kmer) (o .«window_size») (density (o .kmer) (o .gc) (codes s))) (list : c .list ≡ b .list) where
+    (f : fRead o c ≡ fTable (o .kmer) (o .«window_size») (density (o .kmer) (o .gc) (codes s))) (list : c .list ≡ b .list) (marks : c .marks ≡ b .marks) where
   same-number : q .refusal ≡ r .refusal
   same-number = B .number ∙ ap (λ (z : Lent). refusal o s z) sizes ∙ sym (A .number)
 
-  pub process-as-process-tables : (q ≡ r) × (c′ .list ≡ b′ .list)
+  pub process-as-process-tables : (q ≡ r) × (c′ .list ≡ b′ .list) × (c′ .marks ≡ b′ .marks)
   process-as-process-tables = go (r .refusal) refl
     where
-      go : (n : ℕ) → r .refusal ≡ n → (q ≡ r) × (c′ .list ≡ b′ .list)
+      go : (n : ℕ) → r .refusal ≡ n → (q ≡ r) × (c′ .list ≡ b′ .list) × (c′ .marks ≡ b′ .marks)
       go zero e =
           let x = A .accepted e in
           let y = B .accepted (same-number ∙ e) in
@@ -85,35 +87,57 @@ module _ (o : LongdustOptions) (s : List ℕ) {b b′ c c′ : Buffers} {r q : A
             rw (same-number, count-is, flag-is),
             y .buffers .list .list-is ∙ ap₂ (λ (is : List Interval) (d : List (List ℕ)). put (entries is) d) mask-is list
                 ∙ sym (x .buffers .list .list-is),
+            y .buffers .marks
+                ∙ ap₂ (λ (ms : List Marked) (d : List ℕ). put (marksOf ms) d) (ap₂ (λ (m n : List Float). markedMask o s m n) ln-is f-is) marks
+                ∙ sym (x .buffers .marks),
           )
       go (suc n) e =
           let x = A .refused (omega arith) in
           let y = B .refused (omega (arith, same-number)) in (
             rw (same-number, x .count, y .count, x .flag, y .flag),
             ap (λ (z : Buffers). z .list) (y .same) ∙ list ∙ sym (ap (λ (z : Buffers). z .list) (x .same)),
+            ap (λ (z : Buffers). z .marks) (y .same) ∙ marks ∙ sym (ap (λ (z : Buffers). z .marks) (x .same)),
           )
+
+-- The marks of an accepted request.
+marks-are : {Tables : LongdustOptions → List ℕ → Buffers → Buffers → Type 0} {o : LongdustOptions} {s : List ℕ} {b b′ : Buffers} {r : Answer}
+    → Answered Tables o s b b′ r → r .refusal ≡ 0 → listedMarks r b′ ≡ marksOf (markedMask o s (lnRead o b′) (fRead o b′))
+unfolding mask markedMask
+marks-are {Tables} {o} {s} {b} {b′} {r} A e =
+    let S = setup o (lnRead o b′) (fRead o b′) in
+    let m = A .accepted e .buffers in
+    marks-held (markedMask o s (lnRead o b′) (fRead o b′)) (b .marks) (b′ .marks) (r .count) (m .marks)
+    (m .list .count-is ∙ ap (λ (is : List Interval). length is) (sym (mask-ranges S (o .«forward_only») (codes s))))
 
 -- Two accepted two-strand requests with the same options, where the codes of one are the reverse complement of the other's.
 module _ (o : LongdustOptions) (s t : List ℕ) (both : o .«forward_only» ≡ false) (other : codes t ≡ reverseComplement (codes s)) where
   mirror : {Tables : LongdustOptions → List ℕ → Buffers → Buffers → Type 0} {b b′ c c′ : Buffers} {r q : Answer}
       → Answered Tables o s b b′ r → Answered Tables o t c c′ q → r .refusal ≡ 0 → q .refusal ≡ 0
       → AgreeTo (o .«window_size») (lnRead o c′) (lnRead o b′) → AgreeTo (o .«window_size») (fRead o c′) (fRead o b′)
-      → listed q c′ ≡ backwards (length s) (listed r b′)
-  unfolding mask setup
+      → (listed q c′ ≡ backwards (length s) (listed r b′)) × (listedMarks q c′ ≡ backwardsMarks (listedMarks r b′))
+  unfolding mask markedMask setup
   mirror {Tables} {b} {b′} {c} {c′} {r} {q} A B ra rb ln f =
       let S = setup o (lnRead o b′) (fRead o b′) in
       let bounds = admitted o s _ (sym (A .number) ∙ ra) .bounds in
       let one = wrote-list (A .accepted ra .buffers .list) ∙ ap (λ (k : Bool). maskOf S k (codes s)) both in
-      wrote-list (B .accepted rb .buffers .list)
-      ∙ mask-agree o ln f (omega (arith, bounds .window-low)) (bounds .start-low) t
-      ∙ ap₂ (λ (k : Bool) (z : List ℕ). maskOf S k z) both other
-      ∙ mask-mirror S (codes s) (bounds .kmer-low)
-      ∙ ap₂ (λ (n : ℕ) (z : List Interval). backwards n z) (codes-length s) (sym one)
+      let two = marks-are A ra ∙ ap (λ (k : Bool). marksOf (markedMaskOf S k (codes s))) both in (
+        wrote-list (B .accepted rb .buffers .list)
+            ∙ mask-agree o ln f (omega (arith, bounds .window-low)) (bounds .start-low) t
+            ∙ ap₂ (λ (k : Bool) (z : List ℕ). maskOf S k z) both other
+            ∙ mask-mirror S (codes s) (bounds .kmer-low)
+            ∙ ap₂ (λ (n : ℕ) (z : List Interval). backwards n z) (codes-length s) (sym one),
+        marks-are B rb
+            ∙ ap (λ (ms : List Marked). marksOf ms) (marked-agree o ln f (omega (arith, bounds .window-low)) (bounds .start-low) t)
+            ∙ ap₂ (λ (k : Bool) (z : List ℕ). marksOf (markedMaskOf S k z)) both other
+            ∙ ap (λ (ms : List Marked). marksOf ms) (marked-mask-mirror S (codes s) (bounds .kmer-low))
+            ∙ marks-backwards (length (codes s)) (markedMaskOf S false (codes s))
+            ∙ ap (λ (z : List ℕ). backwardsMarks z) (sym two),
+      )
 
   -- On tables that agree on entries 1..w.
   pub process-tables-mirror : {b b′ c c′ : Buffers} {r q : Answer} → Answered Kept o s b b′ r → Answered Kept o t c c′ q
       → r .refusal ≡ 0 → q .refusal ≡ 0 → AgreeTo (o .«window_size») (c .ln) (b .ln) → AgreeTo (o .«window_size») (c .f) (b .f)
-      → listed q c′ ≡ backwards (length s) (listed r b′)
+      → (listed q c′ ≡ backwards (length s) (listed r b′)) × (listedMarks q c′ ≡ backwardsMarks (listedMarks r b′))
   process-tables-mirror A B ra rb ln f =
       let w = o .«window_size» in
       let a = A .tables ra in
@@ -123,7 +147,7 @@ module _ (o : LongdustOptions) (s t : List ℕ) (both : o .«forward_only» ≡ 
   -- On the tables that the call fills: the GC is the same, and so are the tables.
   pub process-mirror : {b b′ c c′ : Buffers} {r q : Answer} → Answered Filled o s b b′ r → Answered Filled o t c c′ q
       → r .refusal ≡ 0 → q .refusal ≡ 0
-      → listed q c′ ≡ backwards (length s) (listed r b′)
+      → (listed q c′ ≡ backwards (length s) (listed r b′)) × (listedMarks q c′ ≡ backwardsMarks (listedMarks r b′))
   process-mirror A B ra rb =
       let w = o .«window_size» in
       let same : density (o .kmer) (o .gc) (codes t) ≡ density (o .kmer) (o .gc) (codes s) =

@@ -6,7 +6,7 @@ use lib.Ieee.{Float}
 use Rattle.scans.specs.declared.ForwardPosition.{ForwardPosition}
 use Rattle.longdust.specs.declared.Lent.{Lent}
 
--- An interval list is a slice of entries, each of two numbers, start and end.
+-- An interval list is a slice of entries, each of two numbers, start and end. The final list has a byte of marks for each entry beside it.
 pub record Buffers : Type 0 where
   pub ln : List Float
   pub f : List Float
@@ -19,10 +19,11 @@ pub record Buffers : Type 0 where
   pub forward-list : List (List ℕ)
   pub reverse-list : List (List ℕ)
   pub list : List (List ℕ)
+  pub marks : List ℕ
 
 abbrev pub buffers : List Float → List Float → List ℕ → List ℕ → List ℕ → List ForwardPosition → List ℕ → List ℕ
-    → List (List ℕ) → List (List ℕ) → List (List ℕ) → Buffers
-buffers ln f queue window-counts scan-counts candidates cs reverse-codes forward-list reverse-list list =
+    → List (List ℕ) → List (List ℕ) → List (List ℕ) → List ℕ → Buffers
+buffers ln f queue window-counts scan-counts candidates cs reverse-codes forward-list reverse-list list marks =
     record {
       ln = ln;
       f = f;
@@ -35,6 +36,7 @@ buffers ln f queue window-counts scan-counts candidates cs reverse-codes forward
       forward-list = forward-list;
       reverse-list = reverse-list;
       list = list;
+      marks = marks;
     }
 
 abbrev pub lengths : Buffers → Lent
@@ -51,4 +53,5 @@ lengths b =
       «forward_list» = length (b .forward-list);
       «reverse_list» = length (b .reverse-list);
       list = length (b .list);
+      marks = length (b .marks);
     }

@@ -33,7 +33,7 @@ tooShort n k w b =
     let R : ℕ = mostIntervals n k in
     ltb (b .ln) (w + 1) || ltb (b .f) (w + 2) || ltb (b .queue) w || ltb (b .«window_counts») (4 ^ k) || ltb (b .«scan_counts») (4 ^ k)
     || ltb (b .candidates) w || ltb (b .codes) n || ltb (b .«reverse_codes») n
-    || ltb (b .«forward_list») R || ltb (b .«reverse_list») R || ltb (b .list) R
+    || ltb (b .«forward_list») R || ltb (b .«reverse_list») R || ltb (b .list) R || ltb (b .marks) R
 
 abbrev pub checks : LongdustOptions → List ℕ → Lent → List Check
 checks o s b =

@@ -61,4 +61,5 @@ pub struct Lent {
     pub forward_list: usize,
     pub reverse_list: usize,
     pub list: usize,
+    pub marks: usize,
 }

@@ -54,6 +54,7 @@ fn too_short(n: usize, k: usize, w: usize, lent: Lent) -> bool
         | below_intervals(lent.forward_list, n, k)
         | below_intervals(lent.reverse_list, n, k)
         | below_intervals(lent.list, n, k)
+        | below_intervals(lent.marks, n, k)
 }
 
 // The number of the first check that fails, 0 if none does.

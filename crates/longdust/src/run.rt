@@ -3,12 +3,12 @@
 ghost use mathlib.Core.Path.{_≡_};
 ghost use Prim.Native.Nat.{_<_};
 ghost use lib.ListN.{length, take};
-ghost use Rattle.intervals.specs.Interval.{listOf, Wrote};
-ghost use Rattle.intervals.specs.Merge.{merge, backwards};
+ghost use Rattle.intervals.specs.Interval.{listOf};
+ghost use Rattle.intervals.specs.Merge.{mergeMarked, WroteMarked, backwards};
 ghost use Rattle.scans.specs.Terms.Numbers.{setupOf};
 ghost use Rattle.strand.specs.Range.{tableInRange, inRange};
 ghost use Rattle.longdust.specs.Buffers.{buffers, lengths};
-ghost use Rattle.longdust.specs.Mask.{maskOf};
+ghost use Rattle.longdust.specs.Mask.{markedMaskOf};
 ghost use Rattle.longdust.specs.Terms.Inner.{Bounds, Admitted, Prepared, ReverseLent, Exact, otherIntervals, Scanned};
 ghost use Rattle.longdust.specs.Terms.Inner.{Mergeable, accepted, Ran};
 use crate::Answer;
@@ -102,7 +102,7 @@ pub fn reverse_strand(
     )
 }
 
-// Joins both strands' lists, each in the front of its slice; answers how many intervals there are then.
+// Joins both strands' lists, each in the front of its slice, with marks; answers how many intervals there are then.
 fn merge_strands(
     forward_list: &[[u32; 2]],
     forward_count: usize,
@@ -110,15 +110,16 @@ fn merge_strands(
     reverse_count: usize,
     n: u32,
     list: &mut [[u32; 2]],
+    marks: &mut [u8],
 ) -> usize
-    requires { ⌜ Mergeable (now «forward_list») «forward_count» (now «reverse_list») «reverse_count» n (now list) ⌝ }
-    ensures { λ r. ⌜ Wrote (merge (listOf (take «forward_count» (now («forward_list» .entry))))
+    requires { ⌜ Mergeable (now «forward_list») «forward_count» (now «reverse_list») «reverse_count» n (now list) (now marks) ⌝ }
+    ensures { λ r. ⌜ WroteMarked (mergeMarked (listOf (take «forward_count» (now («forward_list» .entry))))
         (backwards n (listOf (take «reverse_count» (now («reverse_list» .entry))))))
-        (now (list .entry)) (now (list .exit)) r ⌝ }
+        (now (list .entry)) (now (list .exit)) (now (marks .entry)) (now (marks .exit)) r ⌝ }
 {
     let forward = &forward_list[..forward_count];
     let reverse = &reverse_list[..reverse_count];
-    intervals::merge_intervals(forward, reverse, n, list)
+    intervals::merge_intervals(forward, reverse, n, list, marks)
 }
 
 // Both strands on buffers of exactly the listed sizes; answers how many intervals the mask has.
@@ -136,13 +137,14 @@ pub fn both_strands(
     forward_list: &mut [[u32; 2]],
     reverse_list: &mut [[u32; 2]],
     list: &mut [[u32; 2]],
+    marks: &mut [u8],
 ) -> usize
     requires { ⌜ Exact p (length (now codes)) (lengths
         (buffers (now ln) (now f) (now queue) (now «window_counts») (now «scan_counts»)
         (now candidates) (now codes) (now «reverse_codes»)
-        (now «forward_list») (now «reverse_list») (now list))) ⌝ }
-    ensures { λ r. ⌜ Wrote (maskOf (setupOf p (now (ln .entry)) (now (f .entry))) «forward_only» (now (codes .entry)))
-        (now (list .entry)) (now (list .exit)) r ⌝ }
+        (now «forward_list») (now «reverse_list») (now list) (now marks))) ⌝ }
+    ensures { λ r. ⌜ WroteMarked (markedMaskOf (setupOf p (now (ln .entry)) (now (f .entry))) «forward_only» (now (codes .entry)))
+        (now (list .entry)) (now (list .exit)) (now (marks .entry)) (now (marks .exit)) r ⌝ }
 {
     let n = codes.len() as u32;
     let forward_count = strand::inner_process(
@@ -176,6 +178,7 @@ pub fn both_strands(
         reverse_count,
         n,
         list,
+        marks,
     )
 }
 
@@ -204,18 +207,19 @@ pub fn mask_encoded(
     forward_list: &mut [[u32; 2]],
     reverse_list: &mut [[u32; 2]],
     list: &mut [[u32; 2]],
+    marks: &mut [u8],
 ) -> Answer
     requires { ⌜ Admitted options (length (now codes)) (lengths
         (buffers (now ln) (now f) (now queue) (now «window_counts») (now «scan_counts»)
         (now candidates) (now codes) (now «reverse_codes»)
-        (now «forward_list») (now «reverse_list») (now list))) ⌝ }
+        (now «forward_list») (now «reverse_list») (now list) (now marks))) ⌝ }
     ensures { λ r. ⌜ Ran options (now (codes .entry))
         (buffers (now (ln .entry)) (now (f .entry)) (now (queue .entry)) (now («window_counts» .entry)) (now («scan_counts» .entry))
         (now (candidates .entry)) (now (codes .entry)) (now («reverse_codes» .entry))
-        (now («forward_list» .entry)) (now («reverse_list» .entry)) (now (list .entry)))
+        (now («forward_list» .entry)) (now («reverse_list» .entry)) (now (list .entry)) (now (marks .entry)))
         (buffers (now (ln .exit)) (now (f .exit)) (now (queue .exit)) (now («window_counts» .exit)) (now («scan_counts» .exit))
         (now (candidates .exit)) (now (codes .exit)) (now («reverse_codes» .exit))
-        (now («forward_list» .exit)) (now («reverse_list» .exit)) (now (list .exit))) r ⌝ }
+        (now («forward_list» .exit)) (now («reverse_list» .exit)) (now (list .exit)) (now (marks .exit))) r ⌝ }
 {
     let n = codes.len();
     let k = options.kmer;
@@ -240,6 +244,7 @@ pub fn mask_encoded(
         &mut forward_list[..rows],
         &mut reverse_list[..rows],
         &mut list[..rows],
+        &mut marks[..rows],
     );
     accepted(count, flag)
 }

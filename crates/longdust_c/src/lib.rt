@@ -110,6 +110,7 @@ pub extern "C" fn longdust_process_tables(
     forward_list: &mut [[u32; 2]],
     reverse_list: &mut [[u32; 2]],
     list: &mut [[u32; 2]],
+    marks: &mut [u8],
     in_range: &mut u32,
 ) -> i64
     ensures { λ r. ⌜ Exported Kept
@@ -118,10 +119,10 @@ pub extern "C" fn longdust_process_tables(
         (now (sequence .entry))
         (buffers (now (ln .entry)) (now (f .entry)) (now (queue .entry)) (now («window_counts» .entry)) (now («scan_counts» .entry))
         (now (candidates .entry)) (now (codes .entry)) (now («reverse_codes» .entry))
-        (now («forward_list» .entry)) (now («reverse_list» .entry)) (now (list .entry)))
+        (now («forward_list» .entry)) (now («reverse_list» .entry)) (now (list .entry)) (now (marks .entry)))
         (buffers (now (ln .exit)) (now (f .exit)) (now (queue .exit)) (now («window_counts» .exit)) (now («scan_counts» .exit))
         (now (candidates .exit)) (now (codes .exit)) (now («reverse_codes» .exit))
-        (now («forward_list» .exit)) (now («reverse_list» .exit)) (now (list .exit)))
+        (now («forward_list» .exit)) (now («reverse_list» .exit)) (now (list .exit)) (now (marks .exit)))
         r (now («in_range» .exit)) ⌝ }
 {
     let options = options_of(
@@ -150,6 +151,7 @@ pub extern "C" fn longdust_process_tables(
         forward_list,
         reverse_list,
         list,
+        marks,
     );
     *in_range = flag_of(answer.in_range);
     count_or_refusal(answer.refusal, answer.count)
@@ -180,6 +182,7 @@ pub extern "C" fn longdust_process(
     forward_list: &mut [[u32; 2]],
     reverse_list: &mut [[u32; 2]],
     list: &mut [[u32; 2]],
+    marks: &mut [u8],
     in_range: &mut u32,
 ) -> i64
     ensures { λ r. ⌜ Exported Filled
@@ -188,10 +191,10 @@ pub extern "C" fn longdust_process(
         (now (sequence .entry))
         (buffers (now (ln .entry)) (now (f .entry)) (now (queue .entry)) (now («window_counts» .entry)) (now («scan_counts» .entry))
         (now (candidates .entry)) (now (codes .entry)) (now («reverse_codes» .entry))
-        (now («forward_list» .entry)) (now («reverse_list» .entry)) (now (list .entry)))
+        (now («forward_list» .entry)) (now («reverse_list» .entry)) (now (list .entry)) (now (marks .entry)))
         (buffers (now (ln .exit)) (now (f .exit)) (now (queue .exit)) (now («window_counts» .exit)) (now («scan_counts» .exit))
         (now (candidates .exit)) (now (codes .exit)) (now («reverse_codes» .exit))
-        (now («forward_list» .exit)) (now («reverse_list» .exit)) (now (list .exit)))
+        (now («forward_list» .exit)) (now («reverse_list» .exit)) (now (list .exit)) (now (marks .exit)))
         r (now («in_range» .exit)) ⌝ }
 {
     let options = options_of(
@@ -220,6 +223,7 @@ pub extern "C" fn longdust_process(
         forward_list,
         reverse_list,
         list,
+        marks,
     );
     *in_range = flag_of(answer.in_range);
     count_or_refusal(answer.refusal, answer.count)

@@ -19,7 +19,7 @@ use mathlib.Core.List
 use mathlib.Core.Path as Path'
 use mir.Syntax
 
-abbrev pub ps : List.List (Kinds.PK 4)
+abbrev pub ps : List.List (Kinds.PK 5)
 ps =
     List._∷_
     (Kinds.pNum Syntax.w64)
@@ -47,9 +47,9 @@ ps =
     (ShrSlice.pShrS (Referent.rtF (Referent.fFloat Ieee.binary64)) 2 tt)
     (List._∷_
     (MutSlice.pMutS (Array.Array (Referent.rtF (Referent.fInt Syntax.w32)) 2) 3 tt)
-    List.[])))))
+    (List._∷_ (MutSlice.pMutS (Referent.rtF (Referent.fInt Syntax.w8)) 4 tt) List.[]))))))
 
-abbrev pub r : Kinds.RK 4
+abbrev pub r : Kinds.RK 5
 r = Value.rVal record {
   ty = Declared.row Answer.the-type;
   one = Path'.refl;

@@ -14,9 +14,9 @@ use Rattle.longdust.specs.declared.Answer.{Answer}
 use Rattle.longdust.specs.Buffers.{Buffers}
 use Rattle.longdust.specs.Call.{Answered, Kept}
 
--- Slice `number` has as many entries as listed, one less if it is the short one, none if all are empty (12); at most `room`.
+-- Slice `number` has as many entries as listed, one less if it is the short one, none if all are empty (13); at most `room`.
 unfoldable pub size : ℕ → ℕ → ℕ → ℕ → ℕ
-size number short listed room = min (cond (eqb short 12) 0 (cond (eqb short number) (listed - 1) listed)) room
+size number short listed room = min (cond (eqb short 13) 0 (cond (eqb short number) (listed - 1) listed)) room
 
 -- The tables are filled by their formulas where the record lends none and k and w leave room for them.
 unfoldable pub filling : Bool → ℕ → ℕ → Bool
@@ -29,8 +29,8 @@ pub record Formulas (lent : Bool) (o : LongdustOptions) (s : List ℕ) (ln f ln�
   pub ln-is : ln′ ≡ cond (filling lent (o .kmer) (o .«window_size»)) (put (lnTable (o .«window_size»)) ln) ln
   pub f-is : f′ ≡ cond (filling lent (o .kmer) (o .«window_size»)) (put (fOf o s) f) f
 
--- What the call on lent tables answers, on some buffers with these tables and this list.
-pub record Replayed (o : LongdustOptions) (s : List ℕ) (ln f : List Float) (xs xs′ : List (List ℕ)) (r : Answer) : Type 0 where
+-- What the call on lent tables answers, on some buffers with these tables, this list and these marks.
+pub record Replayed (o : LongdustOptions) (s : List ℕ) (ln f : List Float) (xs xs′ : List (List ℕ)) (ys ys′ : List ℕ) (r : Answer) : Type 0 where
   pub before : Buffers
   pub after : Buffers
   pub answered : Answered Kept o s before after r
@@ -38,3 +38,5 @@ pub record Replayed (o : LongdustOptions) (s : List ℕ) (ln f : List Float) (xs
   pub f-is : before .f ≡ f
   pub list-before : before .list ≡ xs
   pub list-after : after .list ≡ xs′
+  pub marks-before : before .marks ≡ ys
+  pub marks-after : after .marks ≡ ys′

@@ -17,7 +17,7 @@ pub const LETTERS_ROOM: usize = 200;
 
 pub const LIST_ROOM: usize = 100;
 // What a record names in place of the short slice where all are empty.
-const ALL_EMPTY: u64 = 12;
+const ALL_EMPTY: u64 = 13;
 
 fn least(a: usize, b: usize) -> usize
     ensures { λ r. ⌜ r ≡ min a b ⌝ }
@@ -91,9 +91,10 @@ pub fn answer(
     ln: &[f64],
     f: &[f64],
     list: &mut [[u32; 2]],
+    marks: &mut [u8],
 ) -> Answer
     ensures { λ r. ⌜ Replayed options (now (sequence .entry)) (now (ln .entry)) (now (f .entry))
-        (now (list .entry)) (now (list .exit)) r ⌝ }
+        (now (list .entry)) (now (list .exit)) (now (marks .entry)) (now (marks .exit)) r ⌝ }
 {
     let n = sequence.len();
     let k = least(options.kmer, 6);
@@ -130,5 +131,6 @@ pub fn answer(
         &mut forward_list[..forward_list_size],
         &mut reverse_list[..reverse_list_size],
         list,
+        marks,
     )
 }

@@ -23,6 +23,7 @@ fn replay_record(text: &[u8], c: Cursor) -> Compared {
     let mut f = [1e300f64; call::F_ROOM];
     let mut letters = [0xeeu8; call::LETTERS_ROOM];
     let mut list = call::some_intervals();
+    let mut marks = [0xeeu8; call::LIST_ROOM];
     let head = request::head(text, c);
     let options = head.options;
     let cursor = head.cursor;
@@ -34,6 +35,7 @@ fn replay_record(text: &[u8], c: Cursor) -> Compared {
     let f_size = call::entries(2, head.short, options.window_size + 2, call::F_ROOM);
     let most = (n + 1) / (options.kmer + 1);
     let list_size = call::entries(11, head.short, most, call::LIST_ROOM);
+    let marks_size = call::entries(12, head.short, most, call::LIST_ROOM);
     let answer = call::answer(
         head.short,
         &letters[..n],
@@ -41,8 +43,9 @@ fn replay_record(text: &[u8], c: Cursor) -> Compared {
         &ln[..ln_size],
         &f[..f_size],
         &mut list[..list_size],
+        &mut marks[..marks_size],
     );
-    recorded::compare(text, after_letters, answer, &list)
+    recorded::compare(text, after_letters, answer, &list, &marks)
 }
 
 // Names a record that is answered otherwise; answers 1 for one that is not.

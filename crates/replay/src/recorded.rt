@@ -21,6 +21,12 @@ fn wide(x: u32) -> u64
     x as u64
 }
 
+fn wide_byte(x: u8) -> u64
+    ensures { λ r. ⌜ r ≡ x ⌝ }
+{
+    x as u64
+}
+
 // Whether entry i of a list is there and is [start, end].
 fn has(list: &[[u32; 2]], i: usize, start: u64, end: u64) -> bool
     ensures { λ r. ⌜ (let L = now (list .entry) in
@@ -32,23 +38,40 @@ fn has(list: &[[u32; 2]], i: usize, start: u64, end: u64) -> bool
     (wide(list[i][0]) == start) & (wide(list[i][1]) == end)
 }
 
-// Reads `c.word` intervals and compares them with the first ones of a list.
-fn intervals(text: &[u8], c: Cursor, alike: bool, list: &[[u32; 2]]) -> Compared {
+// Whether entry i of the marks is there and is `mark`.
+fn has_mark(marks: &[u8], i: usize, mark: u64) -> bool
+    ensures { λ r. ⌜ r ≡ (ltb i (length (now (marks .entry))) && eqb (getD (now (marks .entry)) i 0) mark) ⌝ }
+{
+    if marks.len() <= i {
+        return false;
+    }
+    wide_byte(marks[i]) == mark
+}
+
+// Reads `c.word` intervals with their marks and compares them with the first ones of a list.
+fn intervals(text: &[u8], c: Cursor, alike: bool, list: &[[u32; 2]], marks: &[u8]) -> Compared {
     let count = c.word;
     let mut cursor = c;
     let mut same = alike;
     let mut i = 0;
     while (i as u64) < count {
         let start = words::number(text, cursor, u32::MAX);
-        cursor = words::number(text, start, u32::MAX);
-        same = same & has(list, i, start.word, cursor.word);
+        let end = words::number(text, start, u32::MAX);
+        cursor = words::number(text, end, 3);
+        same = same & (has(list, i, start.word, end.word) & has_mark(marks, i, cursor.word));
         i += 1;
     }
     Compared { same, cursor }
 }
 
-// Reads the recorded answer and compares: refusal, flag, count and intervals.
-pub fn compare(text: &[u8], c: Cursor, answer: Answer, list: &[[u32; 2]]) -> Compared {
+// Reads the recorded answer and compares: refusal, flag, count, intervals and marks.
+pub fn compare(
+    text: &[u8],
+    c: Cursor,
+    answer: Answer,
+    list: &[[u32; 2]],
+    marks: &[u8],
+) -> Compared {
     let refusal = words::number(text, c, 13);
     let alike = answer.refusal as u64 == refusal.word;
     if refusal.word != 0 {
@@ -61,5 +84,5 @@ pub fn compare(text: &[u8], c: Cursor, answer: Answer, list: &[[u32; 2]]) -> Com
     let count = words::number(text, in_range, 100);
     let flag = in_range.word == 1;
     let same = alike & !(answer.in_range ^ flag) & (answer.count as u64 == count.word);
-    intervals(text, count, same, list)
+    intervals(text, count, same, list, marks)
 }

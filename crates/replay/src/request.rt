@@ -54,7 +54,7 @@ pub fn head(text: &[u8], c: Cursor) -> Request
     let threshold = words::bits(text, forward_only);
     let gc_kind = words::number(text, threshold, 2);
     let fixed = words::bits(text, gc_kind);
-    let short = words::number(text, fixed, 12);
+    let short = words::number(text, fixed, 13);
     let lent = words::number(text, short, 1);
     let options = LongdustOptions {
         window_size: window_size.word as usize,

@@ -8,8 +8,8 @@ mod Tie
 
 returns : tie.Need-returns
 returns c =
-    let P = c .before .before .before .before .before .before .before .before .before .before .before in
-    let D = P .before .before .before .before .before .before .before .before .before .before .before .before in
+    let P = c .before .before .before .before .before .before .before .before .before .before .before .before in
+    let D = P .before .before .before .before .before .before .before .before .before .before .before .before .before in
     let S = D .before .before .before .before .before in
     ran _ _ _ (S .args .list .now) (search needs) (search needs) (search needs) (S .pre) (D .default .ensures) (P .process .ensures)
 
@@ -21,6 +21,7 @@ mask-letters-spec =
     (λ c κs. search needs)
     (λ c κs. search needs)
     (λ c κs. search needs)
+    (λ c. search needs)
     (λ c. search needs)
     (λ c. search needs)
     (λ c. search needs)

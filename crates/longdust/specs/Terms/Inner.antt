@@ -52,6 +52,7 @@ pub record Enough (n k w : ℕ) (b : Lent) : Type 0 where
   pub forward-list : mostIntervals n k ≤ b .«forward_list»
   pub reverse-list : mostIntervals n k ≤ b .«reverse_list»
   pub list : mostIntervals n k ≤ b .list
+  pub marks : mostIntervals n k ≤ b .marks
 
 pub record Admitted (o : LongdustOptions) (n : ℕ) (b : Lent) : Type 0 where
   pub bounds : Bounds o
@@ -85,14 +86,16 @@ pub record Exact (p : Params) (n : ℕ) (b : Lent) : Type 0 where
   pub reverse : ReverseLent p n (b .ln) (b .f) (b .queue) (b .«window_counts») (b .«scan_counts») (b .candidates) (b .«reverse_codes»)
       (b .«reverse_list»)
   pub list : mostIntervals n (p .kmer) ≤ b .list
+  pub marks : mostIntervals n (p .kmer) ≤ b .marks
 
--- Two lists in the fronts of their slices, the second within n letters, and room for what they give joined.
+-- Two lists in the fronts of their slices, the second within n letters, and room for what they give joined and for its marks.
 pub record Mergeable (forward : List (List ℕ)) (forward-count : ℕ) (reverse : List (List ℕ)) (reverse-count n : ℕ)
-    (list : List (List ℕ)) : Type 0 where
+    (list : List (List ℕ)) (marks : List ℕ) : Type 0 where
   pub forward-within : forward-count ≤ length forward
   pub reverse-within : reverse-count ≤ length reverse
   pub inside : Inside n (listOf (take reverse-count reverse))
   pub room : length (merge (listOf (take forward-count forward)) (backwards n (listOf (take reverse-count reverse)))) ≤ length list
+  pub marks-room : length (merge (listOf (take forward-count forward)) (backwards n (listOf (take reverse-count reverse)))) ≤ length marks
 
 -- The run on the codes cs of an accepted request.
 pub record Ran (o : LongdustOptions) (cs : List ℕ) (b b′ : Buffers) (r : Answer) : Type 0 where

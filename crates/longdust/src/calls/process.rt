@@ -24,14 +24,15 @@ pub fn process(
     forward_list: &mut [[u32; 2]],
     reverse_list: &mut [[u32; 2]],
     list: &mut [[u32; 2]],
+    marks: &mut [u8],
 ) -> Answer
     ensures { λ r. ⌜ Answered Filled options (now (sequence .entry))
         (buffers (now (ln .entry)) (now (f .entry)) (now (queue .entry)) (now («window_counts» .entry)) (now («scan_counts» .entry))
         (now (candidates .entry)) (now (codes .entry)) (now («reverse_codes» .entry))
-        (now («forward_list» .entry)) (now («reverse_list» .entry)) (now (list .entry)))
+        (now («forward_list» .entry)) (now («reverse_list» .entry)) (now (list .entry)) (now (marks .entry)))
         (buffers (now (ln .exit)) (now (f .exit)) (now (queue .exit)) (now («window_counts» .exit)) (now («scan_counts» .exit))
         (now (candidates .exit)) (now (codes .exit)) (now («reverse_codes» .exit))
-        (now («forward_list» .exit)) (now («reverse_list» .exit)) (now (list .exit))) r ⌝ }
+        (now («forward_list» .exit)) (now («reverse_list» .exit)) (now (list .exit)) (now (marks .exit))) r ⌝ }
 {
     let lent = Lent {
         ln: ln.len(),
@@ -45,6 +46,7 @@ pub fn process(
         forward_list: forward_list.len(),
         reverse_list: reverse_list.len(),
         list: list.len(),
+        marks: marks.len(),
     };
     let refusal = check(options, sequence, lent);
     if refusal != 0 {
@@ -68,5 +70,6 @@ pub fn process(
         forward_list,
         reverse_list,
         list,
+        marks,
     )
 }

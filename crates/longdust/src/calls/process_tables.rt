@@ -9,7 +9,7 @@ use crate::refusals::check;
 use crate::refusals::refused;
 use crate::run::mask_encoded;
 
-// Masks `sequence` by the tables `ln` and `f`. The intervals go to the front of `list`; the answer has their count, or the refusal.
+// Masks `sequence` by the tables `ln` and `f`. The intervals go to the front of `list`, their marks to that of `marks`; the answer has their count, or the refusal.
 pub fn process_tables(
     sequence: &[u8],
     options: LongdustOptions,
@@ -24,14 +24,15 @@ pub fn process_tables(
     forward_list: &mut [[u32; 2]],
     reverse_list: &mut [[u32; 2]],
     list: &mut [[u32; 2]],
+    marks: &mut [u8],
 ) -> Answer
     ensures { λ r. ⌜ Answered Kept options (now (sequence .entry))
         (buffers (now (ln .entry)) (now (f .entry)) (now (queue .entry)) (now («window_counts» .entry)) (now («scan_counts» .entry))
         (now (candidates .entry)) (now (codes .entry)) (now («reverse_codes» .entry))
-        (now («forward_list» .entry)) (now («reverse_list» .entry)) (now (list .entry)))
+        (now («forward_list» .entry)) (now («reverse_list» .entry)) (now (list .entry)) (now (marks .entry)))
         (buffers (now (ln .exit)) (now (f .exit)) (now (queue .exit)) (now («window_counts» .exit)) (now («scan_counts» .exit))
         (now (candidates .exit)) (now (codes .exit)) (now («reverse_codes» .exit))
-        (now («forward_list» .exit)) (now («reverse_list» .exit)) (now (list .exit))) r ⌝ }
+        (now («forward_list» .exit)) (now («reverse_list» .exit)) (now (list .exit)) (now (marks .exit))) r ⌝ }
 {
     let lent = Lent {
         ln: ln.len(),
@@ -45,6 +46,7 @@ pub fn process_tables(
         forward_list: forward_list.len(),
         reverse_list: reverse_list.len(),
         list: list.len(),
+        marks: marks.len(),
     };
     let refusal = check(options, sequence, lent);
     if refusal != 0 {
@@ -65,5 +67,6 @@ pub fn process_tables(
         forward_list,
         reverse_list,
         list,
+        marks,
     )
 }

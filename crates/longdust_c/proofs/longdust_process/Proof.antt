@@ -7,7 +7,7 @@ mod Lts
 mod Tie
 
 abbrev call : tie.After-count-or-refusal → tie.After-process
-call c = c .before .before .before .before .before .before .before .before .before .before .before .before .before .before .before .before .before .before .before .before
+call c = c .before .before .before .before .before .before .before .before .before .before .before .before .before .before .before .before .before .before .before .before .before .before
 
 pub longdust-process-spec : {M : Type 1} → statement M
 longdust-process-spec =
@@ -16,7 +16,7 @@ longdust-process-spec =
     (λ c κs. search needs)
     (λ c κs. search needs)
     (λ c κs. search needs)
-    (λ c κs. count-small (c .before .before .before .before .before .before .before .before .before .before .before .before .before .before .before .before .before .before .before .process .ensures))
+    (λ c κs. count-small (c .before .before .before .before .before .before .before .before .before .before .before .before .before .before .before .before .before .before .before .before .before .process .ensures))
     (λ c. call c .process .kept .1 .1 .0)
     (λ c. call c .process .kept .1 .1 .1 .0)
     (λ c. call c .process .kept .1 .1 .1 .1 .0)
@@ -28,6 +28,7 @@ longdust-process-spec =
     (λ c. call c .process .kept .1 .1 .1 .1 .1 .1 .1 .1 .1 .1 .0)
     (λ c. call c .process .kept .1 .1 .1 .1 .1 .1 .1 .1 .1 .1 .1 .0)
     (λ c. call c .process .kept .1 .1 .1 .1 .1 .1 .1 .1 .1 .1 .1 .1 .0)
+    (λ c. call c .process .kept .1 .1 .1 .1 .1 .1 .1 .1 .1 .1 .1 .1 .1 .0)
     (λ c.
-    exported (call c .process .ensures) (call c .before .before .before .before .before .before .before .before .before .before .before .before .options-of .ensures) (record { sfits = c .count-or-refusal .ok }) (c .count-or-refusal .ensures)
+    exported (call c .process .ensures) (call c .before .before .before .before .before .before .before .before .before .before .before .before .before .options-of .ensures) (record { sfits = c .count-or-refusal .ok }) (c .count-or-refusal .ensures)
     (c .before .flag-of .ensures)))

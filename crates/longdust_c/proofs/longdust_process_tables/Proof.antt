@@ -7,7 +7,7 @@ mod Lts
 mod Tie
 
 abbrev call : tie.After-count-or-refusal → tie.After-process-tables
-call c = c .before .before .before .before .before .before .before .before .before .before .before .before .before .before .before .before
+call c = c .before .before .before .before .before .before .before .before .before .before .before .before .before .before .before .before .before .before
 
 pub longdust-process-tables-spec : {M : Type 1} → statement M
 longdust-process-tables-spec =
@@ -16,7 +16,7 @@ longdust-process-tables-spec =
     (λ c κs. search needs)
     (λ c κs. search needs)
     (λ c κs. search needs)
-    (λ c κs. count-small (c .before .before .before .before .before .before .before .before .before .before .before .before .before .before .before .process-tables .ensures))
+    (λ c κs. count-small (c .before .before .before .before .before .before .before .before .before .before .before .before .before .before .before .before .before .process-tables .ensures))
     (λ c. call c .process-tables .kept .1 .1 .1 .1 .0)
     (λ c. call c .process-tables .kept .1 .1 .1 .1 .1 .0)
     (λ c. call c .process-tables .kept .1 .1 .1 .1 .1 .1 .0)
@@ -26,6 +26,7 @@ longdust-process-tables-spec =
     (λ c. call c .process-tables .kept .1 .1 .1 .1 .1 .1 .1 .1 .1 .1 .0)
     (λ c. call c .process-tables .kept .1 .1 .1 .1 .1 .1 .1 .1 .1 .1 .1 .0)
     (λ c. call c .process-tables .kept .1 .1 .1 .1 .1 .1 .1 .1 .1 .1 .1 .1 .0)
+    (λ c. call c .process-tables .kept .1 .1 .1 .1 .1 .1 .1 .1 .1 .1 .1 .1 .1 .0)
     (λ c.
-    exported (call c .process-tables .ensures) (call c .before .before .before .before .before .before .before .before .before .before .options-of .ensures) (record { sfits = c .count-or-refusal .ok }) (c .count-or-refusal .ensures)
+    exported (call c .process-tables .ensures) (call c .before .before .before .before .before .before .before .before .before .before .before .options-of .ensures) (record { sfits = c .count-or-refusal .ok }) (c .count-or-refusal .ensures)
     (c .before .flag-of .ensures)))

@@ -156,6 +156,9 @@ y24 = Syntax.tyRef Syntax.erased Syntax.mut (Syntax.tyArray y1 2)
 abbrev y25 : Syntax.Ty
 y25 = Syntax.tyStruct (38 ∷ 91 ∷ 93 ∷ []) (Syntax.tcons y24 (Syntax.tcons y4 Syntax.tnil))
 
+abbrev y26 : Syntax.Ty
+y26 = Syntax.tyRef Syntax.erased Syntax.mut (Syntax.tyArray y3 4096)
+
 abbrev q3 : Rows·type.RattleType
 q3 = Declared.row LongdustOptions.the-type
 
@@ -168,23 +171,23 @@ q5 = Referent.rtF (Referent.fInt Syntax.w16)
 abbrev q6 : Rows·type.RattleType
 q6 = Declared.row Answer.the-type
 
-abbrev y26 : Syntax.Ty
-y26 = Syntax.tyStruct (99 ∷ 111 ∷ 110 ∷ 116 ∷ 105 ∷ 103 ∷ 58 ∷ 58 ∷ 79 ∷ 117 ∷ 116 ∷ 99 ∷ 111 ∷ 109 ∷ 101 ∷ []) (Syntax.tcons y1 (Syntax.tcons y4 Syntax.tnil))
+abbrev y27 : Syntax.Ty
+y27 = Syntax.tyStruct (99 ∷ 111 ∷ 110 ∷ 116 ∷ 105 ∷ 103 ∷ 58 ∷ 58 ∷ 79 ∷ 117 ∷ 116 ∷ 99 ∷ 111 ∷ 109 ∷ 101 ∷ []) (Syntax.tcons y1 (Syntax.tcons y4 Syntax.tnil))
 
 abbrev e0 : Row.Entry
-e0 = (0, Rows'.any-gone y26)
-
-abbrev y27 : Syntax.Ty
-y27 = Syntax.tyRef (Syntax.named 0) Syntax.imm y3
-
-abbrev e1 : Row.Entry
-e1 = (1, Rows'.sslice q0 y27 0)
+e0 = (0, Rows'.any-gone y27)
 
 abbrev y28 : Syntax.Ty
-y28 = Syntax.tyRef (Syntax.named 1) Syntax.mut (Syntax.tyArray y1 2)
+y28 = Syntax.tyRef (Syntax.named 0) Syntax.imm y3
+
+abbrev e1 : Row.Entry
+e1 = (1, Rows'.sslice q0 y28 0)
+
+abbrev y29 : Syntax.Ty
+y29 = Syntax.tyRef (Syntax.named 1) Syntax.mut (Syntax.tyArray y1 2)
 
 abbrev e2 : Row.Entry
-e2 = (2, Mut.mslice (Array'.Array q1 2) y28 1)
+e2 = (2, Mut.mslice (Array'.Array q1 2) y29 1)
 
 abbrev e3 : Row.Entry
 e3 = (3, Rows'.any-gone (Syntax.tyArray y0 5001))
@@ -217,13 +220,13 @@ abbrev e12 : Row.Entry
 e12 = (12, Rows'.any-gone (Syntax.tyArray (Syntax.tyArray y1 2) 4096))
 
 abbrev e13 : Row.Entry
-e13 = (13, Rows'.any-gone y5)
+e13 = (13, Rows'.any-gone (Syntax.tyArray y3 4096))
 
 abbrev e14 : Row.Entry
-e14 = (14, Rows'.any-gone (Syntax.tyArray Rec·laws.mir 5000))
+e14 = (14, Rows'.any-gone y5)
 
 abbrev e15 : Row.Entry
-e15 = (15, Rows'.any-gone (Syntax.tyArray (Syntax.tyArray y1 2) 4096))
+e15 = (15, Rows'.any-gone (Syntax.tyArray Rec·laws.mir 5000))
 
 abbrev c0 : List.List Row.Entry
 c0 = e0 ∷ e1 ∷ e2 ∷ e3 ∷ e4 ∷ e5 ∷ e6 ∷ e7 ∷ []
@@ -232,52 +235,52 @@ abbrev c1 : List.List Row.Entry
 c1 = e8 ∷ e9 ∷ e10 ∷ e11 ∷ e12 ∷ e13 ∷ e14 ∷ e15 ∷ []
 
 abbrev e16 : Row.Entry
-e16 = (16, Rows'.any-gone y6)
+e16 = (16, Rows'.any-gone (Syntax.tyArray (Syntax.tyArray y1 2) 4096))
 
 abbrev e17 : Row.Entry
-e17 = (17, Rows'.any-gone y7)
+e17 = (17, Rows'.any-gone y6)
 
 abbrev e18 : Row.Entry
-e18 = (18, Rows'.any-gone y9)
+e18 = (18, Rows'.any-gone y7)
 
 abbrev e19 : Row.Entry
-e19 = (19, Rows'.any-gone y10)
+e19 = (19, Rows'.any-gone y9)
 
 abbrev e20 : Row.Entry
-e20 = (20, Rows'.any-gone y9)
+e20 = (20, Rows'.any-gone y10)
 
 abbrev e21 : Row.Entry
-e21 = (21, Rows'.any-gone y11)
+e21 = (21, Rows'.any-gone y9)
 
 abbrev e22 : Row.Entry
-e22 = (22, Rows'.any-gone y13)
+e22 = (22, Rows'.any-gone y11)
 
 abbrev e23 : Row.Entry
-e23 = (23, Rows'.any-gone y14)
+e23 = (23, Rows'.any-gone y13)
 
 abbrev e24 : Row.Entry
-e24 = (24, Rows'.any-gone y16)
+e24 = (24, Rows'.any-gone y14)
 
 abbrev e25 : Row.Entry
-e25 = (25, Rows'.any-gone y14)
+e25 = (25, Rows'.any-gone y16)
 
 abbrev e26 : Row.Entry
-e26 = (26, Rows'.any-gone y16)
+e26 = (26, Rows'.any-gone y14)
 
 abbrev e27 : Row.Entry
-e27 = (27, Rows'.any-gone y17)
+e27 = (27, Rows'.any-gone y16)
 
 abbrev e28 : Row.Entry
-e28 = (28, Rows'.any-gone y19)
+e28 = (28, Rows'.any-gone y17)
 
 abbrev e29 : Row.Entry
-e29 = (29, Rows'.any-gone y20)
+e29 = (29, Rows'.any-gone y19)
 
 abbrev e30 : Row.Entry
-e30 = (30, Rows'.any-gone y22)
+e30 = (30, Rows'.any-gone y20)
 
 abbrev e31 : Row.Entry
-e31 = (31, Rows'.any-gone y20)
+e31 = (31, Rows'.any-gone y22)
 
 abbrev c2 : List.List Row.Entry
 c2 = e16 ∷ e17 ∷ e18 ∷ e19 ∷ e20 ∷ e21 ∷ e22 ∷ e23 ∷ []
@@ -286,550 +289,607 @@ abbrev c3 : List.List Row.Entry
 c3 = e24 ∷ e25 ∷ e26 ∷ e27 ∷ e28 ∷ e29 ∷ e30 ∷ e31 ∷ []
 
 abbrev e32 : Row.Entry
-e32 = (32, Rows'.any-gone y22)
+e32 = (32, Rows'.any-gone y20)
 
 abbrev e33 : Row.Entry
-e33 = (33, Rows'.any-gone y23)
+e33 = (33, Rows'.any-gone y22)
 
 abbrev e34 : Row.Entry
-e34 = (34, Rows'.any-gone y25)
+e34 = (34, Rows'.any-gone y23)
 
 abbrev e35 : Row.Entry
-e35 = (35, Rows'.any-gone y23)
+e35 = (35, Rows'.any-gone y25)
 
 abbrev e36 : Row.Entry
-e36 = (36, Rows'.any-gone y25)
+e36 = (36, Rows'.any-gone y23)
 
 abbrev e37 : Row.Entry
-e37 = (37, Rows'.any-gone y24)
+e37 = (37, Rows'.any-gone y25)
 
 abbrev e38 : Row.Entry
-e38 = (38, Rows'.any-gone y25)
-
-abbrev c4 : List.List Row.Entry
-c4 = e32 ∷ e33 ∷ e34 ∷ e35 ∷ e36 ∷ e37 ∷ e38 ∷ []
+e38 = (38, Rows'.any-gone y24)
 
 abbrev e39 : Row.Entry
-e39 = (0, Rows'.whole q2)
-
-abbrev c5 : List.List Row.Entry
-c5 = e39 ∷ e1 ∷ e2 ∷ e3 ∷ e4 ∷ e5 ∷ e6 ∷ e7 ∷ []
+e39 = (39, Rows'.any-gone y25)
 
 abbrev e40 : Row.Entry
-e40 = (3, Rows'.whole (Array'.Array q4 5001))
-
-abbrev c6 : List.List Row.Entry
-c6 = e0 ∷ e1 ∷ e2 ∷ e40 ∷ e4 ∷ e5 ∷ e6 ∷ e7 ∷ []
+e40 = (40, Rows'.any-gone y26)
 
 abbrev e41 : Row.Entry
-e41 = (3, Rows.arrF q4 5001 0)
+e41 = (41, Rows'.any-gone y22)
 
-abbrev c7 : List.List Row.Entry
-c7 = e0 ∷ e1 ∷ e2 ∷ e41 ∷ e4 ∷ e5 ∷ e6 ∷ e7 ∷ []
+abbrev c4 : List.List Row.Entry
+c4 = e32 ∷ e33 ∷ e34 ∷ e35 ∷ e36 ∷ e37 ∷ e38 ∷ e39 ∷ []
+
+abbrev c5 : List.List Row.Entry
+c5 = e40 ∷ e41 ∷ []
 
 abbrev e42 : Row.Entry
-e42 = (4, Rows'.whole (Array'.Array q4 5002))
+e42 = (0, Rows'.whole q2)
 
-abbrev c8 : List.List Row.Entry
-c8 = e0 ∷ e1 ∷ e2 ∷ e41 ∷ e42 ∷ e5 ∷ e6 ∷ e7 ∷ []
+abbrev c6 : List.List Row.Entry
+c6 = e42 ∷ e1 ∷ e2 ∷ e3 ∷ e4 ∷ e5 ∷ e6 ∷ e7 ∷ []
 
 abbrev e43 : Row.Entry
-e43 = (4, Rows.arrF q4 5002 0)
+e43 = (3, Rows'.whole (Array'.Array q4 5001))
 
-abbrev c9 : List.List Row.Entry
-c9 = e0 ∷ e1 ∷ e2 ∷ e41 ∷ e43 ∷ e5 ∷ e6 ∷ e7 ∷ []
+abbrev c7 : List.List Row.Entry
+c7 = e0 ∷ e1 ∷ e2 ∷ e43 ∷ e4 ∷ e5 ∷ e6 ∷ e7 ∷ []
 
 abbrev e44 : Row.Entry
-e44 = (5, Rows'.whole (Array'.Array q1 5000))
+e44 = (3, Rows.arrF q4 5001 0)
 
-abbrev c10 : List.List Row.Entry
-c10 = e0 ∷ e1 ∷ e2 ∷ e41 ∷ e43 ∷ e44 ∷ e6 ∷ e7 ∷ []
+abbrev c8 : List.List Row.Entry
+c8 = e0 ∷ e1 ∷ e2 ∷ e44 ∷ e4 ∷ e5 ∷ e6 ∷ e7 ∷ []
 
 abbrev e45 : Row.Entry
-e45 = (5, Rows.arrF q1 5000 0)
+e45 = (4, Rows'.whole (Array'.Array q4 5002))
 
-abbrev c11 : List.List Row.Entry
-c11 = e0 ∷ e1 ∷ e2 ∷ e41 ∷ e43 ∷ e45 ∷ e6 ∷ e7 ∷ []
+abbrev c9 : List.List Row.Entry
+c9 = e0 ∷ e1 ∷ e2 ∷ e44 ∷ e45 ∷ e5 ∷ e6 ∷ e7 ∷ []
 
 abbrev e46 : Row.Entry
-e46 = (6, Rows'.whole (Array'.Array q5 16384))
+e46 = (4, Rows.arrF q4 5002 0)
 
-abbrev c12 : List.List Row.Entry
-c12 = e0 ∷ e1 ∷ e2 ∷ e41 ∷ e43 ∷ e45 ∷ e46 ∷ e7 ∷ []
+abbrev c10 : List.List Row.Entry
+c10 = e0 ∷ e1 ∷ e2 ∷ e44 ∷ e46 ∷ e5 ∷ e6 ∷ e7 ∷ []
 
 abbrev e47 : Row.Entry
-e47 = (6, Rows.arrF q5 16384 0)
+e47 = (5, Rows'.whole (Array'.Array q1 5000))
 
-abbrev c13 : List.List Row.Entry
-c13 = e0 ∷ e1 ∷ e2 ∷ e41 ∷ e43 ∷ e45 ∷ e47 ∷ e7 ∷ []
+abbrev c11 : List.List Row.Entry
+c11 = e0 ∷ e1 ∷ e2 ∷ e44 ∷ e46 ∷ e47 ∷ e6 ∷ e7 ∷ []
 
 abbrev e48 : Row.Entry
-e48 = (7, Rows'.whole (Array'.Array q5 16384))
+e48 = (5, Rows.arrF q1 5000 0)
 
-abbrev c14 : List.List Row.Entry
-c14 = e0 ∷ e1 ∷ e2 ∷ e41 ∷ e43 ∷ e45 ∷ e47 ∷ e48 ∷ []
+abbrev c12 : List.List Row.Entry
+c12 = e0 ∷ e1 ∷ e2 ∷ e44 ∷ e46 ∷ e48 ∷ e6 ∷ e7 ∷ []
 
 abbrev e49 : Row.Entry
-e49 = (7, Rows.arrF q5 16384 0)
+e49 = (6, Rows'.whole (Array'.Array q5 16384))
 
-abbrev c15 : List.List Row.Entry
-c15 = e0 ∷ e1 ∷ e2 ∷ e41 ∷ e43 ∷ e45 ∷ e47 ∷ e49 ∷ []
+abbrev c13 : List.List Row.Entry
+c13 = e0 ∷ e1 ∷ e2 ∷ e44 ∷ e46 ∷ e48 ∷ e49 ∷ e7 ∷ []
 
 abbrev e50 : Row.Entry
-e50 = (14, Rows.arrF Rec·type.the-row 5000 0)
+e50 = (6, Rows.arrF q5 16384 0)
 
-abbrev c16 : List.List Row.Entry
-c16 = e8 ∷ e9 ∷ e10 ∷ e11 ∷ e12 ∷ e13 ∷ e50 ∷ e15 ∷ []
+abbrev c14 : List.List Row.Entry
+c14 = e0 ∷ e1 ∷ e2 ∷ e44 ∷ e46 ∷ e48 ∷ e50 ∷ e7 ∷ []
 
 abbrev e51 : Row.Entry
-e51 = (8, Rows.arrF Rec·type.the-row 5000 0)
+e51 = (7, Rows'.whole (Array'.Array q5 16384))
 
-abbrev c17 : List.List Row.Entry
-c17 = e51 ∷ e9 ∷ e10 ∷ e11 ∷ e12 ∷ e13 ∷ e50 ∷ e15 ∷ []
-
-abbrev c18 : List.List Row.Entry
-c18 = e51 ∷ e9 ∷ e10 ∷ e11 ∷ e12 ∷ e13 ∷ e14 ∷ e15 ∷ []
+abbrev c15 : List.List Row.Entry
+c15 = e0 ∷ e1 ∷ e2 ∷ e44 ∷ e46 ∷ e48 ∷ e50 ∷ e51 ∷ []
 
 abbrev e52 : Row.Entry
-e52 = (9, Rows'.whole (Array'.Array q0 32768))
+e52 = (7, Rows.arrF q5 16384 0)
 
-abbrev c19 : List.List Row.Entry
-c19 = e51 ∷ e52 ∷ e10 ∷ e11 ∷ e12 ∷ e13 ∷ e14 ∷ e15 ∷ []
+abbrev c16 : List.List Row.Entry
+c16 = e0 ∷ e1 ∷ e2 ∷ e44 ∷ e46 ∷ e48 ∷ e50 ∷ e52 ∷ []
 
 abbrev e53 : Row.Entry
-e53 = (9, Rows.arrF q0 32768 0)
+e53 = (15, Rows.arrF Rec·type.the-row 5000 0)
 
-abbrev c20 : List.List Row.Entry
-c20 = e51 ∷ e53 ∷ e10 ∷ e11 ∷ e12 ∷ e13 ∷ e14 ∷ e15 ∷ []
+abbrev c17 : List.List Row.Entry
+c17 = e8 ∷ e9 ∷ e10 ∷ e11 ∷ e12 ∷ e13 ∷ e14 ∷ e53 ∷ []
 
 abbrev e54 : Row.Entry
-e54 = (10, Rows'.whole (Array'.Array q0 32768))
+e54 = (8, Rows.arrF Rec·type.the-row 5000 0)
 
-abbrev c21 : List.List Row.Entry
-c21 = e51 ∷ e53 ∷ e54 ∷ e11 ∷ e12 ∷ e13 ∷ e14 ∷ e15 ∷ []
+abbrev c18 : List.List Row.Entry
+c18 = e54 ∷ e9 ∷ e10 ∷ e11 ∷ e12 ∷ e13 ∷ e14 ∷ e53 ∷ []
+
+abbrev c19 : List.List Row.Entry
+c19 = e54 ∷ e9 ∷ e10 ∷ e11 ∷ e12 ∷ e13 ∷ e14 ∷ e15 ∷ []
 
 abbrev e55 : Row.Entry
-e55 = (10, Rows.arrF q0 32768 0)
+e55 = (9, Rows'.whole (Array'.Array q0 32768))
 
-abbrev c22 : List.List Row.Entry
-c22 = e51 ∷ e53 ∷ e55 ∷ e11 ∷ e12 ∷ e13 ∷ e14 ∷ e15 ∷ []
+abbrev c20 : List.List Row.Entry
+c20 = e54 ∷ e55 ∷ e10 ∷ e11 ∷ e12 ∷ e13 ∷ e14 ∷ e15 ∷ []
 
 abbrev e56 : Row.Entry
-e56 = (15, Rows.arrF (Array'.Array q1 2) 4096 0)
+e56 = (9, Rows.arrF q0 32768 0)
 
-abbrev c23 : List.List Row.Entry
-c23 = e51 ∷ e53 ∷ e55 ∷ e11 ∷ e12 ∷ e13 ∷ e14 ∷ e56 ∷ []
+abbrev c21 : List.List Row.Entry
+c21 = e54 ∷ e56 ∷ e10 ∷ e11 ∷ e12 ∷ e13 ∷ e14 ∷ e15 ∷ []
 
 abbrev e57 : Row.Entry
-e57 = (11, Rows.arrF (Array'.Array q1 2) 4096 0)
+e57 = (10, Rows'.whole (Array'.Array q0 32768))
 
-abbrev c24 : List.List Row.Entry
-c24 = e51 ∷ e53 ∷ e55 ∷ e57 ∷ e12 ∷ e13 ∷ e14 ∷ e56 ∷ []
-
-abbrev c25 : List.List Row.Entry
-c25 = e51 ∷ e53 ∷ e55 ∷ e57 ∷ e12 ∷ e13 ∷ e14 ∷ e15 ∷ []
+abbrev c22 : List.List Row.Entry
+c22 = e54 ∷ e56 ∷ e57 ∷ e11 ∷ e12 ∷ e13 ∷ e14 ∷ e15 ∷ []
 
 abbrev e58 : Row.Entry
-e58 = (12, Rows.arrF (Array'.Array q1 2) 4096 0)
+e58 = (10, Rows.arrF q0 32768 0)
 
-abbrev c26 : List.List Row.Entry
-c26 = e51 ∷ e53 ∷ e55 ∷ e57 ∷ e58 ∷ e13 ∷ e14 ∷ e56 ∷ []
-
-abbrev c27 : List.List Row.Entry
-c27 = e51 ∷ e53 ∷ e55 ∷ e57 ∷ e58 ∷ e13 ∷ e14 ∷ e15 ∷ []
+abbrev c23 : List.List Row.Entry
+c23 = e54 ∷ e56 ∷ e58 ∷ e11 ∷ e12 ∷ e13 ∷ e14 ∷ e15 ∷ []
 
 abbrev e59 : Row.Entry
-e59 = (16, Rows'.whole q3)
+e59 = (16, Rows.arrF (Array'.Array q1 2) 4096 0)
 
-abbrev c28 : List.List Row.Entry
-c28 = e59 ∷ e17 ∷ e18 ∷ e19 ∷ e20 ∷ e21 ∷ e22 ∷ e23 ∷ []
+abbrev c24 : List.List Row.Entry
+c24 = e59 ∷ e17 ∷ e18 ∷ e19 ∷ e20 ∷ e21 ∷ e22 ∷ e23 ∷ []
 
 abbrev e60 : Row.Entry
-e60 = (3, Rows.arr-owed q4 5001 2)
+e60 = (11, Rows.arrF (Array'.Array q1 2) 4096 0)
 
-abbrev c29 : List.List Row.Entry
-c29 = e0 ∷ e1 ∷ e2 ∷ e60 ∷ e43 ∷ e45 ∷ e47 ∷ e49 ∷ []
+abbrev c25 : List.List Row.Entry
+c25 = e54 ∷ e56 ∷ e58 ∷ e60 ∷ e12 ∷ e13 ∷ e14 ∷ e15 ∷ []
 
 abbrev e61 : Row.Entry
-e61 = (17, Relend.msptr q4 y7 2)
+e61 = (12, Rows.arrF (Array'.Array q1 2) 4096 0)
 
-abbrev c30 : List.List Row.Entry
-c30 = e59 ∷ e61 ∷ e18 ∷ e19 ∷ e20 ∷ e21 ∷ e22 ∷ e23 ∷ []
+abbrev c26 : List.List Row.Entry
+c26 = e54 ∷ e56 ∷ e58 ∷ e60 ∷ e61 ∷ e13 ∷ e14 ∷ e15 ∷ []
 
 abbrev e62 : Row.Entry
-e62 = (18, Mut.mslice q4 y8 2)
+e62 = (13, Rows'.whole (Array'.Array q0 4096))
 
-abbrev c31 : List.List Row.Entry
-c31 = e59 ∷ e17 ∷ e62 ∷ e19 ∷ e20 ∷ e21 ∷ e22 ∷ e23 ∷ []
+abbrev c27 : List.List Row.Entry
+c27 = e54 ∷ e56 ∷ e58 ∷ e60 ∷ e61 ∷ e62 ∷ e14 ∷ e15 ∷ []
 
 abbrev e63 : Row.Entry
-e63 = (4, Rows.arr-owed q4 5002 3)
+e63 = (13, Rows.arrF q0 4096 0)
 
-abbrev c32 : List.List Row.Entry
-c32 = e0 ∷ e1 ∷ e2 ∷ e60 ∷ e63 ∷ e45 ∷ e47 ∷ e49 ∷ []
+abbrev c28 : List.List Row.Entry
+c28 = e54 ∷ e56 ∷ e58 ∷ e60 ∷ e61 ∷ e63 ∷ e14 ∷ e15 ∷ []
 
 abbrev e64 : Row.Entry
-e64 = (19, Relend.msptr q4 y10 3)
+e64 = (17, Rows'.whole q3)
 
-abbrev c33 : List.List Row.Entry
-c33 = e59 ∷ e17 ∷ e62 ∷ e64 ∷ e20 ∷ e21 ∷ e22 ∷ e23 ∷ []
+abbrev c29 : List.List Row.Entry
+c29 = e16 ∷ e64 ∷ e18 ∷ e19 ∷ e20 ∷ e21 ∷ e22 ∷ e23 ∷ []
 
 abbrev e65 : Row.Entry
-e65 = (20, Mut.mslice q4 y8 3)
+e65 = (3, Rows.arr-owed q4 5001 2)
 
-abbrev c34 : List.List Row.Entry
-c34 = e59 ∷ e17 ∷ e62 ∷ e19 ∷ e65 ∷ e21 ∷ e22 ∷ e23 ∷ []
+abbrev c30 : List.List Row.Entry
+c30 = e0 ∷ e1 ∷ e2 ∷ e65 ∷ e46 ∷ e48 ∷ e50 ∷ e52 ∷ []
 
 abbrev e66 : Row.Entry
-e66 = (5, Rows.arr-owed q1 5000 4)
+e66 = (18, Relend.msptr q4 y7 2)
 
-abbrev c35 : List.List Row.Entry
-c35 = e0 ∷ e1 ∷ e2 ∷ e60 ∷ e63 ∷ e66 ∷ e47 ∷ e49 ∷ []
+abbrev c31 : List.List Row.Entry
+c31 = e16 ∷ e64 ∷ e66 ∷ e19 ∷ e20 ∷ e21 ∷ e22 ∷ e23 ∷ []
 
 abbrev e67 : Row.Entry
-e67 = (21, Relend.msptr q1 y11 4)
+e67 = (19, Mut.mslice q4 y8 2)
 
-abbrev c36 : List.List Row.Entry
-c36 = e59 ∷ e17 ∷ e62 ∷ e19 ∷ e65 ∷ e67 ∷ e22 ∷ e23 ∷ []
+abbrev c32 : List.List Row.Entry
+c32 = e16 ∷ e64 ∷ e18 ∷ e67 ∷ e20 ∷ e21 ∷ e22 ∷ e23 ∷ []
 
 abbrev e68 : Row.Entry
-e68 = (22, Mut.mslice q1 y12 4)
+e68 = (4, Rows.arr-owed q4 5002 3)
 
-abbrev c37 : List.List Row.Entry
-c37 = e59 ∷ e17 ∷ e62 ∷ e19 ∷ e65 ∷ e21 ∷ e68 ∷ e23 ∷ []
+abbrev c33 : List.List Row.Entry
+c33 = e0 ∷ e1 ∷ e2 ∷ e65 ∷ e68 ∷ e48 ∷ e50 ∷ e52 ∷ []
 
 abbrev e69 : Row.Entry
-e69 = (6, Rows.arr-owed q5 16384 5)
+e69 = (20, Relend.msptr q4 y10 3)
 
-abbrev c38 : List.List Row.Entry
-c38 = e0 ∷ e1 ∷ e2 ∷ e60 ∷ e63 ∷ e66 ∷ e69 ∷ e49 ∷ []
+abbrev c34 : List.List Row.Entry
+c34 = e16 ∷ e64 ∷ e18 ∷ e67 ∷ e69 ∷ e21 ∷ e22 ∷ e23 ∷ []
 
 abbrev e70 : Row.Entry
-e70 = (23, Relend.msptr q5 y14 5)
+e70 = (21, Mut.mslice q4 y8 3)
 
-abbrev c39 : List.List Row.Entry
-c39 = e59 ∷ e17 ∷ e62 ∷ e19 ∷ e65 ∷ e21 ∷ e68 ∷ e70 ∷ []
+abbrev c35 : List.List Row.Entry
+c35 = e16 ∷ e64 ∷ e18 ∷ e67 ∷ e20 ∷ e70 ∷ e22 ∷ e23 ∷ []
 
 abbrev e71 : Row.Entry
-e71 = (24, Mut.mslice q5 y15 5)
+e71 = (5, Rows.arr-owed q1 5000 4)
 
-abbrev c40 : List.List Row.Entry
-c40 = e71 ∷ e25 ∷ e26 ∷ e27 ∷ e28 ∷ e29 ∷ e30 ∷ e31 ∷ []
+abbrev c36 : List.List Row.Entry
+c36 = e0 ∷ e1 ∷ e2 ∷ e65 ∷ e68 ∷ e71 ∷ e50 ∷ e52 ∷ []
 
 abbrev e72 : Row.Entry
-e72 = (7, Rows.arr-owed q5 16384 6)
+e72 = (22, Relend.msptr q1 y11 4)
 
-abbrev c41 : List.List Row.Entry
-c41 = e0 ∷ e1 ∷ e2 ∷ e60 ∷ e63 ∷ e66 ∷ e69 ∷ e72 ∷ []
+abbrev c37 : List.List Row.Entry
+c37 = e16 ∷ e64 ∷ e18 ∷ e67 ∷ e20 ∷ e70 ∷ e72 ∷ e23 ∷ []
 
 abbrev e73 : Row.Entry
-e73 = (25, Relend.msptr q5 y14 6)
+e73 = (23, Mut.mslice q1 y12 4)
 
-abbrev c42 : List.List Row.Entry
-c42 = e71 ∷ e73 ∷ e26 ∷ e27 ∷ e28 ∷ e29 ∷ e30 ∷ e31 ∷ []
+abbrev c38 : List.List Row.Entry
+c38 = e16 ∷ e64 ∷ e18 ∷ e67 ∷ e20 ∷ e70 ∷ e22 ∷ e73 ∷ []
 
 abbrev e74 : Row.Entry
-e74 = (26, Mut.mslice q5 y15 6)
+e74 = (6, Rows.arr-owed q5 16384 5)
 
-abbrev c43 : List.List Row.Entry
-c43 = e71 ∷ e25 ∷ e74 ∷ e27 ∷ e28 ∷ e29 ∷ e30 ∷ e31 ∷ []
+abbrev c39 : List.List Row.Entry
+c39 = e0 ∷ e1 ∷ e2 ∷ e65 ∷ e68 ∷ e71 ∷ e74 ∷ e52 ∷ []
 
 abbrev e75 : Row.Entry
-e75 = (8, Rows.arr-owed Rec·type.the-row 5000 7)
+e75 = (24, Relend.msptr q5 y14 5)
 
-abbrev c44 : List.List Row.Entry
-c44 = e75 ∷ e53 ∷ e55 ∷ e57 ∷ e58 ∷ e13 ∷ e14 ∷ e15 ∷ []
+abbrev c40 : List.List Row.Entry
+c40 = e75 ∷ e25 ∷ e26 ∷ e27 ∷ e28 ∷ e29 ∷ e30 ∷ e31 ∷ []
 
 abbrev e76 : Row.Entry
-e76 = (27, Relend.msptr Rec·type.the-row y17 7)
+e76 = (25, Mut.mslice q5 y15 5)
 
-abbrev c45 : List.List Row.Entry
-c45 = e71 ∷ e25 ∷ e74 ∷ e76 ∷ e28 ∷ e29 ∷ e30 ∷ e31 ∷ []
+abbrev c41 : List.List Row.Entry
+c41 = e24 ∷ e76 ∷ e26 ∷ e27 ∷ e28 ∷ e29 ∷ e30 ∷ e31 ∷ []
 
 abbrev e77 : Row.Entry
-e77 = (28, Mut.mslice Rec·type.the-row y18 7)
+e77 = (7, Rows.arr-owed q5 16384 6)
 
-abbrev c46 : List.List Row.Entry
-c46 = e71 ∷ e25 ∷ e74 ∷ e27 ∷ e77 ∷ e29 ∷ e30 ∷ e31 ∷ []
+abbrev c42 : List.List Row.Entry
+c42 = e0 ∷ e1 ∷ e2 ∷ e65 ∷ e68 ∷ e71 ∷ e74 ∷ e77 ∷ []
 
 abbrev e78 : Row.Entry
-e78 = (9, Rows.arr-owed q0 32768 8)
+e78 = (26, Relend.msptr q5 y14 6)
 
-abbrev c47 : List.List Row.Entry
-c47 = e75 ∷ e78 ∷ e55 ∷ e57 ∷ e58 ∷ e13 ∷ e14 ∷ e15 ∷ []
+abbrev c43 : List.List Row.Entry
+c43 = e24 ∷ e76 ∷ e78 ∷ e27 ∷ e28 ∷ e29 ∷ e30 ∷ e31 ∷ []
 
 abbrev e79 : Row.Entry
-e79 = (29, Relend.msptr q0 y20 8)
+e79 = (27, Mut.mslice q5 y15 6)
 
-abbrev c48 : List.List Row.Entry
-c48 = e71 ∷ e25 ∷ e74 ∷ e27 ∷ e77 ∷ e79 ∷ e30 ∷ e31 ∷ []
+abbrev c44 : List.List Row.Entry
+c44 = e24 ∷ e76 ∷ e26 ∷ e79 ∷ e28 ∷ e29 ∷ e30 ∷ e31 ∷ []
 
 abbrev e80 : Row.Entry
-e80 = (30, Mut.mslice q0 y21 8)
+e80 = (8, Rows.arr-owed Rec·type.the-row 5000 7)
 
-abbrev c49 : List.List Row.Entry
-c49 = e71 ∷ e25 ∷ e74 ∷ e27 ∷ e77 ∷ e29 ∷ e80 ∷ e31 ∷ []
+abbrev c45 : List.List Row.Entry
+c45 = e80 ∷ e56 ∷ e58 ∷ e60 ∷ e61 ∷ e63 ∷ e14 ∷ e15 ∷ []
 
 abbrev e81 : Row.Entry
-e81 = (10, Rows.arr-owed q0 32768 9)
+e81 = (28, Relend.msptr Rec·type.the-row y17 7)
 
-abbrev c50 : List.List Row.Entry
-c50 = e75 ∷ e78 ∷ e81 ∷ e57 ∷ e58 ∷ e13 ∷ e14 ∷ e15 ∷ []
+abbrev c46 : List.List Row.Entry
+c46 = e24 ∷ e76 ∷ e26 ∷ e79 ∷ e81 ∷ e29 ∷ e30 ∷ e31 ∷ []
 
 abbrev e82 : Row.Entry
-e82 = (31, Relend.msptr q0 y20 9)
+e82 = (29, Mut.mslice Rec·type.the-row y18 7)
 
-abbrev c51 : List.List Row.Entry
-c51 = e71 ∷ e25 ∷ e74 ∷ e27 ∷ e77 ∷ e29 ∷ e80 ∷ e82 ∷ []
+abbrev c47 : List.List Row.Entry
+c47 = e24 ∷ e76 ∷ e26 ∷ e79 ∷ e28 ∷ e82 ∷ e30 ∷ e31 ∷ []
 
 abbrev e83 : Row.Entry
-e83 = (32, Mut.mslice q0 y21 9)
+e83 = (9, Rows.arr-owed q0 32768 8)
 
-abbrev c52 : List.List Row.Entry
-c52 = e83 ∷ e33 ∷ e34 ∷ e35 ∷ e36 ∷ e37 ∷ e38 ∷ []
+abbrev c48 : List.List Row.Entry
+c48 = e80 ∷ e83 ∷ e58 ∷ e60 ∷ e61 ∷ e63 ∷ e14 ∷ e15 ∷ []
 
 abbrev e84 : Row.Entry
-e84 = (11, Rows.arr-owed (Array'.Array q1 2) 4096 10)
+e84 = (30, Relend.msptr q0 y20 8)
 
-abbrev c53 : List.List Row.Entry
-c53 = e75 ∷ e78 ∷ e81 ∷ e84 ∷ e58 ∷ e13 ∷ e14 ∷ e15 ∷ []
+abbrev c49 : List.List Row.Entry
+c49 = e24 ∷ e76 ∷ e26 ∷ e79 ∷ e28 ∷ e82 ∷ e84 ∷ e31 ∷ []
 
 abbrev e85 : Row.Entry
-e85 = (33, Relend.msptr (Array'.Array q1 2) y23 10)
+e85 = (31, Mut.mslice q0 y21 8)
 
-abbrev c54 : List.List Row.Entry
-c54 = e83 ∷ e85 ∷ e34 ∷ e35 ∷ e36 ∷ e37 ∷ e38 ∷ []
+abbrev c50 : List.List Row.Entry
+c50 = e24 ∷ e76 ∷ e26 ∷ e79 ∷ e28 ∷ e82 ∷ e30 ∷ e85 ∷ []
 
 abbrev e86 : Row.Entry
-e86 = (34, Mut.mslice (Array'.Array q1 2) y24 10)
+e86 = (10, Rows.arr-owed q0 32768 9)
 
-abbrev c55 : List.List Row.Entry
-c55 = e83 ∷ e33 ∷ e86 ∷ e35 ∷ e36 ∷ e37 ∷ e38 ∷ []
+abbrev c51 : List.List Row.Entry
+c51 = e80 ∷ e83 ∷ e86 ∷ e60 ∷ e61 ∷ e63 ∷ e14 ∷ e15 ∷ []
 
 abbrev e87 : Row.Entry
-e87 = (12, Rows.arr-owed (Array'.Array q1 2) 4096 11)
+e87 = (32, Relend.msptr q0 y20 9)
 
-abbrev c56 : List.List Row.Entry
-c56 = e75 ∷ e78 ∷ e81 ∷ e84 ∷ e87 ∷ e13 ∷ e14 ∷ e15 ∷ []
+abbrev c52 : List.List Row.Entry
+c52 = e87 ∷ e33 ∷ e34 ∷ e35 ∷ e36 ∷ e37 ∷ e38 ∷ e39 ∷ []
 
 abbrev e88 : Row.Entry
-e88 = (35, Relend.msptr (Array'.Array q1 2) y23 11)
+e88 = (33, Mut.mslice q0 y21 9)
 
-abbrev c57 : List.List Row.Entry
-c57 = e83 ∷ e33 ∷ e86 ∷ e88 ∷ e36 ∷ e37 ∷ e38 ∷ []
+abbrev c53 : List.List Row.Entry
+c53 = e32 ∷ e88 ∷ e34 ∷ e35 ∷ e36 ∷ e37 ∷ e38 ∷ e39 ∷ []
 
 abbrev e89 : Row.Entry
-e89 = (36, Mut.mslice (Array'.Array q1 2) y24 11)
+e89 = (11, Rows.arr-owed (Array'.Array q1 2) 4096 10)
 
-abbrev c58 : List.List Row.Entry
-c58 = e83 ∷ e33 ∷ e86 ∷ e35 ∷ e89 ∷ e37 ∷ e38 ∷ []
+abbrev c54 : List.List Row.Entry
+c54 = e80 ∷ e83 ∷ e86 ∷ e89 ∷ e61 ∷ e63 ∷ e14 ∷ e15 ∷ []
 
 abbrev e90 : Row.Entry
-e90 = (2, Relend.mslice-owed (Array'.Array q1 2) y28 1 12 Row.off)
+e90 = (34, Relend.msptr (Array'.Array q1 2) y23 10)
 
-abbrev c59 : List.List Row.Entry
-c59 = e0 ∷ e1 ∷ e90 ∷ e60 ∷ e63 ∷ e66 ∷ e69 ∷ e72 ∷ []
+abbrev c55 : List.List Row.Entry
+c55 = e32 ∷ e88 ∷ e90 ∷ e35 ∷ e36 ∷ e37 ∷ e38 ∷ e39 ∷ []
 
 abbrev e91 : Row.Entry
-e91 = (37, Relend.msptr (Array'.Array q1 2) y24 12)
+e91 = (35, Mut.mslice (Array'.Array q1 2) y24 10)
 
-abbrev c60 : List.List Row.Entry
-c60 = e83 ∷ e33 ∷ e86 ∷ e35 ∷ e89 ∷ e91 ∷ e38 ∷ []
+abbrev c56 : List.List Row.Entry
+c56 = e32 ∷ e88 ∷ e34 ∷ e91 ∷ e36 ∷ e37 ∷ e38 ∷ e39 ∷ []
 
 abbrev e92 : Row.Entry
-e92 = (38, Mut.mslice (Array'.Array q1 2) y24 12)
+e92 = (12, Rows.arr-owed (Array'.Array q1 2) 4096 11)
 
-abbrev c61 : List.List Row.Entry
-c61 = e83 ∷ e33 ∷ e86 ∷ e35 ∷ e89 ∷ e37 ∷ e92 ∷ []
+abbrev c57 : List.List Row.Entry
+c57 = e80 ∷ e83 ∷ e86 ∷ e89 ∷ e92 ∷ e63 ∷ e14 ∷ e15 ∷ []
 
 abbrev e93 : Row.Entry
-e93 = (13, Rows'.whole q6)
+e93 = (36, Relend.msptr (Array'.Array q1 2) y23 11)
 
-abbrev c62 : List.List Row.Entry
-c62 = e75 ∷ e78 ∷ e81 ∷ e84 ∷ e87 ∷ e93 ∷ e14 ∷ e15 ∷ []
+abbrev c58 : List.List Row.Entry
+c58 = e32 ∷ e88 ∷ e34 ∷ e91 ∷ e93 ∷ e37 ∷ e38 ∷ e39 ∷ []
 
 abbrev e94 : Row.Entry
-e94 = (18, Mut.msleft q4 y8)
+e94 = (37, Mut.mslice (Array'.Array q1 2) y24 11)
+
+abbrev c59 : List.List Row.Entry
+c59 = e32 ∷ e88 ∷ e34 ∷ e91 ∷ e36 ∷ e94 ∷ e38 ∷ e39 ∷ []
 
 abbrev e95 : Row.Entry
-e95 = (20, Mut.msleft q4 y8)
+e95 = (2, Relend.mslice-owed (Array'.Array q1 2) y29 1 12 Row.off)
+
+abbrev c60 : List.List Row.Entry
+c60 = e0 ∷ e1 ∷ e95 ∷ e65 ∷ e68 ∷ e71 ∷ e74 ∷ e77 ∷ []
 
 abbrev e96 : Row.Entry
-e96 = (22, Mut.msleft q1 y12)
+e96 = (38, Relend.msptr (Array'.Array q1 2) y24 12)
+
+abbrev c61 : List.List Row.Entry
+c61 = e32 ∷ e88 ∷ e34 ∷ e91 ∷ e36 ∷ e94 ∷ e96 ∷ e39 ∷ []
 
 abbrev e97 : Row.Entry
-e97 = (24, Mut.msleft q5 y15)
+e97 = (39, Mut.mslice (Array'.Array q1 2) y24 12)
+
+abbrev c62 : List.List Row.Entry
+c62 = e32 ∷ e88 ∷ e34 ∷ e91 ∷ e36 ∷ e94 ∷ e38 ∷ e97 ∷ []
 
 abbrev e98 : Row.Entry
-e98 = (26, Mut.msleft q5 y15)
-
-abbrev e99 : Row.Entry
-e99 = (28, Mut.msleft Rec·type.the-row y18)
-
-abbrev e100 : Row.Entry
-e100 = (30, Mut.msleft q0 y21)
+e98 = (13, Rows.arr-owed q0 4096 13)
 
 abbrev c63 : List.List Row.Entry
-c63 = e59 ∷ e17 ∷ e94 ∷ e19 ∷ e95 ∷ e21 ∷ e96 ∷ e23 ∷ []
+c63 = e80 ∷ e83 ∷ e86 ∷ e89 ∷ e92 ∷ e98 ∷ e14 ∷ e15 ∷ []
+
+abbrev e99 : Row.Entry
+e99 = (40, Relend.msptr q0 y26 13)
 
 abbrev c64 : List.List Row.Entry
-c64 = e97 ∷ e25 ∷ e98 ∷ e27 ∷ e99 ∷ e29 ∷ e100 ∷ e31 ∷ []
+c64 = e99 ∷ e41 ∷ []
 
-abbrev e101 : Row.Entry
-e101 = (32, Mut.msleft q0 y21)
-
-abbrev e102 : Row.Entry
-e102 = (34, Mut.msleft (Array'.Array q1 2) y24)
-
-abbrev e103 : Row.Entry
-e103 = (36, Mut.msleft (Array'.Array q1 2) y24)
-
-abbrev e104 : Row.Entry
-e104 = (38, Mut.msleft (Array'.Array q1 2) y24)
+abbrev e100 : Row.Entry
+e100 = (41, Mut.mslice q0 y21 13)
 
 abbrev c65 : List.List Row.Entry
-c65 = e101 ∷ e33 ∷ e102 ∷ e35 ∷ e103 ∷ e37 ∷ e104 ∷ []
+c65 = e40 ∷ e100 ∷ []
+
+abbrev e101 : Row.Entry
+e101 = (14, Rows'.whole q6)
 
 abbrev c66 : List.List Row.Entry
-c66 = e16 ∷ e17 ∷ e94 ∷ e19 ∷ e95 ∷ e21 ∷ e96 ∷ e23 ∷ []
+c66 = e80 ∷ e83 ∷ e86 ∷ e89 ∷ e92 ∷ e98 ∷ e101 ∷ e15 ∷ []
+
+abbrev e102 : Row.Entry
+e102 = (19, Mut.msleft q4 y8)
+
+abbrev e103 : Row.Entry
+e103 = (21, Mut.msleft q4 y8)
+
+abbrev e104 : Row.Entry
+e104 = (23, Mut.msleft q1 y12)
+
+abbrev e105 : Row.Entry
+e105 = (25, Mut.msleft q5 y15)
+
+abbrev e106 : Row.Entry
+e106 = (27, Mut.msleft q5 y15)
+
+abbrev e107 : Row.Entry
+e107 = (29, Mut.msleft Rec·type.the-row y18)
+
+abbrev e108 : Row.Entry
+e108 = (31, Mut.msleft q0 y21)
 
 abbrev c67 : List.List Row.Entry
-c67 = e0 ∷ e1 ∷ e90 ∷ e41 ∷ e63 ∷ e66 ∷ e69 ∷ e72 ∷ []
+c67 = e16 ∷ e64 ∷ e18 ∷ e102 ∷ e20 ∷ e103 ∷ e22 ∷ e104 ∷ []
 
 abbrev c68 : List.List Row.Entry
-c68 = e16 ∷ e17 ∷ e18 ∷ e19 ∷ e95 ∷ e21 ∷ e96 ∷ e23 ∷ []
+c68 = e24 ∷ e105 ∷ e26 ∷ e106 ∷ e28 ∷ e107 ∷ e30 ∷ e108 ∷ []
+
+abbrev e109 : Row.Entry
+e109 = (33, Mut.msleft q0 y21)
+
+abbrev e110 : Row.Entry
+e110 = (35, Mut.msleft (Array'.Array q1 2) y24)
+
+abbrev e111 : Row.Entry
+e111 = (37, Mut.msleft (Array'.Array q1 2) y24)
+
+abbrev e112 : Row.Entry
+e112 = (39, Mut.msleft (Array'.Array q1 2) y24)
+
+abbrev e113 : Row.Entry
+e113 = (41, Mut.msleft q0 y21)
 
 abbrev c69 : List.List Row.Entry
-c69 = e0 ∷ e1 ∷ e90 ∷ e3 ∷ e63 ∷ e66 ∷ e69 ∷ e72 ∷ []
+c69 = e32 ∷ e109 ∷ e34 ∷ e110 ∷ e36 ∷ e111 ∷ e38 ∷ e112 ∷ []
 
 abbrev c70 : List.List Row.Entry
-c70 = e0 ∷ e1 ∷ e90 ∷ e3 ∷ e43 ∷ e66 ∷ e69 ∷ e72 ∷ []
+c70 = e40 ∷ e113 ∷ []
 
 abbrev c71 : List.List Row.Entry
-c71 = e16 ∷ e17 ∷ e18 ∷ e19 ∷ e20 ∷ e21 ∷ e96 ∷ e23 ∷ []
+c71 = e16 ∷ e17 ∷ e18 ∷ e102 ∷ e20 ∷ e103 ∷ e22 ∷ e104 ∷ []
 
 abbrev c72 : List.List Row.Entry
-c72 = e0 ∷ e1 ∷ e90 ∷ e3 ∷ e4 ∷ e66 ∷ e69 ∷ e72 ∷ []
+c72 = e0 ∷ e1 ∷ e95 ∷ e44 ∷ e68 ∷ e71 ∷ e74 ∷ e77 ∷ []
 
 abbrev c73 : List.List Row.Entry
-c73 = e0 ∷ e1 ∷ e90 ∷ e3 ∷ e4 ∷ e45 ∷ e69 ∷ e72 ∷ []
+c73 = e16 ∷ e17 ∷ e18 ∷ e19 ∷ e20 ∷ e103 ∷ e22 ∷ e104 ∷ []
 
 abbrev c74 : List.List Row.Entry
-c74 = e0 ∷ e1 ∷ e90 ∷ e3 ∷ e4 ∷ e5 ∷ e69 ∷ e72 ∷ []
+c74 = e0 ∷ e1 ∷ e95 ∷ e3 ∷ e68 ∷ e71 ∷ e74 ∷ e77 ∷ []
 
 abbrev c75 : List.List Row.Entry
-c75 = e0 ∷ e1 ∷ e90 ∷ e3 ∷ e4 ∷ e5 ∷ e47 ∷ e72 ∷ []
+c75 = e0 ∷ e1 ∷ e95 ∷ e3 ∷ e46 ∷ e71 ∷ e74 ∷ e77 ∷ []
 
 abbrev c76 : List.List Row.Entry
-c76 = e24 ∷ e25 ∷ e98 ∷ e27 ∷ e99 ∷ e29 ∷ e100 ∷ e31 ∷ []
+c76 = e16 ∷ e17 ∷ e18 ∷ e19 ∷ e20 ∷ e21 ∷ e22 ∷ e104 ∷ []
 
 abbrev c77 : List.List Row.Entry
-c77 = e0 ∷ e1 ∷ e90 ∷ e3 ∷ e4 ∷ e5 ∷ e6 ∷ e72 ∷ []
+c77 = e0 ∷ e1 ∷ e95 ∷ e3 ∷ e4 ∷ e71 ∷ e74 ∷ e77 ∷ []
 
 abbrev c78 : List.List Row.Entry
-c78 = e0 ∷ e1 ∷ e90 ∷ e3 ∷ e4 ∷ e5 ∷ e6 ∷ e49 ∷ []
+c78 = e0 ∷ e1 ∷ e95 ∷ e3 ∷ e4 ∷ e48 ∷ e74 ∷ e77 ∷ []
 
 abbrev c79 : List.List Row.Entry
-c79 = e24 ∷ e25 ∷ e26 ∷ e27 ∷ e99 ∷ e29 ∷ e100 ∷ e31 ∷ []
+c79 = e0 ∷ e1 ∷ e95 ∷ e3 ∷ e4 ∷ e5 ∷ e74 ∷ e77 ∷ []
 
 abbrev c80 : List.List Row.Entry
-c80 = e0 ∷ e1 ∷ e90 ∷ e3 ∷ e4 ∷ e5 ∷ e6 ∷ e7 ∷ []
+c80 = e0 ∷ e1 ∷ e95 ∷ e3 ∷ e4 ∷ e5 ∷ e50 ∷ e77 ∷ []
 
 abbrev c81 : List.List Row.Entry
-c81 = e51 ∷ e78 ∷ e81 ∷ e84 ∷ e87 ∷ e93 ∷ e14 ∷ e15 ∷ []
+c81 = e24 ∷ e25 ∷ e26 ∷ e106 ∷ e28 ∷ e107 ∷ e30 ∷ e108 ∷ []
 
 abbrev c82 : List.List Row.Entry
-c82 = e24 ∷ e25 ∷ e26 ∷ e27 ∷ e28 ∷ e29 ∷ e100 ∷ e31 ∷ []
+c82 = e0 ∷ e1 ∷ e95 ∷ e3 ∷ e4 ∷ e5 ∷ e6 ∷ e77 ∷ []
 
 abbrev c83 : List.List Row.Entry
-c83 = e8 ∷ e78 ∷ e81 ∷ e84 ∷ e87 ∷ e93 ∷ e14 ∷ e15 ∷ []
+c83 = e0 ∷ e1 ∷ e95 ∷ e3 ∷ e4 ∷ e5 ∷ e6 ∷ e52 ∷ []
 
 abbrev c84 : List.List Row.Entry
-c84 = e8 ∷ e53 ∷ e81 ∷ e84 ∷ e87 ∷ e93 ∷ e14 ∷ e15 ∷ []
+c84 = e24 ∷ e25 ∷ e26 ∷ e27 ∷ e28 ∷ e107 ∷ e30 ∷ e108 ∷ []
 
 abbrev c85 : List.List Row.Entry
-c85 = e8 ∷ e9 ∷ e81 ∷ e84 ∷ e87 ∷ e93 ∷ e14 ∷ e15 ∷ []
+c85 = e0 ∷ e1 ∷ e95 ∷ e3 ∷ e4 ∷ e5 ∷ e6 ∷ e7 ∷ []
 
 abbrev c86 : List.List Row.Entry
-c86 = e8 ∷ e9 ∷ e55 ∷ e84 ∷ e87 ∷ e93 ∷ e14 ∷ e15 ∷ []
+c86 = e54 ∷ e83 ∷ e86 ∷ e89 ∷ e92 ∷ e98 ∷ e101 ∷ e15 ∷ []
 
 abbrev c87 : List.List Row.Entry
-c87 = e32 ∷ e33 ∷ e102 ∷ e35 ∷ e103 ∷ e37 ∷ e104 ∷ []
+c87 = e24 ∷ e25 ∷ e26 ∷ e27 ∷ e28 ∷ e29 ∷ e30 ∷ e108 ∷ []
 
 abbrev c88 : List.List Row.Entry
-c88 = e8 ∷ e9 ∷ e10 ∷ e84 ∷ e87 ∷ e93 ∷ e14 ∷ e15 ∷ []
+c88 = e8 ∷ e83 ∷ e86 ∷ e89 ∷ e92 ∷ e98 ∷ e101 ∷ e15 ∷ []
 
 abbrev c89 : List.List Row.Entry
-c89 = e8 ∷ e9 ∷ e10 ∷ e57 ∷ e87 ∷ e93 ∷ e14 ∷ e15 ∷ []
+c89 = e8 ∷ e56 ∷ e86 ∷ e89 ∷ e92 ∷ e98 ∷ e101 ∷ e15 ∷ []
 
 abbrev c90 : List.List Row.Entry
-c90 = e32 ∷ e33 ∷ e34 ∷ e35 ∷ e103 ∷ e37 ∷ e104 ∷ []
+c90 = e8 ∷ e9 ∷ e86 ∷ e89 ∷ e92 ∷ e98 ∷ e101 ∷ e15 ∷ []
 
 abbrev c91 : List.List Row.Entry
-c91 = e8 ∷ e9 ∷ e10 ∷ e11 ∷ e87 ∷ e93 ∷ e14 ∷ e15 ∷ []
+c91 = e8 ∷ e9 ∷ e58 ∷ e89 ∷ e92 ∷ e98 ∷ e101 ∷ e15 ∷ []
 
 abbrev c92 : List.List Row.Entry
-c92 = e8 ∷ e9 ∷ e10 ∷ e11 ∷ e58 ∷ e93 ∷ e14 ∷ e15 ∷ []
+c92 = e32 ∷ e33 ∷ e34 ∷ e110 ∷ e36 ∷ e111 ∷ e38 ∷ e112 ∷ []
 
 abbrev c93 : List.List Row.Entry
-c93 = e32 ∷ e33 ∷ e34 ∷ e35 ∷ e36 ∷ e37 ∷ e104 ∷ []
+c93 = e8 ∷ e9 ∷ e10 ∷ e89 ∷ e92 ∷ e98 ∷ e101 ∷ e15 ∷ []
 
 abbrev c94 : List.List Row.Entry
-c94 = e8 ∷ e9 ∷ e10 ∷ e11 ∷ e12 ∷ e93 ∷ e14 ∷ e15 ∷ []
+c94 = e8 ∷ e9 ∷ e10 ∷ e60 ∷ e92 ∷ e98 ∷ e101 ∷ e15 ∷ []
+
+abbrev c95 : List.List Row.Entry
+c95 = e32 ∷ e33 ∷ e34 ∷ e35 ∷ e36 ∷ e111 ∷ e38 ∷ e112 ∷ []
+
+abbrev c96 : List.List Row.Entry
+c96 = e8 ∷ e9 ∷ e10 ∷ e11 ∷ e92 ∷ e98 ∷ e101 ∷ e15 ∷ []
+
+abbrev c97 : List.List Row.Entry
+c97 = e8 ∷ e9 ∷ e10 ∷ e11 ∷ e61 ∷ e98 ∷ e101 ∷ e15 ∷ []
+
+abbrev c98 : List.List Row.Entry
+c98 = e32 ∷ e33 ∷ e34 ∷ e35 ∷ e36 ∷ e37 ∷ e38 ∷ e112 ∷ []
+
+abbrev c99 : List.List Row.Entry
+c99 = e8 ∷ e9 ∷ e10 ∷ e11 ∷ e12 ∷ e98 ∷ e101 ∷ e15 ∷ []
+
+abbrev c100 : List.List Row.Entry
+c100 = e8 ∷ e9 ∷ e10 ∷ e11 ∷ e12 ∷ e63 ∷ e101 ∷ e15 ∷ []
+
+abbrev c101 : List.List Row.Entry
+c101 = e8 ∷ e9 ∷ e10 ∷ e11 ∷ e12 ∷ e13 ∷ e101 ∷ e15 ∷ []
 
 abbrev q7 : Rows·type.RattleType
 q7 = Declared.row (Apart.apartT Outcome.the-type)
 
-abbrev e105 : Row.Entry
-e105 = (0, Rows'.whole q7)
+abbrev e114 : Row.Entry
+e114 = (0, Rows'.whole q7)
 
-abbrev c95 : List.List Row.Entry
-c95 = e105 ∷ e1 ∷ e2 ∷ e3 ∷ e4 ∷ e5 ∷ e6 ∷ e7 ∷ []
+abbrev c102 : List.List Row.Entry
+c102 = e114 ∷ e1 ∷ e2 ∷ e3 ∷ e4 ∷ e5 ∷ e6 ∷ e7 ∷ []
 
 abbrev w0 : List.List Row.Life
-w0 = Row.off ∷ Row.off ∷ Row.off ∷ Row.off ∷ Row.off ∷ []
+w0 = Row.off ∷ Row.off ∷ Row.off ∷ Row.off ∷ Row.off ∷ Row.off ∷ []
 
 abbrev w1 : List.List Row.Life
-w1 = Row.alive ∷ Row.off ∷ Row.off ∷ Row.off ∷ Row.off ∷ []
+w1 = Row.alive ∷ Row.off ∷ Row.off ∷ Row.off ∷ Row.off ∷ Row.off ∷ []
 
 abbrev w2 : List.List Row.Life
-w2 = Row.alive ∷ Row.alive ∷ Row.off ∷ Row.off ∷ Row.off ∷ []
+w2 = Row.alive ∷ Row.alive ∷ Row.off ∷ Row.off ∷ Row.off ∷ Row.off ∷ []
 
 abbrev w3 : List.List Row.Life
-w3 = Row.alive ∷ Row.alive ∷ Row.alive ∷ Row.off ∷ Row.off ∷ []
+w3 = Row.alive ∷ Row.alive ∷ Row.alive ∷ Row.off ∷ Row.off ∷ Row.off ∷ []
 
 abbrev w4 : List.List Row.Life
-w4 = Row.alive ∷ Row.alive ∷ Row.alive ∷ Row.alive ∷ Row.off ∷ []
+w4 = Row.alive ∷ Row.alive ∷ Row.alive ∷ Row.alive ∷ Row.off ∷ Row.off ∷ []
 
 abbrev w5 : List.List Row.Life
-w5 = Row.alive ∷ Row.alive ∷ Row.alive ∷ Row.alive ∷ Row.alive ∷ []
+w5 = Row.alive ∷ Row.alive ∷ Row.alive ∷ Row.alive ∷ Row.alive ∷ Row.off ∷ []
 
 abbrev w6 : List.List Row.Life
-w6 = Row.dead ∷ Row.alive ∷ Row.alive ∷ Row.alive ∷ Row.alive ∷ []
+w6 = Row.alive ∷ Row.alive ∷ Row.alive ∷ Row.alive ∷ Row.alive ∷ Row.alive ∷ []
 
 abbrev w7 : List.List Row.Life
-w7 = Row.off ∷ Row.alive ∷ Row.alive ∷ Row.alive ∷ Row.alive ∷ []
+w7 = Row.dead ∷ Row.alive ∷ Row.alive ∷ Row.alive ∷ Row.alive ∷ Row.alive ∷ []
 
 abbrev w8 : List.List Row.Life
-w8 = Row.off ∷ Row.dead ∷ Row.alive ∷ Row.alive ∷ Row.alive ∷ []
+w8 = Row.off ∷ Row.alive ∷ Row.alive ∷ Row.alive ∷ Row.alive ∷ Row.alive ∷ []
 
 abbrev w9 : List.List Row.Life
-w9 = Row.off ∷ Row.off ∷ Row.alive ∷ Row.alive ∷ Row.alive ∷ []
+w9 = Row.off ∷ Row.dead ∷ Row.alive ∷ Row.alive ∷ Row.alive ∷ Row.alive ∷ []
 
 abbrev w10 : List.List Row.Life
-w10 = Row.off ∷ Row.off ∷ Row.dead ∷ Row.alive ∷ Row.alive ∷ []
+w10 = Row.off ∷ Row.off ∷ Row.alive ∷ Row.alive ∷ Row.alive ∷ Row.alive ∷ []
 
 abbrev w11 : List.List Row.Life
-w11 = Row.off ∷ Row.off ∷ Row.off ∷ Row.alive ∷ Row.alive ∷ []
+w11 = Row.off ∷ Row.off ∷ Row.dead ∷ Row.alive ∷ Row.alive ∷ Row.alive ∷ []
 
 abbrev w12 : List.List Row.Life
-w12 = Row.off ∷ Row.off ∷ Row.off ∷ Row.dead ∷ Row.alive ∷ []
+w12 = Row.off ∷ Row.off ∷ Row.off ∷ Row.alive ∷ Row.alive ∷ Row.alive ∷ []
 
 abbrev w13 : List.List Row.Life
-w13 = Row.off ∷ Row.off ∷ Row.off ∷ Row.off ∷ Row.alive ∷ []
+w13 = Row.off ∷ Row.off ∷ Row.off ∷ Row.dead ∷ Row.alive ∷ Row.alive ∷ []
 
 abbrev w14 : List.List Row.Life
-w14 = Row.off ∷ Row.off ∷ Row.off ∷ Row.off ∷ Row.dead ∷ []
+w14 = Row.off ∷ Row.off ∷ Row.off ∷ Row.off ∷ Row.alive ∷ Row.alive ∷ []
+
+abbrev w15 : List.List Row.Life
+w15 = Row.off ∷ Row.off ∷ Row.off ∷ Row.off ∷ Row.dead ∷ Row.alive ∷ []
+
+abbrev w16 : List.List Row.Life
+w16 = Row.off ∷ Row.off ∷ Row.off ∷ Row.off ∷ Row.off ∷ Row.alive ∷ []
+
+abbrev w17 : List.List Row.Life
+w17 = Row.off ∷ Row.off ∷ Row.off ∷ Row.off ∷ Row.off ∷ Row.dead ∷ []
 
 abbrev pub ps : List.List (Kinds.PK 2)
 ps = (ShrSlice.pShrS q0 0 tt) ∷ (MutSlice.pMutS (Array'.Array q1 2) 1 tt) ∷ []
@@ -838,10 +898,10 @@ abbrev pub r : Kinds.RK 2
 r = Value.rVal record { ty = q2; one = Path'.refl; val = Laws'3.val Outcome.the-type Laws.the-laws; tells = Laws'3.tells Outcome.the-type Laws.the-laws; still = Laws'3.still Outcome.the-type Laws.the-copy Exit.yes; row = Rows'.whole q2; rd = λ x. x; mk = λ x. x } λ M 𝓤 H A W. record { copies = Laws'3.copy Outcome.the-type Laws.the-copy 𝓤 H A W; lawful = Laws'3.lawful Outcome.the-type Laws.the-laws 𝓤 H A W; makes = Laws'3.makes Outcome.the-type Laws.the-plain 𝓤 H A; in-mem = Local.mem-whole 𝓤 H A W q2; of-mem = Local.whole-mem 𝓤 H A W q2 }
 
 abbrev pub xs : List.List Syntax.Ty
-xs = (Syntax.tyArray y0 5001) ∷ (Syntax.tyArray y0 5002) ∷ (Syntax.tyArray y1 5000) ∷ (Syntax.tyArray y2 16384) ∷ (Syntax.tyArray y2 16384) ∷ (Syntax.tyArray Rec·laws.mir 5000) ∷ (Syntax.tyArray y3 32768) ∷ (Syntax.tyArray y3 32768) ∷ (Syntax.tyArray (Syntax.tyArray y1 2) 4096) ∷ (Syntax.tyArray (Syntax.tyArray y1 2) 4096) ∷ y5 ∷ (Syntax.tyArray Rec·laws.mir 5000) ∷ (Syntax.tyArray (Syntax.tyArray y1 2) 4096) ∷ y6 ∷ y7 ∷ y9 ∷ y10 ∷ y9 ∷ y11 ∷ y13 ∷ y14 ∷ y16 ∷ y14 ∷ y16 ∷ y17 ∷ y19 ∷ y20 ∷ y22 ∷ y20 ∷ y22 ∷ y23 ∷ y25 ∷ y23 ∷ y25 ∷ y24 ∷ y25 ∷ []
+xs = (Syntax.tyArray y0 5001) ∷ (Syntax.tyArray y0 5002) ∷ (Syntax.tyArray y1 5000) ∷ (Syntax.tyArray y2 16384) ∷ (Syntax.tyArray y2 16384) ∷ (Syntax.tyArray Rec·laws.mir 5000) ∷ (Syntax.tyArray y3 32768) ∷ (Syntax.tyArray y3 32768) ∷ (Syntax.tyArray (Syntax.tyArray y1 2) 4096) ∷ (Syntax.tyArray (Syntax.tyArray y1 2) 4096) ∷ (Syntax.tyArray y3 4096) ∷ y5 ∷ (Syntax.tyArray Rec·laws.mir 5000) ∷ (Syntax.tyArray (Syntax.tyArray y1 2) 4096) ∷ y6 ∷ y7 ∷ y9 ∷ y10 ∷ y9 ∷ y11 ∷ y13 ∷ y14 ∷ y16 ∷ y14 ∷ y16 ∷ y17 ∷ y19 ∷ y20 ∷ y22 ∷ y20 ∷ y22 ∷ y23 ∷ y25 ∷ y23 ∷ y25 ∷ y24 ∷ y25 ∷ y26 ∷ y22 ∷ []
 
 abbrev pub m : Nat.ℕ
-m = 11
+m = 12
 
 abbrev pub ps·0 : List.List (Kinds.PK 0)
 ps·0 = List.[]
@@ -861,14 +921,14 @@ ps·2 = List.[]
 abbrev pub r·2 : Kinds.RK 0
 r·2 = Value.rVal record { ty = q3; one = Path'.refl; val = Laws'3.val LongdustOptions.the-type Laws''.the-laws; tells = Laws'3.tells LongdustOptions.the-type Laws''.the-laws; still = Laws'3.still LongdustOptions.the-type Laws''.the-copy Exit.yes; row = Rows'.whole q3; rd = λ x. x; mk = λ x. x } λ M 𝓤 H A W. record { copies = Laws'3.copy LongdustOptions.the-type Laws''.the-copy 𝓤 H A W; lawful = Laws'3.lawful LongdustOptions.the-type Laws''.the-laws 𝓤 H A W; makes = Laws'3.makes LongdustOptions.the-type Laws''.the-plain 𝓤 H A; in-mem = Local.mem-whole 𝓤 H A W q3; of-mem = Local.whole-mem 𝓤 H A W q3 }
 
-abbrev pub ps·3 : List.List (Kinds.PK 12)
-ps·3 = (ShrSlice.pShrS q0 0 tt) ∷ (Value.pVal record { ty = q3; one = Path'.refl; val = Laws'3.val LongdustOptions.the-type Laws''.the-laws; tells = Laws'3.tells LongdustOptions.the-type Laws''.the-laws; still = Laws'3.still LongdustOptions.the-type Laws''.the-copy Exit.yes; row = Rows'.whole q3; rd = λ x. x; mk = λ x. x } λ M 𝓤 H A W. record { copies = Laws'3.copy LongdustOptions.the-type Laws''.the-copy 𝓤 H A W; lawful = Laws'3.lawful LongdustOptions.the-type Laws''.the-laws 𝓤 H A W; makes = Laws'3.makes LongdustOptions.the-type Laws''.the-plain 𝓤 H A; in-mem = Local.mem-whole 𝓤 H A W q3; of-mem = Local.whole-mem 𝓤 H A W q3 }) ∷ (MutSlice.pMutS q4 1 tt) ∷ (MutSlice.pMutS q4 2 tt) ∷ (MutSlice.pMutS q1 3 tt) ∷ (MutSlice.pMutS q5 4 tt) ∷ (MutSlice.pMutS q5 5 tt) ∷ (MutSlice.pMutS Rec·type.the-row 6 tt) ∷ (MutSlice.pMutS q0 7 tt) ∷ (MutSlice.pMutS q0 8 tt) ∷ (MutSlice.pMutS (Array'.Array q1 2) 9 tt) ∷ (MutSlice.pMutS (Array'.Array q1 2) 10 tt) ∷ (MutSlice.pMutS (Array'.Array q1 2) 11 tt) ∷ []
+abbrev pub ps·3 : List.List (Kinds.PK 13)
+ps·3 = (ShrSlice.pShrS q0 0 tt) ∷ (Value.pVal record { ty = q3; one = Path'.refl; val = Laws'3.val LongdustOptions.the-type Laws''.the-laws; tells = Laws'3.tells LongdustOptions.the-type Laws''.the-laws; still = Laws'3.still LongdustOptions.the-type Laws''.the-copy Exit.yes; row = Rows'.whole q3; rd = λ x. x; mk = λ x. x } λ M 𝓤 H A W. record { copies = Laws'3.copy LongdustOptions.the-type Laws''.the-copy 𝓤 H A W; lawful = Laws'3.lawful LongdustOptions.the-type Laws''.the-laws 𝓤 H A W; makes = Laws'3.makes LongdustOptions.the-type Laws''.the-plain 𝓤 H A; in-mem = Local.mem-whole 𝓤 H A W q3; of-mem = Local.whole-mem 𝓤 H A W q3 }) ∷ (MutSlice.pMutS q4 1 tt) ∷ (MutSlice.pMutS q4 2 tt) ∷ (MutSlice.pMutS q1 3 tt) ∷ (MutSlice.pMutS q5 4 tt) ∷ (MutSlice.pMutS q5 5 tt) ∷ (MutSlice.pMutS Rec·type.the-row 6 tt) ∷ (MutSlice.pMutS q0 7 tt) ∷ (MutSlice.pMutS q0 8 tt) ∷ (MutSlice.pMutS (Array'.Array q1 2) 9 tt) ∷ (MutSlice.pMutS (Array'.Array q1 2) 10 tt) ∷ (MutSlice.pMutS (Array'.Array q1 2) 11 tt) ∷ (MutSlice.pMutS q0 12 tt) ∷ []
 
-abbrev pub r·3 : Kinds.RK 12
+abbrev pub r·3 : Kinds.RK 13
 r·3 = Value.rVal record { ty = q6; one = Path'.refl; val = Laws'3.val Answer.the-type Laws'.the-laws; tells = Laws'3.tells Answer.the-type Laws'.the-laws; still = Laws'3.still Answer.the-type Laws'.the-copy Exit.yes; row = Rows'.whole q6; rd = λ x. x; mk = λ x. x } λ M 𝓤 H A W. record { copies = Laws'3.copy Answer.the-type Laws'.the-copy 𝓤 H A W; lawful = Laws'3.lawful Answer.the-type Laws'.the-laws 𝓤 H A W; makes = Laws'3.makes Answer.the-type Laws'.the-plain 𝓤 H A; in-mem = Local.mem-whole 𝓤 H A W q6; of-mem = Local.whole-mem 𝓤 H A W q6 }
 
 abbrev pub hs : List.List Syntax.Home
-hs = Syntax.valueLocal ∷ Syntax.valueLocal ∷ Syntax.valueLocal ∷ Syntax.memorySlot ∷ Syntax.memorySlot ∷ Syntax.memorySlot ∷ Syntax.memorySlot ∷ Syntax.memorySlot ∷ Syntax.memorySlot ∷ Syntax.memorySlot ∷ Syntax.memorySlot ∷ Syntax.memorySlot ∷ Syntax.memorySlot ∷ Syntax.valueLocal ∷ Syntax.valueLocal ∷ Syntax.valueLocal ∷ Syntax.valueLocal ∷ Syntax.valueLocal ∷ Syntax.valueLocal ∷ Syntax.valueLocal ∷ Syntax.valueLocal ∷ Syntax.valueLocal ∷ Syntax.valueLocal ∷ Syntax.valueLocal ∷ Syntax.valueLocal ∷ Syntax.valueLocal ∷ Syntax.valueLocal ∷ Syntax.valueLocal ∷ Syntax.valueLocal ∷ Syntax.valueLocal ∷ Syntax.valueLocal ∷ Syntax.valueLocal ∷ Syntax.valueLocal ∷ Syntax.valueLocal ∷ Syntax.valueLocal ∷ Syntax.valueLocal ∷ Syntax.valueLocal ∷ Syntax.valueLocal ∷ Syntax.valueLocal ∷ []
+hs = Syntax.valueLocal ∷ Syntax.valueLocal ∷ Syntax.valueLocal ∷ Syntax.memorySlot ∷ Syntax.memorySlot ∷ Syntax.memorySlot ∷ Syntax.memorySlot ∷ Syntax.memorySlot ∷ Syntax.memorySlot ∷ Syntax.memorySlot ∷ Syntax.memorySlot ∷ Syntax.memorySlot ∷ Syntax.memorySlot ∷ Syntax.memorySlot ∷ Syntax.valueLocal ∷ Syntax.valueLocal ∷ Syntax.valueLocal ∷ Syntax.valueLocal ∷ Syntax.valueLocal ∷ Syntax.valueLocal ∷ Syntax.valueLocal ∷ Syntax.valueLocal ∷ Syntax.valueLocal ∷ Syntax.valueLocal ∷ Syntax.valueLocal ∷ Syntax.valueLocal ∷ Syntax.valueLocal ∷ Syntax.valueLocal ∷ Syntax.valueLocal ∷ Syntax.valueLocal ∷ Syntax.valueLocal ∷ Syntax.valueLocal ∷ Syntax.valueLocal ∷ Syntax.valueLocal ∷ Syntax.valueLocal ∷ Syntax.valueLocal ∷ Syntax.valueLocal ∷ Syntax.valueLocal ∷ Syntax.valueLocal ∷ Syntax.valueLocal ∷ Syntax.valueLocal ∷ Syntax.valueLocal ∷ []
 
 abbrev b0 : Syntax.Body
 b0 = Syntax.assign (Syntax.place 3 List.[]) (Syntax.repeat (Syntax.float Ieee.binary64 0) 5001)
@@ -886,10 +946,10 @@ abbrev b4 : Syntax.Body
 b4 = Syntax.assign (Syntax.place 7 List.[]) (Syntax.repeat (Syntax.int Syntax.w16 0) 16384)
 
 abbrev b5 : Syntax.Body
-b5 = Syntax.call "contig::no_candidates" List.[] (Syntax.place 14 List.[])
+b5 = Syntax.call "contig::no_candidates" List.[] (Syntax.place 15 List.[])
 
 abbrev b6 : Syntax.Body
-b6 = Syntax.assign (Syntax.place 8 List.[]) (Syntax.rvOpd (Syntax.copy (Syntax.place 14 List.[])))
+b6 = Syntax.assign (Syntax.place 8 List.[]) (Syntax.rvOpd (Syntax.copy (Syntax.place 15 List.[])))
 
 abbrev b7 : Syntax.Body
 b7 = Syntax.assign (Syntax.place 9 List.[]) (Syntax.repeat (Syntax.int Syntax.w8 0) 32768)
@@ -898,214 +958,232 @@ abbrev b8 : Syntax.Body
 b8 = Syntax.assign (Syntax.place 10 List.[]) (Syntax.repeat (Syntax.int Syntax.w8 0) 32768)
 
 abbrev b9 : Syntax.Body
-b9 = Syntax.call "contig::no_intervals" List.[] (Syntax.place 15 List.[])
+b9 = Syntax.call "contig::no_intervals" List.[] (Syntax.place 16 List.[])
 
 abbrev b10 : Syntax.Body
-b10 = Syntax.assign (Syntax.place 11 List.[]) (Syntax.rvOpd (Syntax.copy (Syntax.place 15 List.[])))
+b10 = Syntax.assign (Syntax.place 11 List.[]) (Syntax.rvOpd (Syntax.copy (Syntax.place 16 List.[])))
 
 abbrev b11 : Syntax.Body
-b11 = Syntax.call "contig::no_intervals" List.[] (Syntax.place 15 List.[])
+b11 = Syntax.call "contig::no_intervals" List.[] (Syntax.place 16 List.[])
 
 abbrev b12 : Syntax.Body
-b12 = Syntax.assign (Syntax.place 12 List.[]) (Syntax.rvOpd (Syntax.copy (Syntax.place 15 List.[])))
+b12 = Syntax.assign (Syntax.place 12 List.[]) (Syntax.rvOpd (Syntax.copy (Syntax.place 16 List.[])))
 
 abbrev b13 : Syntax.Body
-b13 = Syntax.call "longdust::LongdustOptions::default" List.[] (Syntax.place 16 List.[])
+b13 = Syntax.assign (Syntax.place 13 List.[]) (Syntax.repeat (Syntax.int Syntax.w8 0) 4096)
 
 abbrev b14 : Syntax.Body
-b14 = Syntax.assign (Syntax.place 17 List.[]) (Syntax.addrOf (Syntax.place 3 List.[]))
+b14 = Syntax.call "longdust::LongdustOptions::default" List.[] (Syntax.place 17 List.[])
 
 abbrev b15 : Syntax.Body
-b15 = Syntax.assign (Syntax.place 18 List.[]) (Syntax.aggregate ((Syntax.copy (Syntax.place 17 List.[])) ∷ (Syntax.intBig Syntax.w64 5001) ∷ []))
+b15 = Syntax.assign (Syntax.place 18 List.[]) (Syntax.addrOf (Syntax.place 3 List.[]))
 
 abbrev b16 : Syntax.Body
-b16 = Syntax.assign (Syntax.place 19 List.[]) (Syntax.addrOf (Syntax.place 4 List.[]))
+b16 = Syntax.assign (Syntax.place 19 List.[]) (Syntax.aggregate ((Syntax.copy (Syntax.place 18 List.[])) ∷ (Syntax.intBig Syntax.w64 5001) ∷ []))
 
 abbrev b17 : Syntax.Body
-b17 = Syntax.assign (Syntax.place 20 List.[]) (Syntax.aggregate ((Syntax.copy (Syntax.place 19 List.[])) ∷ (Syntax.intBig Syntax.w64 5002) ∷ []))
+b17 = Syntax.assign (Syntax.place 20 List.[]) (Syntax.addrOf (Syntax.place 4 List.[]))
 
 abbrev b18 : Syntax.Body
-b18 = Syntax.assign (Syntax.place 21 List.[]) (Syntax.addrOf (Syntax.place 5 List.[]))
+b18 = Syntax.assign (Syntax.place 21 List.[]) (Syntax.aggregate ((Syntax.copy (Syntax.place 20 List.[])) ∷ (Syntax.intBig Syntax.w64 5002) ∷ []))
 
 abbrev b19 : Syntax.Body
-b19 = Syntax.assign (Syntax.place 22 List.[]) (Syntax.aggregate ((Syntax.copy (Syntax.place 21 List.[])) ∷ (Syntax.intBig Syntax.w64 5000) ∷ []))
+b19 = Syntax.assign (Syntax.place 22 List.[]) (Syntax.addrOf (Syntax.place 5 List.[]))
 
 abbrev b20 : Syntax.Body
-b20 = Syntax.assign (Syntax.place 23 List.[]) (Syntax.addrOf (Syntax.place 6 List.[]))
+b20 = Syntax.assign (Syntax.place 23 List.[]) (Syntax.aggregate ((Syntax.copy (Syntax.place 22 List.[])) ∷ (Syntax.intBig Syntax.w64 5000) ∷ []))
 
 abbrev b21 : Syntax.Body
-b21 = Syntax.assign (Syntax.place 24 List.[]) (Syntax.aggregate ((Syntax.copy (Syntax.place 23 List.[])) ∷ (Syntax.intBig Syntax.w64 16384) ∷ []))
+b21 = Syntax.assign (Syntax.place 24 List.[]) (Syntax.addrOf (Syntax.place 6 List.[]))
 
 abbrev b22 : Syntax.Body
-b22 = Syntax.assign (Syntax.place 25 List.[]) (Syntax.addrOf (Syntax.place 7 List.[]))
+b22 = Syntax.assign (Syntax.place 25 List.[]) (Syntax.aggregate ((Syntax.copy (Syntax.place 24 List.[])) ∷ (Syntax.intBig Syntax.w64 16384) ∷ []))
 
 abbrev b23 : Syntax.Body
-b23 = Syntax.assign (Syntax.place 26 List.[]) (Syntax.aggregate ((Syntax.copy (Syntax.place 25 List.[])) ∷ (Syntax.intBig Syntax.w64 16384) ∷ []))
+b23 = Syntax.assign (Syntax.place 26 List.[]) (Syntax.addrOf (Syntax.place 7 List.[]))
 
 abbrev b24 : Syntax.Body
-b24 = Syntax.assign (Syntax.place 27 List.[]) (Syntax.addrOf (Syntax.place 8 List.[]))
+b24 = Syntax.assign (Syntax.place 27 List.[]) (Syntax.aggregate ((Syntax.copy (Syntax.place 26 List.[])) ∷ (Syntax.intBig Syntax.w64 16384) ∷ []))
 
 abbrev b25 : Syntax.Body
-b25 = Syntax.assign (Syntax.place 28 List.[]) (Syntax.aggregate ((Syntax.copy (Syntax.place 27 List.[])) ∷ (Syntax.intBig Syntax.w64 5000) ∷ []))
+b25 = Syntax.assign (Syntax.place 28 List.[]) (Syntax.addrOf (Syntax.place 8 List.[]))
 
 abbrev b26 : Syntax.Body
-b26 = Syntax.assign (Syntax.place 29 List.[]) (Syntax.addrOf (Syntax.place 9 List.[]))
+b26 = Syntax.assign (Syntax.place 29 List.[]) (Syntax.aggregate ((Syntax.copy (Syntax.place 28 List.[])) ∷ (Syntax.intBig Syntax.w64 5000) ∷ []))
 
 abbrev b27 : Syntax.Body
-b27 = Syntax.assign (Syntax.place 30 List.[]) (Syntax.aggregate ((Syntax.copy (Syntax.place 29 List.[])) ∷ (Syntax.intBig Syntax.w64 32768) ∷ []))
+b27 = Syntax.assign (Syntax.place 30 List.[]) (Syntax.addrOf (Syntax.place 9 List.[]))
 
 abbrev b28 : Syntax.Body
-b28 = Syntax.assign (Syntax.place 31 List.[]) (Syntax.addrOf (Syntax.place 10 List.[]))
+b28 = Syntax.assign (Syntax.place 31 List.[]) (Syntax.aggregate ((Syntax.copy (Syntax.place 30 List.[])) ∷ (Syntax.intBig Syntax.w64 32768) ∷ []))
 
 abbrev b29 : Syntax.Body
-b29 = Syntax.assign (Syntax.place 32 List.[]) (Syntax.aggregate ((Syntax.copy (Syntax.place 31 List.[])) ∷ (Syntax.intBig Syntax.w64 32768) ∷ []))
+b29 = Syntax.assign (Syntax.place 32 List.[]) (Syntax.addrOf (Syntax.place 10 List.[]))
 
 abbrev b30 : Syntax.Body
-b30 = Syntax.assign (Syntax.place 33 List.[]) (Syntax.addrOf (Syntax.place 11 List.[]))
+b30 = Syntax.assign (Syntax.place 33 List.[]) (Syntax.aggregate ((Syntax.copy (Syntax.place 32 List.[])) ∷ (Syntax.intBig Syntax.w64 32768) ∷ []))
 
 abbrev b31 : Syntax.Body
-b31 = Syntax.assign (Syntax.place 34 List.[]) (Syntax.aggregate ((Syntax.copy (Syntax.place 33 List.[])) ∷ (Syntax.intBig Syntax.w64 4096) ∷ []))
+b31 = Syntax.assign (Syntax.place 34 List.[]) (Syntax.addrOf (Syntax.place 11 List.[]))
 
 abbrev b32 : Syntax.Body
-b32 = Syntax.assign (Syntax.place 35 List.[]) (Syntax.addrOf (Syntax.place 12 List.[]))
+b32 = Syntax.assign (Syntax.place 35 List.[]) (Syntax.aggregate ((Syntax.copy (Syntax.place 34 List.[])) ∷ (Syntax.intBig Syntax.w64 4096) ∷ []))
 
 abbrev b33 : Syntax.Body
-b33 = Syntax.assign (Syntax.place 36 List.[]) (Syntax.aggregate ((Syntax.copy (Syntax.place 35 List.[])) ∷ (Syntax.intBig Syntax.w64 4096) ∷ []))
+b33 = Syntax.assign (Syntax.place 36 List.[]) (Syntax.addrOf (Syntax.place 12 List.[]))
 
 abbrev b34 : Syntax.Body
-b34 = Syntax.assign (Syntax.place 37 List.[]) (Syntax.addrOf (Syntax.place 2 ((Syntax.field 0) ∷ (Syntax.deref (Syntax.tyArray y1 2)) ∷ [])))
+b34 = Syntax.assign (Syntax.place 37 List.[]) (Syntax.aggregate ((Syntax.copy (Syntax.place 36 List.[])) ∷ (Syntax.intBig Syntax.w64 4096) ∷ []))
 
 abbrev b35 : Syntax.Body
-b35 = Syntax.assign (Syntax.place 38 List.[]) (Syntax.aggregate ((Syntax.copy (Syntax.place 37 List.[])) ∷ (Syntax.copy (Syntax.place 2 ((Syntax.field 1) ∷ []))) ∷ []))
+b35 = Syntax.assign (Syntax.place 38 List.[]) (Syntax.addrOf (Syntax.place 2 ((Syntax.field 0) ∷ (Syntax.deref (Syntax.tyArray y1 2)) ∷ [])))
 
 abbrev b36 : Syntax.Body
-b36 = Syntax.call "longdust::calls::process::process" ((Syntax.copy (Syntax.place 1 List.[])) ∷ (Syntax.copy (Syntax.place 16 List.[])) ∷ (Syntax.copy (Syntax.place 18 List.[])) ∷ (Syntax.copy (Syntax.place 20 List.[])) ∷ (Syntax.copy (Syntax.place 22 List.[])) ∷ (Syntax.copy (Syntax.place 24 List.[])) ∷ (Syntax.copy (Syntax.place 26 List.[])) ∷ (Syntax.copy (Syntax.place 28 List.[])) ∷ (Syntax.copy (Syntax.place 30 List.[])) ∷ (Syntax.copy (Syntax.place 32 List.[])) ∷ (Syntax.copy (Syntax.place 34 List.[])) ∷ (Syntax.copy (Syntax.place 36 List.[])) ∷ (Syntax.copy (Syntax.place 38 List.[])) ∷ []) (Syntax.place 13 List.[])
+b36 = Syntax.assign (Syntax.place 39 List.[]) (Syntax.aggregate ((Syntax.copy (Syntax.place 38 List.[])) ∷ (Syntax.copy (Syntax.place 2 ((Syntax.field 1) ∷ []))) ∷ []))
 
 abbrev b37 : Syntax.Body
-b37 = Syntax.assign (Syntax.place 0 List.[]) (Syntax.aggregate ((Syntax.copy (Syntax.place 13 ((Syntax.field 0) ∷ []))) ∷ (Syntax.copy (Syntax.place 13 ((Syntax.field 1) ∷ []))) ∷ []))
+b37 = Syntax.assign (Syntax.place 40 List.[]) (Syntax.addrOf (Syntax.place 13 List.[]))
 
 abbrev b38 : Syntax.Body
-b38 = Syntax.return
+b38 = Syntax.assign (Syntax.place 41 List.[]) (Syntax.aggregate ((Syntax.copy (Syntax.place 40 List.[])) ∷ (Syntax.intBig Syntax.w64 4096) ∷ []))
 
 abbrev b39 : Syntax.Body
-b39 = Syntax.seq b37 b38
+b39 = Syntax.call "longdust::calls::process::process" ((Syntax.copy (Syntax.place 1 List.[])) ∷ (Syntax.copy (Syntax.place 17 List.[])) ∷ (Syntax.copy (Syntax.place 19 List.[])) ∷ (Syntax.copy (Syntax.place 21 List.[])) ∷ (Syntax.copy (Syntax.place 23 List.[])) ∷ (Syntax.copy (Syntax.place 25 List.[])) ∷ (Syntax.copy (Syntax.place 27 List.[])) ∷ (Syntax.copy (Syntax.place 29 List.[])) ∷ (Syntax.copy (Syntax.place 31 List.[])) ∷ (Syntax.copy (Syntax.place 33 List.[])) ∷ (Syntax.copy (Syntax.place 35 List.[])) ∷ (Syntax.copy (Syntax.place 37 List.[])) ∷ (Syntax.copy (Syntax.place 39 List.[])) ∷ (Syntax.copy (Syntax.place 41 List.[])) ∷ []) (Syntax.place 14 List.[])
 
 abbrev b40 : Syntax.Body
-b40 = Syntax.seq b36 b39
+b40 = Syntax.assign (Syntax.place 0 List.[]) (Syntax.aggregate ((Syntax.copy (Syntax.place 14 ((Syntax.field 0) ∷ []))) ∷ (Syntax.copy (Syntax.place 14 ((Syntax.field 1) ∷ []))) ∷ []))
 
 abbrev b41 : Syntax.Body
-b41 = Syntax.seq b35 b40
+b41 = Syntax.return
 
 abbrev b42 : Syntax.Body
-b42 = Syntax.seq b34 b41
+b42 = Syntax.seq b40 b41
 
 abbrev b43 : Syntax.Body
-b43 = Syntax.seq b33 b42
+b43 = Syntax.seq b39 b42
 
 abbrev b44 : Syntax.Body
-b44 = Syntax.seq b32 b43
+b44 = Syntax.seq b38 b43
 
 abbrev b45 : Syntax.Body
-b45 = Syntax.seq b31 b44
+b45 = Syntax.seq b37 b44
 
 abbrev b46 : Syntax.Body
-b46 = Syntax.seq b30 b45
+b46 = Syntax.seq b36 b45
 
 abbrev b47 : Syntax.Body
-b47 = Syntax.seq b29 b46
+b47 = Syntax.seq b35 b46
 
 abbrev b48 : Syntax.Body
-b48 = Syntax.seq b28 b47
+b48 = Syntax.seq b34 b47
 
 abbrev b49 : Syntax.Body
-b49 = Syntax.seq b27 b48
+b49 = Syntax.seq b33 b48
 
 abbrev b50 : Syntax.Body
-b50 = Syntax.seq b26 b49
+b50 = Syntax.seq b32 b49
 
 abbrev b51 : Syntax.Body
-b51 = Syntax.seq b25 b50
+b51 = Syntax.seq b31 b50
 
 abbrev b52 : Syntax.Body
-b52 = Syntax.seq b24 b51
+b52 = Syntax.seq b30 b51
 
 abbrev b53 : Syntax.Body
-b53 = Syntax.seq b23 b52
+b53 = Syntax.seq b29 b52
 
 abbrev b54 : Syntax.Body
-b54 = Syntax.seq b22 b53
+b54 = Syntax.seq b28 b53
 
 abbrev b55 : Syntax.Body
-b55 = Syntax.seq b21 b54
+b55 = Syntax.seq b27 b54
 
 abbrev b56 : Syntax.Body
-b56 = Syntax.seq b20 b55
+b56 = Syntax.seq b26 b55
 
 abbrev b57 : Syntax.Body
-b57 = Syntax.seq b19 b56
+b57 = Syntax.seq b25 b56
 
 abbrev b58 : Syntax.Body
-b58 = Syntax.seq b18 b57
+b58 = Syntax.seq b24 b57
 
 abbrev b59 : Syntax.Body
-b59 = Syntax.seq b17 b58
+b59 = Syntax.seq b23 b58
 
 abbrev b60 : Syntax.Body
-b60 = Syntax.seq b16 b59
+b60 = Syntax.seq b22 b59
 
 abbrev b61 : Syntax.Body
-b61 = Syntax.seq b15 b60
+b61 = Syntax.seq b21 b60
 
 abbrev b62 : Syntax.Body
-b62 = Syntax.seq b14 b61
+b62 = Syntax.seq b20 b61
 
 abbrev b63 : Syntax.Body
-b63 = Syntax.seq b13 b62
+b63 = Syntax.seq b19 b62
 
 abbrev b64 : Syntax.Body
-b64 = Syntax.seq b12 b63
+b64 = Syntax.seq b18 b63
 
 abbrev b65 : Syntax.Body
-b65 = Syntax.seq b11 b64
+b65 = Syntax.seq b17 b64
 
 abbrev b66 : Syntax.Body
-b66 = Syntax.seq b10 b65
+b66 = Syntax.seq b16 b65
 
 abbrev b67 : Syntax.Body
-b67 = Syntax.seq b9 b66
+b67 = Syntax.seq b15 b66
 
 abbrev b68 : Syntax.Body
-b68 = Syntax.seq b8 b67
+b68 = Syntax.seq b14 b67
 
 abbrev b69 : Syntax.Body
-b69 = Syntax.seq b7 b68
+b69 = Syntax.seq b13 b68
 
 abbrev b70 : Syntax.Body
-b70 = Syntax.seq b6 b69
+b70 = Syntax.seq b12 b69
 
 abbrev b71 : Syntax.Body
-b71 = Syntax.seq b5 b70
+b71 = Syntax.seq b11 b70
 
 abbrev b72 : Syntax.Body
-b72 = Syntax.seq b4 b71
+b72 = Syntax.seq b10 b71
 
 abbrev b73 : Syntax.Body
-b73 = Syntax.seq b3 b72
+b73 = Syntax.seq b9 b72
 
 abbrev b74 : Syntax.Body
-b74 = Syntax.seq b2 b73
+b74 = Syntax.seq b8 b73
 
 abbrev b75 : Syntax.Body
-b75 = Syntax.seq b1 b74
+b75 = Syntax.seq b7 b74
 
 abbrev b76 : Syntax.Body
-b76 = Syntax.seq b0 b75
+b76 = Syntax.seq b6 b75
+
+abbrev b77 : Syntax.Body
+b77 = Syntax.seq b5 b76
+
+abbrev b78 : Syntax.Body
+b78 = Syntax.seq b4 b77
+
+abbrev b79 : Syntax.Body
+b79 = Syntax.seq b3 b78
+
+abbrev b80 : Syntax.Body
+b80 = Syntax.seq b2 b79
+
+abbrev b81 : Syntax.Body
+b81 = Syntax.seq b1 b80
+
+abbrev b82 : Syntax.Body
+b82 = Syntax.seq b0 b81
 
 abbrev pub body : Syntax.Body
-body = b76
+body = b82
 
 abbrev pub Claims : Type 1
-Claims = Kinds.In 0 ps·0 × Kinds.Out 0 ps·0 r·0 × Kinds.In 0 ps·1 × Kinds.Out 0 ps·1 r·1 × Kinds.In 0 ps·2 × Kinds.Out 0 ps·2 r·2 × Kinds.In 12 ps·3 × Kinds.Out 12 ps·3 r·3
+Claims = Kinds.In 0 ps·0 × Kinds.Out 0 ps·0 r·0 × Kinds.In 0 ps·1 × Kinds.Out 0 ps·1 r·1 × Kinds.In 0 ps·2 × Kinds.Out 0 ps·2 r·2 × Kinds.In 13 ps·3 × Kinds.Out 13 ps·3 r·3
 
 abbrev pub t0 : List.List Row.Entry
 t0 = c0 ++ c1
@@ -1114,286 +1192,304 @@ abbrev pub t1 : List.List Row.Entry
 t1 = c2 ++ c3
 
 abbrev pub t2 : List.List Row.Entry
-t2 = c4
+t2 = c4 ++ c5
 
 abbrev pub t3 : List.List Row.Entry
-t3 = c5 ++ c1
+t3 = c6 ++ c1
 
 abbrev pub t4 : List.List Row.Entry
-t4 = c6 ++ c1
+t4 = c7 ++ c1
 
 abbrev pub t5 : List.List Row.Entry
-t5 = c7 ++ c1
+t5 = c8 ++ c1
 
 abbrev pub t6 : List.List Row.Entry
-t6 = c8 ++ c1
+t6 = c9 ++ c1
 
 abbrev pub t7 : List.List Row.Entry
-t7 = c9 ++ c1
+t7 = c10 ++ c1
 
 abbrev pub t8 : List.List Row.Entry
-t8 = c10 ++ c1
+t8 = c11 ++ c1
 
 abbrev pub t9 : List.List Row.Entry
-t9 = c11 ++ c1
+t9 = c12 ++ c1
 
 abbrev pub t10 : List.List Row.Entry
-t10 = c12 ++ c1
+t10 = c13 ++ c1
 
 abbrev pub t11 : List.List Row.Entry
-t11 = c13 ++ c1
+t11 = c14 ++ c1
 
 abbrev pub t12 : List.List Row.Entry
-t12 = c14 ++ c1
+t12 = c15 ++ c1
 
 abbrev pub t13 : List.List Row.Entry
-t13 = c15 ++ c1
+t13 = c16 ++ c1
 
 abbrev pub t14 : List.List Row.Entry
-t14 = c15 ++ c16
+t14 = c16 ++ c17
 
 abbrev pub t15 : List.List Row.Entry
-t15 = c15 ++ c17
+t15 = c16 ++ c18
 
 abbrev pub t16 : List.List Row.Entry
-t16 = c15 ++ c18
+t16 = c16 ++ c19
 
 abbrev pub t17 : List.List Row.Entry
-t17 = c15 ++ c19
+t17 = c16 ++ c20
 
 abbrev pub t18 : List.List Row.Entry
-t18 = c15 ++ c20
+t18 = c16 ++ c21
 
 abbrev pub t19 : List.List Row.Entry
-t19 = c15 ++ c21
+t19 = c16 ++ c22
 
 abbrev pub t20 : List.List Row.Entry
-t20 = c15 ++ c22
+t20 = c16 ++ c23
 
 abbrev pub t21 : List.List Row.Entry
-t21 = c15 ++ c23
+t21 = c24 ++ c3
 
 abbrev pub t22 : List.List Row.Entry
-t22 = c15 ++ c24
+t22 = c16 ++ c25
 
 abbrev pub t23 : List.List Row.Entry
-t23 = c15 ++ c25
+t23 = c16 ++ c26
 
 abbrev pub t24 : List.List Row.Entry
-t24 = c15 ++ c26
+t24 = c16 ++ c27
 
 abbrev pub t25 : List.List Row.Entry
-t25 = c15 ++ c27
+t25 = c16 ++ c28
 
 abbrev pub t26 : List.List Row.Entry
-t26 = c28 ++ c3
+t26 = c29 ++ c3
 
 abbrev pub t27 : List.List Row.Entry
-t27 = c29 ++ c27
+t27 = c30 ++ c28
 
 abbrev pub t28 : List.List Row.Entry
-t28 = c30 ++ c3
+t28 = c31 ++ c3
 
 abbrev pub t29 : List.List Row.Entry
-t29 = c31 ++ c3
+t29 = c32 ++ c3
 
 abbrev pub t30 : List.List Row.Entry
-t30 = c32 ++ c27
+t30 = c33 ++ c28
 
 abbrev pub t31 : List.List Row.Entry
-t31 = c33 ++ c3
+t31 = c34 ++ c3
 
 abbrev pub t32 : List.List Row.Entry
-t32 = c34 ++ c3
+t32 = c35 ++ c3
 
 abbrev pub t33 : List.List Row.Entry
-t33 = c35 ++ c27
+t33 = c36 ++ c28
 
 abbrev pub t34 : List.List Row.Entry
-t34 = c36 ++ c3
+t34 = c37 ++ c3
 
 abbrev pub t35 : List.List Row.Entry
-t35 = c37 ++ c3
+t35 = c38 ++ c3
 
 abbrev pub t36 : List.List Row.Entry
-t36 = c38 ++ c27
+t36 = c39 ++ c28
 
 abbrev pub t37 : List.List Row.Entry
-t37 = c39 ++ c3
+t37 = c38 ++ c40
 
 abbrev pub t38 : List.List Row.Entry
-t38 = c37 ++ c40
+t38 = c38 ++ c41
 
 abbrev pub t39 : List.List Row.Entry
-t39 = c41 ++ c27
+t39 = c42 ++ c28
 
 abbrev pub t40 : List.List Row.Entry
-t40 = c37 ++ c42
+t40 = c38 ++ c43
 
 abbrev pub t41 : List.List Row.Entry
-t41 = c37 ++ c43
+t41 = c38 ++ c44
 
 abbrev pub t42 : List.List Row.Entry
-t42 = c41 ++ c44
+t42 = c42 ++ c45
 
 abbrev pub t43 : List.List Row.Entry
-t43 = c37 ++ c45
+t43 = c38 ++ c46
 
 abbrev pub t44 : List.List Row.Entry
-t44 = c37 ++ c46
+t44 = c38 ++ c47
 
 abbrev pub t45 : List.List Row.Entry
-t45 = c41 ++ c47
+t45 = c42 ++ c48
 
 abbrev pub t46 : List.List Row.Entry
-t46 = c37 ++ c48
+t46 = c38 ++ c49
 
 abbrev pub t47 : List.List Row.Entry
-t47 = c37 ++ c49
+t47 = c38 ++ c50
 
 abbrev pub t48 : List.List Row.Entry
-t48 = c41 ++ c50
+t48 = c42 ++ c51
 
 abbrev pub t49 : List.List Row.Entry
-t49 = c37 ++ c51
+t49 = c52 ++ c5
 
 abbrev pub t50 : List.List Row.Entry
-t50 = c52
+t50 = c53 ++ c5
 
 abbrev pub t51 : List.List Row.Entry
-t51 = c41 ++ c53
+t51 = c42 ++ c54
 
 abbrev pub t52 : List.List Row.Entry
-t52 = c54
+t52 = c55 ++ c5
 
 abbrev pub t53 : List.List Row.Entry
-t53 = c55
+t53 = c56 ++ c5
 
 abbrev pub t54 : List.List Row.Entry
-t54 = c41 ++ c56
+t54 = c42 ++ c57
 
 abbrev pub t55 : List.List Row.Entry
-t55 = c57
+t55 = c58 ++ c5
 
 abbrev pub t56 : List.List Row.Entry
-t56 = c58
+t56 = c59 ++ c5
 
 abbrev pub t57 : List.List Row.Entry
-t57 = c59 ++ c56
+t57 = c60 ++ c57
 
 abbrev pub t58 : List.List Row.Entry
-t58 = c60
+t58 = c61 ++ c5
 
 abbrev pub t59 : List.List Row.Entry
-t59 = c61
+t59 = c62 ++ c5
 
 abbrev pub t60 : List.List Row.Entry
-t60 = c59 ++ c62
+t60 = c60 ++ c63
 
 abbrev pub t61 : List.List Row.Entry
-t61 = c63 ++ c64
+t61 = c62 ++ c64
 
 abbrev pub t62 : List.List Row.Entry
-t62 = c65
+t62 = c62 ++ c65
 
 abbrev pub t63 : List.List Row.Entry
-t63 = c66 ++ c64
+t63 = c60 ++ c66
 
 abbrev pub t64 : List.List Row.Entry
-t64 = c67 ++ c62
+t64 = c67 ++ c68
 
 abbrev pub t65 : List.List Row.Entry
-t65 = c68 ++ c64
+t65 = c69 ++ c70
 
 abbrev pub t66 : List.List Row.Entry
-t66 = c69 ++ c62
+t66 = c71 ++ c68
 
 abbrev pub t67 : List.List Row.Entry
-t67 = c70 ++ c62
+t67 = c72 ++ c66
 
 abbrev pub t68 : List.List Row.Entry
-t68 = c71 ++ c64
+t68 = c73 ++ c68
 
 abbrev pub t69 : List.List Row.Entry
-t69 = c72 ++ c62
+t69 = c74 ++ c66
 
 abbrev pub t70 : List.List Row.Entry
-t70 = c73 ++ c62
+t70 = c75 ++ c66
 
 abbrev pub t71 : List.List Row.Entry
-t71 = c2 ++ c64
+t71 = c76 ++ c68
 
 abbrev pub t72 : List.List Row.Entry
-t72 = c74 ++ c62
+t72 = c77 ++ c66
 
 abbrev pub t73 : List.List Row.Entry
-t73 = c75 ++ c62
+t73 = c78 ++ c66
 
 abbrev pub t74 : List.List Row.Entry
-t74 = c2 ++ c76
+t74 = c2 ++ c68
 
 abbrev pub t75 : List.List Row.Entry
-t75 = c77 ++ c62
+t75 = c79 ++ c66
 
 abbrev pub t76 : List.List Row.Entry
-t76 = c78 ++ c62
+t76 = c80 ++ c66
 
 abbrev pub t77 : List.List Row.Entry
-t77 = c2 ++ c79
+t77 = c2 ++ c81
 
 abbrev pub t78 : List.List Row.Entry
-t78 = c80 ++ c62
+t78 = c82 ++ c66
 
 abbrev pub t79 : List.List Row.Entry
-t79 = c80 ++ c81
+t79 = c83 ++ c66
 
 abbrev pub t80 : List.List Row.Entry
-t80 = c2 ++ c82
+t80 = c2 ++ c84
 
 abbrev pub t81 : List.List Row.Entry
-t81 = c80 ++ c83
+t81 = c85 ++ c66
 
 abbrev pub t82 : List.List Row.Entry
-t82 = c80 ++ c84
+t82 = c85 ++ c86
 
 abbrev pub t83 : List.List Row.Entry
-t83 = c80 ++ c85
+t83 = c2 ++ c87
 
 abbrev pub t84 : List.List Row.Entry
-t84 = c80 ++ c86
+t84 = c85 ++ c88
 
 abbrev pub t85 : List.List Row.Entry
-t85 = c87
+t85 = c85 ++ c89
 
 abbrev pub t86 : List.List Row.Entry
-t86 = c80 ++ c88
+t86 = c85 ++ c90
 
 abbrev pub t87 : List.List Row.Entry
-t87 = c80 ++ c89
+t87 = c85 ++ c91
 
 abbrev pub t88 : List.List Row.Entry
-t88 = c90
+t88 = c92 ++ c70
 
 abbrev pub t89 : List.List Row.Entry
-t89 = c80 ++ c91
+t89 = c85 ++ c93
 
 abbrev pub t90 : List.List Row.Entry
-t90 = c80 ++ c92
+t90 = c85 ++ c94
 
 abbrev pub t91 : List.List Row.Entry
-t91 = c93
+t91 = c95 ++ c70
 
 abbrev pub t92 : List.List Row.Entry
-t92 = c80 ++ c94
+t92 = c85 ++ c96
 
 abbrev pub t93 : List.List Row.Entry
-t93 = c0 ++ c94
+t93 = c85 ++ c97
 
 abbrev pub t94 : List.List Row.Entry
-t94 = c95 ++ c94
+t94 = c98 ++ c70
 
 abbrev pub t95 : List.List Row.Entry
-t95 = c95 ++ c1
+t95 = c85 ++ c99
+
+abbrev pub t96 : List.List Row.Entry
+t96 = c0 ++ c99
+
+abbrev pub t97 : List.List Row.Entry
+t97 = c4 ++ c70
+
+abbrev pub t98 : List.List Row.Entry
+t98 = c0 ++ c100
+
+abbrev pub t99 : List.List Row.Entry
+t99 = c0 ++ c101
+
+abbrev pub t100 : List.List Row.Entry
+t100 = c102 ++ c101
+
+abbrev pub t101 : List.List Row.Entry
+t101 = c102 ++ c1
 
 abbrev pub T0 : Row.Cx
 T0 = record { locals = List._++_ t0 (List._++_ t1 t2); slots = List.[] }
@@ -1456,176 +1552,194 @@ abbrev pub T19 : Row.Cx
 T19 = record { locals = List._++_ t20 (List._++_ t1 t2); slots = List.[] }
 
 abbrev pub T20 : Row.Cx
-T20 = record { locals = List._++_ t21 (List._++_ t1 t2); slots = List.[] }
+T20 = record { locals = List._++_ t20 (List._++_ t21 t2); slots = List.[] }
 
 abbrev pub T21 : Row.Cx
-T21 = record { locals = List._++_ t22 (List._++_ t1 t2); slots = List.[] }
+T21 = record { locals = List._++_ t22 (List._++_ t21 t2); slots = List.[] }
 
 abbrev pub T22 : Row.Cx
-T22 = record { locals = List._++_ t23 (List._++_ t1 t2); slots = List.[] }
+T22 = record { locals = List._++_ t22 (List._++_ t1 t2); slots = List.[] }
 
 abbrev pub T23 : Row.Cx
-T23 = record { locals = List._++_ t22 (List._++_ t1 t2); slots = List.[] }
+T23 = record { locals = List._++_ t22 (List._++_ t21 t2); slots = List.[] }
 
 abbrev pub T24 : Row.Cx
-T24 = record { locals = List._++_ t24 (List._++_ t1 t2); slots = List.[] }
+T24 = record { locals = List._++_ t23 (List._++_ t21 t2); slots = List.[] }
 
 abbrev pub T25 : Row.Cx
-T25 = record { locals = List._++_ t25 (List._++_ t1 t2); slots = List.[] }
+T25 = record { locals = List._++_ t23 (List._++_ t1 t2); slots = List.[] }
 
 abbrev pub T26 : Row.Cx
-T26 = record { locals = List._++_ t25 (List._++_ t26 t2); slots = List.[] }
+T26 = record { locals = List._++_ t24 (List._++_ t1 t2); slots = List.[] }
+
+abbrev pub T27 : Row.Cx
+T27 = record { locals = List._++_ t25 (List._++_ t1 t2); slots = List.[] }
 
 abbrev pub T28 : Row.Cx
-T28 = record { locals = List._++_ t27 (List._++_ t28 t2); slots = List.[] }
+T28 = record { locals = List._++_ t25 (List._++_ t26 t2); slots = List.[] }
 
-abbrev pub T29 : Row.Cx
-T29 = record { locals = List._++_ t27 (List._++_ t29 t2); slots = List.[] }
+abbrev pub T30 : Row.Cx
+T30 = record { locals = List._++_ t27 (List._++_ t28 t2); slots = List.[] }
 
 abbrev pub T31 : Row.Cx
-T31 = record { locals = List._++_ t30 (List._++_ t31 t2); slots = List.[] }
+T31 = record { locals = List._++_ t27 (List._++_ t29 t2); slots = List.[] }
 
-abbrev pub T32 : Row.Cx
-T32 = record { locals = List._++_ t30 (List._++_ t32 t2); slots = List.[] }
+abbrev pub T33 : Row.Cx
+T33 = record { locals = List._++_ t30 (List._++_ t31 t2); slots = List.[] }
 
 abbrev pub T34 : Row.Cx
-T34 = record { locals = List._++_ t33 (List._++_ t34 t2); slots = List.[] }
+T34 = record { locals = List._++_ t30 (List._++_ t32 t2); slots = List.[] }
 
-abbrev pub T35 : Row.Cx
-T35 = record { locals = List._++_ t33 (List._++_ t35 t2); slots = List.[] }
+abbrev pub T36 : Row.Cx
+T36 = record { locals = List._++_ t33 (List._++_ t34 t2); slots = List.[] }
 
 abbrev pub T37 : Row.Cx
-T37 = record { locals = List._++_ t36 (List._++_ t37 t2); slots = List.[] }
+T37 = record { locals = List._++_ t33 (List._++_ t35 t2); slots = List.[] }
 
-abbrev pub T38 : Row.Cx
-T38 = record { locals = List._++_ t36 (List._++_ t38 t2); slots = List.[] }
+abbrev pub T39 : Row.Cx
+T39 = record { locals = List._++_ t36 (List._++_ t37 t2); slots = List.[] }
 
 abbrev pub T40 : Row.Cx
-T40 = record { locals = List._++_ t39 (List._++_ t40 t2); slots = List.[] }
+T40 = record { locals = List._++_ t36 (List._++_ t38 t2); slots = List.[] }
 
-abbrev pub T41 : Row.Cx
-T41 = record { locals = List._++_ t39 (List._++_ t41 t2); slots = List.[] }
+abbrev pub T42 : Row.Cx
+T42 = record { locals = List._++_ t39 (List._++_ t40 t2); slots = List.[] }
 
 abbrev pub T43 : Row.Cx
-T43 = record { locals = List._++_ t42 (List._++_ t43 t2); slots = List.[] }
+T43 = record { locals = List._++_ t39 (List._++_ t41 t2); slots = List.[] }
 
-abbrev pub T44 : Row.Cx
-T44 = record { locals = List._++_ t42 (List._++_ t44 t2); slots = List.[] }
+abbrev pub T45 : Row.Cx
+T45 = record { locals = List._++_ t42 (List._++_ t43 t2); slots = List.[] }
 
 abbrev pub T46 : Row.Cx
-T46 = record { locals = List._++_ t45 (List._++_ t46 t2); slots = List.[] }
+T46 = record { locals = List._++_ t42 (List._++_ t44 t2); slots = List.[] }
 
-abbrev pub T47 : Row.Cx
-T47 = record { locals = List._++_ t45 (List._++_ t47 t2); slots = List.[] }
+abbrev pub T48 : Row.Cx
+T48 = record { locals = List._++_ t45 (List._++_ t46 t2); slots = List.[] }
 
 abbrev pub T49 : Row.Cx
-T49 = record { locals = List._++_ t48 (List._++_ t49 t2); slots = List.[] }
+T49 = record { locals = List._++_ t45 (List._++_ t47 t2); slots = List.[] }
 
-abbrev pub T50 : Row.Cx
-T50 = record { locals = List._++_ t48 (List._++_ t47 t50); slots = List.[] }
+abbrev pub T51 : Row.Cx
+T51 = record { locals = List._++_ t48 (List._++_ t47 t49); slots = List.[] }
 
 abbrev pub T52 : Row.Cx
-T52 = record { locals = List._++_ t51 (List._++_ t47 t52); slots = List.[] }
+T52 = record { locals = List._++_ t48 (List._++_ t47 t50); slots = List.[] }
 
-abbrev pub T53 : Row.Cx
-T53 = record { locals = List._++_ t51 (List._++_ t47 t53); slots = List.[] }
+abbrev pub T54 : Row.Cx
+T54 = record { locals = List._++_ t51 (List._++_ t47 t52); slots = List.[] }
 
 abbrev pub T55 : Row.Cx
-T55 = record { locals = List._++_ t54 (List._++_ t47 t55); slots = List.[] }
+T55 = record { locals = List._++_ t51 (List._++_ t47 t53); slots = List.[] }
 
-abbrev pub T56 : Row.Cx
-T56 = record { locals = List._++_ t54 (List._++_ t47 t56); slots = List.[] }
+abbrev pub T57 : Row.Cx
+T57 = record { locals = List._++_ t54 (List._++_ t47 t55); slots = List.[] }
 
 abbrev pub T58 : Row.Cx
-T58 = record { locals = List._++_ t57 (List._++_ t47 t58); slots = List.[] }
-
-abbrev pub T59 : Row.Cx
-T59 = record { locals = List._++_ t57 (List._++_ t47 t59); slots = List.[] }
+T58 = record { locals = List._++_ t54 (List._++_ t47 t56); slots = List.[] }
 
 abbrev pub T60 : Row.Cx
-T60 = record { locals = List._++_ t60 (List._++_ t61 t62); slots = List.[] }
+T60 = record { locals = List._++_ t57 (List._++_ t47 t58); slots = List.[] }
 
 abbrev pub T61 : Row.Cx
-T61 = record { locals = List._++_ t60 (List._++_ t63 t62); slots = List.[] }
+T61 = record { locals = List._++_ t57 (List._++_ t47 t59); slots = List.[] }
 
 abbrev pub T63 : Row.Cx
-T63 = record { locals = List._++_ t64 (List._++_ t65 t62); slots = List.[] }
+T63 = record { locals = List._++_ t60 (List._++_ t47 t61); slots = List.[] }
+
+abbrev pub T64 : Row.Cx
+T64 = record { locals = List._++_ t60 (List._++_ t47 t62); slots = List.[] }
 
 abbrev pub T65 : Row.Cx
-T65 = record { locals = List._++_ t66 (List._++_ t65 t62); slots = List.[] }
+T65 = record { locals = List._++_ t63 (List._++_ t64 t65); slots = List.[] }
 
-abbrev pub T67 : Row.Cx
-T67 = record { locals = List._++_ t67 (List._++_ t68 t62); slots = List.[] }
+abbrev pub T66 : Row.Cx
+T66 = record { locals = List._++_ t63 (List._++_ t66 t65); slots = List.[] }
 
-abbrev pub T69 : Row.Cx
-T69 = record { locals = List._++_ t69 (List._++_ t68 t62); slots = List.[] }
+abbrev pub T68 : Row.Cx
+T68 = record { locals = List._++_ t67 (List._++_ t68 t65); slots = List.[] }
 
-abbrev pub T71 : Row.Cx
-T71 = record { locals = List._++_ t70 (List._++_ t71 t62); slots = List.[] }
+abbrev pub T70 : Row.Cx
+T70 = record { locals = List._++_ t69 (List._++_ t68 t65); slots = List.[] }
 
-abbrev pub T73 : Row.Cx
-T73 = record { locals = List._++_ t72 (List._++_ t71 t62); slots = List.[] }
+abbrev pub T72 : Row.Cx
+T72 = record { locals = List._++_ t70 (List._++_ t71 t65); slots = List.[] }
 
-abbrev pub T75 : Row.Cx
-T75 = record { locals = List._++_ t73 (List._++_ t74 t62); slots = List.[] }
+abbrev pub T74 : Row.Cx
+T74 = record { locals = List._++_ t72 (List._++_ t71 t65); slots = List.[] }
 
-abbrev pub T77 : Row.Cx
-T77 = record { locals = List._++_ t75 (List._++_ t74 t62); slots = List.[] }
+abbrev pub T76 : Row.Cx
+T76 = record { locals = List._++_ t73 (List._++_ t74 t65); slots = List.[] }
 
-abbrev pub T79 : Row.Cx
-T79 = record { locals = List._++_ t76 (List._++_ t77 t62); slots = List.[] }
+abbrev pub T78 : Row.Cx
+T78 = record { locals = List._++_ t75 (List._++_ t74 t65); slots = List.[] }
 
-abbrev pub T81 : Row.Cx
-T81 = record { locals = List._++_ t78 (List._++_ t77 t62); slots = List.[] }
+abbrev pub T80 : Row.Cx
+T80 = record { locals = List._++_ t76 (List._++_ t77 t65); slots = List.[] }
 
-abbrev pub T83 : Row.Cx
-T83 = record { locals = List._++_ t79 (List._++_ t80 t62); slots = List.[] }
+abbrev pub T82 : Row.Cx
+T82 = record { locals = List._++_ t78 (List._++_ t77 t65); slots = List.[] }
 
-abbrev pub T85 : Row.Cx
-T85 = record { locals = List._++_ t81 (List._++_ t80 t62); slots = List.[] }
+abbrev pub T84 : Row.Cx
+T84 = record { locals = List._++_ t79 (List._++_ t80 t65); slots = List.[] }
 
-abbrev pub T87 : Row.Cx
-T87 = record { locals = List._++_ t82 (List._++_ t1 t62); slots = List.[] }
+abbrev pub T86 : Row.Cx
+T86 = record { locals = List._++_ t81 (List._++_ t80 t65); slots = List.[] }
 
-abbrev pub T89 : Row.Cx
-T89 = record { locals = List._++_ t83 (List._++_ t1 t62); slots = List.[] }
+abbrev pub T88 : Row.Cx
+T88 = record { locals = List._++_ t82 (List._++_ t83 t65); slots = List.[] }
 
-abbrev pub T91 : Row.Cx
-T91 = record { locals = List._++_ t84 (List._++_ t1 t85); slots = List.[] }
+abbrev pub T90 : Row.Cx
+T90 = record { locals = List._++_ t84 (List._++_ t83 t65); slots = List.[] }
 
-abbrev pub T93 : Row.Cx
-T93 = record { locals = List._++_ t86 (List._++_ t1 t85); slots = List.[] }
+abbrev pub T92 : Row.Cx
+T92 = record { locals = List._++_ t85 (List._++_ t1 t65); slots = List.[] }
 
-abbrev pub T95 : Row.Cx
-T95 = record { locals = List._++_ t87 (List._++_ t1 t88); slots = List.[] }
+abbrev pub T94 : Row.Cx
+T94 = record { locals = List._++_ t86 (List._++_ t1 t65); slots = List.[] }
 
-abbrev pub T97 : Row.Cx
-T97 = record { locals = List._++_ t89 (List._++_ t1 t88); slots = List.[] }
+abbrev pub T96 : Row.Cx
+T96 = record { locals = List._++_ t87 (List._++_ t1 t88); slots = List.[] }
 
-abbrev pub T99 : Row.Cx
-T99 = record { locals = List._++_ t90 (List._++_ t1 t91); slots = List.[] }
+abbrev pub T98 : Row.Cx
+T98 = record { locals = List._++_ t89 (List._++_ t1 t88); slots = List.[] }
 
-abbrev pub T101 : Row.Cx
-T101 = record { locals = List._++_ t92 (List._++_ t1 t91); slots = List.[] }
+abbrev pub T100 : Row.Cx
+T100 = record { locals = List._++_ t90 (List._++_ t1 t91); slots = List.[] }
 
-abbrev pub T103 : Row.Cx
-T103 = record { locals = List._++_ t93 (List._++_ t1 t2); slots = List.[] }
+abbrev pub T102 : Row.Cx
+T102 = record { locals = List._++_ t92 (List._++_ t1 t91); slots = List.[] }
 
-abbrev pub T105 : Row.Cx
-T105 = record { locals = List._++_ t94 (List._++_ t1 t2); slots = List.[] }
+abbrev pub T104 : Row.Cx
+T104 = record { locals = List._++_ t93 (List._++_ t1 t94); slots = List.[] }
 
 abbrev pub T106 : Row.Cx
-T106 = record { locals = List._++_ t95 (List._++_ t1 t2); slots = List.[] }
+T106 = record { locals = List._++_ t95 (List._++_ t1 t94); slots = List.[] }
 
-abbrev pub T107 : Row.Cx
-T107 = record { locals = List._++_ t3 (List._++_ t1 t2); slots = List.[] }
+abbrev pub T108 : Row.Cx
+T108 = record { locals = List._++_ t96 (List._++_ t1 t97); slots = List.[] }
+
+abbrev pub T111 : Row.Cx
+T111 = record { locals = List._++_ t98 (List._++_ t1 t2); slots = List.[] }
+
+abbrev pub T113 : Row.Cx
+T113 = record { locals = List._++_ t99 (List._++_ t1 t2); slots = List.[] }
+
+abbrev pub T114 : Row.Cx
+T114 = record { locals = List._++_ t100 (List._++_ t1 t2); slots = List.[] }
+
+abbrev pub T115 : Row.Cx
+T115 = record { locals = List._++_ t101 (List._++_ t1 t2); slots = List.[] }
+
+abbrev pub T116 : Row.Cx
+T116 = record { locals = List._++_ t3 (List._++_ t1 t2); slots = List.[] }
 
 abbrev pub O0 : Typed.Outs
 O0 = record { next = Option.none; exits = List.[]; returns = Option.some T1 }
 
 module _ (claims· : Claims) where
   abbrev s0 : (bs : List.List Nat.ℕ) → Typed.Gives T0 T2
-  s0 = λ bs. Know.k-shs-known (Referent.fInt Syntax.w8) T0 1 0 y27 Row.off 0 λ x. x
+  s0 = λ bs. Know.k-shs-known (Referent.fInt Syntax.w8) T0 1 0 y28 Row.off 0 λ x. x
 
   abbrev s1 : (bs : List.List Nat.ℕ) → Typed.Mo T2 → Typed.Mo T3
   s1 = λ bs. Repeat.n-repeat q4 5001 T2 3 λ m. Ieee.ofBits Ieee.binary64 0
@@ -1658,13 +1772,13 @@ module _ (claims· : Claims) where
   s10 = λ bs. AtSlots.n-as-by T11 7 (Rows.arrF q5 16384 0) λ x. x
 
   abbrev s11 : (bs : List.List Nat.ℕ) → Typed.Both T12 T13
-  s11 = λ bs. Call.callB ps·0 r·0 (claims· .0) (claims· .1) T12 tt 14 List.[] (Syntax.tyArray Rec·laws.mir 5000)
+  s11 = λ bs. Call.callB ps·0 r·0 (claims· .0) (claims· .1) T12 tt 15 List.[] (Syntax.tyArray Rec·laws.mir 5000)
 
   abbrev s12 : (bs : List.List Nat.ℕ) → Typed.Mo T13 → Typed.Mo T14
-  s12 = λ bs. LocalCopy.n-val-copy T13 14 8 (Array'.Array Rec·type.the-row 5000) (Rows.arrF Rec·type.the-row 5000 0) (Rows.arrF Rec·type.the-row 5000 0) (λ x. x) (λ x. x) λ x. x
+  s12 = λ bs. LocalCopy.n-val-copy T13 15 8 (Array'.Array Rec·type.the-row 5000) (Rows.arrF Rec·type.the-row 5000 0) (Rows.arrF Rec·type.the-row 5000 0) (λ x. x) (λ x. x) λ x. x
 
   abbrev s13 : (bs : List.List Nat.ℕ) → Typed.Mo T14 → Typed.Mo T15
-  s13 = λ bs. Scalar.n-room T14 14 (Syntax.tyArray Rec·laws.mir 5000)
+  s13 = λ bs. Scalar.n-room T14 15 (Syntax.tyArray Rec·laws.mir 5000)
 
   abbrev s14 : (bs : List.List Nat.ℕ) → Typed.Mo T15 → Typed.Mo T16
   s14 = λ bs. Repeat.n-repeat q0 32768 T15 9 λ m. 0
@@ -1679,542 +1793,587 @@ module _ (claims· : Claims) where
   s17 = λ bs. AtSlots.n-as-by T18 10 (Rows.arrF q0 32768 0) λ x. x
 
   abbrev s18 : (bs : List.List Nat.ℕ) → Typed.Both T19 T20
-  s18 = λ bs. Call.callB ps·1 r·1 (claims· .2) (claims· .3) T19 tt 15 List.[] (Syntax.tyArray (Syntax.tyArray y1 2) 4096)
+  s18 = λ bs. Call.callB ps·1 r·1 (claims· .2) (claims· .3) T19 tt 16 List.[] (Syntax.tyArray (Syntax.tyArray y1 2) 4096)
 
   abbrev s19 : (bs : List.List Nat.ℕ) → Typed.Mo T20 → Typed.Mo T21
-  s19 = λ bs. LocalCopy.n-val-copy T20 15 11 (Array'.Array (Array'.Array q1 2) 4096) (Rows.arrF (Array'.Array q1 2) 4096 0) (Rows.arrF (Array'.Array q1 2) 4096 0) (λ x. x) (λ x. x) λ x. x
+  s19 = λ bs. LocalCopy.n-val-copy T20 16 11 (Array'.Array (Array'.Array q1 2) 4096) (Rows.arrF (Array'.Array q1 2) 4096 0) (Rows.arrF (Array'.Array q1 2) 4096 0) (λ x. x) (λ x. x) λ x. x
 
   abbrev s20 : (bs : List.List Nat.ℕ) → Typed.Mo T21 → Typed.Mo T22
-  s20 = λ bs. Scalar.n-room T21 15 (Syntax.tyArray (Syntax.tyArray y1 2) 4096)
+  s20 = λ bs. Scalar.n-room T21 16 (Syntax.tyArray (Syntax.tyArray y1 2) 4096)
 
   abbrev s21 : (bs : List.List Nat.ℕ) → Typed.Both T22 T23
-  s21 = λ bs. Call.callB ps·1 r·1 (claims· .2) (claims· .3) T22 tt 15 List.[] (Syntax.tyArray (Syntax.tyArray y1 2) 4096)
+  s21 = λ bs. Call.callB ps·1 r·1 (claims· .2) (claims· .3) T22 tt 16 List.[] (Syntax.tyArray (Syntax.tyArray y1 2) 4096)
 
   abbrev s22 : (bs : List.List Nat.ℕ) → Typed.Mo T23 → Typed.Mo T24
-  s22 = λ bs. LocalCopy.n-val-copy T23 15 12 (Array'.Array (Array'.Array q1 2) 4096) (Rows.arrF (Array'.Array q1 2) 4096 0) (Rows.arrF (Array'.Array q1 2) 4096 0) (λ x. x) (λ x. x) λ x. x
+  s22 = λ bs. LocalCopy.n-val-copy T23 16 12 (Array'.Array (Array'.Array q1 2) 4096) (Rows.arrF (Array'.Array q1 2) 4096 0) (Rows.arrF (Array'.Array q1 2) 4096 0) (λ x. x) (λ x. x) λ x. x
 
   abbrev s23 : (bs : List.List Nat.ℕ) → Typed.Mo T24 → Typed.Mo T25
-  s23 = λ bs. Scalar.n-room T24 15 (Syntax.tyArray (Syntax.tyArray y1 2) 4096)
+  s23 = λ bs. Scalar.n-room T24 16 (Syntax.tyArray (Syntax.tyArray y1 2) 4096)
 
-  abbrev s24 : (bs : List.List Nat.ℕ) → Typed.Both T25 T26
-  s24 = λ bs. Call.callB ps·2 r·2 (claims· .4) (claims· .5) T25 tt 16 List.[] y6
+  abbrev s24 : (bs : List.List Nat.ℕ) → Typed.Mo T25 → Typed.Mo T26
+  s24 = λ bs. Repeat.n-repeat q0 4096 T25 13 λ m. 0
 
-  abbrev s26 : (bs : List.List Nat.ℕ) → Typed.Gives T26 T28
-  s26 = λ bs. Borrow.k-arr-borrow q4 T26 (Row.hd 0 (Row.tl (Row.tl (Row.tl bs)))) 3 17 5001 2 y7 λ x. x
+  abbrev s25 : (bs : List.List Nat.ℕ) → Typed.Mo T26 → Typed.Mo T27
+  s25 = λ bs. AtSlots.n-as-by T26 13 (Rows.arrF q0 4096 0) λ x. x
 
-  abbrev s27 : (bs : List.List Nat.ℕ) → Typed.Asks T28 T29
-  s27 = λ bs. Relend.k-sl-aggregate q4 (Relend.asMut q4) T28 17 18 2 y7 y8 (λ x. x) (Scalar.oBig Syntax.w64 5001)
+  abbrev s26 : (bs : List.List Nat.ℕ) → Typed.Both T27 T28
+  s26 = λ bs. Call.callB ps·2 r·2 (claims· .4) (claims· .5) T27 tt 17 List.[] y6
 
-  abbrev s29 : (bs : List.List Nat.ℕ) → Typed.Gives T29 T31
-  s29 = λ bs. Borrow.k-arr-borrow q4 T29 (Row.hd 0 (Row.tl (Row.tl (Row.tl (Row.tl bs))))) 4 19 5002 3 y10 λ x. x
+  abbrev s28 : (bs : List.List Nat.ℕ) → Typed.Gives T28 T30
+  s28 = λ bs. Borrow.k-arr-borrow q4 T28 (Row.hd 0 (Row.tl (Row.tl (Row.tl bs)))) 3 18 5001 2 y7 λ x. x
 
-  abbrev s30 : (bs : List.List Nat.ℕ) → Typed.Asks T31 T32
-  s30 = λ bs. Relend.k-sl-aggregate q4 (Relend.asMut q4) T31 19 20 3 y10 y8 (λ x. x) (Scalar.oBig Syntax.w64 5002)
+  abbrev s29 : (bs : List.List Nat.ℕ) → Typed.Asks T30 T31
+  s29 = λ bs. Relend.k-sl-aggregate q4 (Relend.asMut q4) T30 18 19 2 y7 y8 (λ x. x) (Scalar.oBig Syntax.w64 5001)
 
-  abbrev s32 : (bs : List.List Nat.ℕ) → Typed.Gives T32 T34
-  s32 = λ bs. Borrow.k-arr-borrow q1 T32 (Row.hd 0 (Row.tl (Row.tl (Row.tl (Row.tl (Row.tl bs)))))) 5 21 5000 4 y11 λ x. x
+  abbrev s31 : (bs : List.List Nat.ℕ) → Typed.Gives T31 T33
+  s31 = λ bs. Borrow.k-arr-borrow q4 T31 (Row.hd 0 (Row.tl (Row.tl (Row.tl (Row.tl bs))))) 4 20 5002 3 y10 λ x. x
 
-  abbrev s33 : (bs : List.List Nat.ℕ) → Typed.Asks T34 T35
-  s33 = λ bs. Relend.k-sl-aggregate q1 (Relend.asMut q1) T34 21 22 4 y11 y12 (λ x. x) (Scalar.oBig Syntax.w64 5000)
+  abbrev s32 : (bs : List.List Nat.ℕ) → Typed.Asks T33 T34
+  s32 = λ bs. Relend.k-sl-aggregate q4 (Relend.asMut q4) T33 20 21 3 y10 y8 (λ x. x) (Scalar.oBig Syntax.w64 5002)
 
-  abbrev s35 : (bs : List.List Nat.ℕ) → Typed.Gives T35 T37
-  s35 = λ bs. Borrow.k-arr-borrow q5 T35 (Row.hd 0 (Row.tl (Row.tl (Row.tl (Row.tl (Row.tl (Row.tl bs))))))) 6 23 16384 5 y14 λ x. x
+  abbrev s34 : (bs : List.List Nat.ℕ) → Typed.Gives T34 T36
+  s34 = λ bs. Borrow.k-arr-borrow q1 T34 (Row.hd 0 (Row.tl (Row.tl (Row.tl (Row.tl (Row.tl bs)))))) 5 22 5000 4 y11 λ x. x
 
-  abbrev s36 : (bs : List.List Nat.ℕ) → Typed.Asks T37 T38
-  s36 = λ bs. Relend.k-sl-aggregate q5 (Relend.asMut q5) T37 23 24 5 y14 y15 (λ x. x) (Scalar.oBig Syntax.w64 16384)
+  abbrev s35 : (bs : List.List Nat.ℕ) → Typed.Asks T36 T37
+  s35 = λ bs. Relend.k-sl-aggregate q1 (Relend.asMut q1) T36 22 23 4 y11 y12 (λ x. x) (Scalar.oBig Syntax.w64 5000)
 
-  abbrev s38 : (bs : List.List Nat.ℕ) → Typed.Gives T38 T40
-  s38 = λ bs. Borrow.k-arr-borrow q5 T38 (Row.hd 0 (Row.tl (Row.tl (Row.tl (Row.tl (Row.tl (Row.tl (Row.tl bs)))))))) 7 25 16384 6 y14 λ x. x
+  abbrev s37 : (bs : List.List Nat.ℕ) → Typed.Gives T37 T39
+  s37 = λ bs. Borrow.k-arr-borrow q5 T37 (Row.hd 0 (Row.tl (Row.tl (Row.tl (Row.tl (Row.tl (Row.tl bs))))))) 6 24 16384 5 y14 λ x. x
 
-  abbrev s39 : (bs : List.List Nat.ℕ) → Typed.Asks T40 T41
-  s39 = λ bs. Relend.k-sl-aggregate q5 (Relend.asMut q5) T40 25 26 6 y14 y15 (λ x. x) (Scalar.oBig Syntax.w64 16384)
+  abbrev s38 : (bs : List.List Nat.ℕ) → Typed.Asks T39 T40
+  s38 = λ bs. Relend.k-sl-aggregate q5 (Relend.asMut q5) T39 24 25 5 y14 y15 (λ x. x) (Scalar.oBig Syntax.w64 16384)
 
-  abbrev s41 : (bs : List.List Nat.ℕ) → Typed.Gives T41 T43
-  s41 = λ bs. Borrow.k-arr-borrow Rec·type.the-row T41 (Row.hd 0 (Row.tl (Row.tl (Row.tl (Row.tl (Row.tl (Row.tl (Row.tl (Row.tl bs))))))))) 8 27 5000 7 y17 λ x. x
+  abbrev s40 : (bs : List.List Nat.ℕ) → Typed.Gives T40 T42
+  s40 = λ bs. Borrow.k-arr-borrow q5 T40 (Row.hd 0 (Row.tl (Row.tl (Row.tl (Row.tl (Row.tl (Row.tl (Row.tl bs)))))))) 7 26 16384 6 y14 λ x. x
 
-  abbrev s42 : (bs : List.List Nat.ℕ) → Typed.Asks T43 T44
-  s42 = λ bs. Relend.k-sl-aggregate Rec·type.the-row (Relend.asMut Rec·type.the-row) T43 27 28 7 y17 y18 (λ x. x) (Scalar.oBig Syntax.w64 5000)
+  abbrev s41 : (bs : List.List Nat.ℕ) → Typed.Asks T42 T43
+  s41 = λ bs. Relend.k-sl-aggregate q5 (Relend.asMut q5) T42 26 27 6 y14 y15 (λ x. x) (Scalar.oBig Syntax.w64 16384)
 
-  abbrev s44 : (bs : List.List Nat.ℕ) → Typed.Gives T44 T46
-  s44 = λ bs. Borrow.k-arr-borrow q0 T44 (Row.hd 0 (Row.tl (Row.tl (Row.tl (Row.tl (Row.tl (Row.tl (Row.tl (Row.tl (Row.tl bs)))))))))) 9 29 32768 8 y20 λ x. x
+  abbrev s43 : (bs : List.List Nat.ℕ) → Typed.Gives T43 T45
+  s43 = λ bs. Borrow.k-arr-borrow Rec·type.the-row T43 (Row.hd 0 (Row.tl (Row.tl (Row.tl (Row.tl (Row.tl (Row.tl (Row.tl (Row.tl bs))))))))) 8 28 5000 7 y17 λ x. x
 
-  abbrev s45 : (bs : List.List Nat.ℕ) → Typed.Asks T46 T47
-  s45 = λ bs. Relend.k-sl-aggregate q0 (Relend.asMut q0) T46 29 30 8 y20 y21 (λ x. x) (Scalar.oBig Syntax.w64 32768)
+  abbrev s44 : (bs : List.List Nat.ℕ) → Typed.Asks T45 T46
+  s44 = λ bs. Relend.k-sl-aggregate Rec·type.the-row (Relend.asMut Rec·type.the-row) T45 28 29 7 y17 y18 (λ x. x) (Scalar.oBig Syntax.w64 5000)
 
-  abbrev s47 : (bs : List.List Nat.ℕ) → Typed.Gives T47 T49
-  s47 = λ bs. Borrow.k-arr-borrow q0 T47 (Row.hd 0 (Row.tl (Row.tl (Row.tl (Row.tl (Row.tl (Row.tl (Row.tl (Row.tl (Row.tl (Row.tl bs))))))))))) 10 31 32768 9 y20 λ x. x
+  abbrev s46 : (bs : List.List Nat.ℕ) → Typed.Gives T46 T48
+  s46 = λ bs. Borrow.k-arr-borrow q0 T46 (Row.hd 0 (Row.tl (Row.tl (Row.tl (Row.tl (Row.tl (Row.tl (Row.tl (Row.tl (Row.tl bs)))))))))) 9 30 32768 8 y20 λ x. x
 
-  abbrev s48 : (bs : List.List Nat.ℕ) → Typed.Asks T49 T50
-  s48 = λ bs. Relend.k-sl-aggregate q0 (Relend.asMut q0) T49 31 32 9 y20 y21 (λ x. x) (Scalar.oBig Syntax.w64 32768)
+  abbrev s47 : (bs : List.List Nat.ℕ) → Typed.Asks T48 T49
+  s47 = λ bs. Relend.k-sl-aggregate q0 (Relend.asMut q0) T48 30 31 8 y20 y21 (λ x. x) (Scalar.oBig Syntax.w64 32768)
 
-  abbrev s50 : (bs : List.List Nat.ℕ) → Typed.Gives T50 T52
-  s50 = λ bs. Borrow.k-arr-borrow (Array'.Array q1 2) T50 (Row.hd 0 (Row.tl (Row.tl (Row.tl (Row.tl (Row.tl (Row.tl (Row.tl (Row.tl (Row.tl (Row.tl (Row.tl bs)))))))))))) 11 33 4096 10 y23 λ x. x
+  abbrev s49 : (bs : List.List Nat.ℕ) → Typed.Gives T49 T51
+  s49 = λ bs. Borrow.k-arr-borrow q0 T49 (Row.hd 0 (Row.tl (Row.tl (Row.tl (Row.tl (Row.tl (Row.tl (Row.tl (Row.tl (Row.tl (Row.tl bs))))))))))) 10 32 32768 9 y20 λ x. x
 
-  abbrev s51 : (bs : List.List Nat.ℕ) → Typed.Asks T52 T53
-  s51 = λ bs. Relend.k-sl-aggregate (Array'.Array q1 2) (Relend.asMut (Array'.Array q1 2)) T52 33 34 10 y23 y24 (λ x. x) (Scalar.oBig Syntax.w64 4096)
+  abbrev s50 : (bs : List.List Nat.ℕ) → Typed.Asks T51 T52
+  s50 = λ bs. Relend.k-sl-aggregate q0 (Relend.asMut q0) T51 32 33 9 y20 y21 (λ x. x) (Scalar.oBig Syntax.w64 32768)
 
-  abbrev s53 : (bs : List.List Nat.ℕ) → Typed.Gives T53 T55
-  s53 = λ bs. Borrow.k-arr-borrow (Array'.Array q1 2) T53 (Row.hd 0 (Row.tl (Row.tl (Row.tl (Row.tl (Row.tl (Row.tl (Row.tl (Row.tl (Row.tl (Row.tl (Row.tl (Row.tl bs))))))))))))) 12 35 4096 11 y23 λ x. x
+  abbrev s52 : (bs : List.List Nat.ℕ) → Typed.Gives T52 T54
+  s52 = λ bs. Borrow.k-arr-borrow (Array'.Array q1 2) T52 (Row.hd 0 (Row.tl (Row.tl (Row.tl (Row.tl (Row.tl (Row.tl (Row.tl (Row.tl (Row.tl (Row.tl (Row.tl bs)))))))))))) 11 34 4096 10 y23 λ x. x
 
-  abbrev s54 : (bs : List.List Nat.ℕ) → Typed.Asks T55 T56
-  s54 = λ bs. Relend.k-sl-aggregate (Array'.Array q1 2) (Relend.asMut (Array'.Array q1 2)) T55 35 36 11 y23 y24 (λ x. x) (Scalar.oBig Syntax.w64 4096)
+  abbrev s53 : (bs : List.List Nat.ℕ) → Typed.Asks T54 T55
+  s53 = λ bs. Relend.k-sl-aggregate (Array'.Array q1 2) (Relend.asMut (Array'.Array q1 2)) T54 34 35 10 y23 y24 (λ x. x) (Scalar.oBig Syntax.w64 4096)
 
-  abbrev s56 : (bs : List.List Nat.ℕ) → Typed.Gives T56 T58
-  s56 = λ bs. Relend.k-sl-relend (Array'.Array q1 2) T56 2 37 1 12 y28 y24 Row.off λ x. x
+  abbrev s55 : (bs : List.List Nat.ℕ) → Typed.Gives T55 T57
+  s55 = λ bs. Borrow.k-arr-borrow (Array'.Array q1 2) T55 (Row.hd 0 (Row.tl (Row.tl (Row.tl (Row.tl (Row.tl (Row.tl (Row.tl (Row.tl (Row.tl (Row.tl (Row.tl (Row.tl bs))))))))))))) 12 36 4096 11 y23 λ x. x
 
-  abbrev s57 : (bs : List.List Nat.ℕ) → Typed.Asks T58 T59
-  s57 = λ bs. Relend.k-sl-aggregate (Array'.Array q1 2) (Relend.asMut (Array'.Array q1 2)) T58 37 38 12 y24 y24 (λ x. x) (Scalar.oFld 2 ((Syntax.field 1) ∷ []) y4 8 λ v. Shared.lenV (v .0))
+  abbrev s56 : (bs : List.List Nat.ℕ) → Typed.Asks T57 T58
+  s56 = λ bs. Relend.k-sl-aggregate (Array'.Array q1 2) (Relend.asMut (Array'.Array q1 2)) T57 36 37 11 y23 y24 (λ x. x) (Scalar.oBig Syntax.w64 4096)
 
-  abbrev s58 : (bs : List.List Nat.ℕ) → Typed.Both T59 T60
-  s58 = λ bs. Call.callB ps·3 r·3 (claims· .6) (claims· .7) T59 (record { pos = 1; ty = y27; ref = λ x. x }, (record { pos = 16; st = List.[]; d = 0; at = λ x. x }, (record { pos = 18; ty = y8; ref = λ x. x }, (record { pos = 20; ty = y8; ref = λ x. x }, (record { pos = 22; ty = y12; ref = λ x. x }, (record { pos = 24; ty = y15; ref = λ x. x }, (record { pos = 26; ty = y15; ref = λ x. x }, (record { pos = 28; ty = y18; ref = λ x. x }, (record { pos = 30; ty = y21; ref = λ x. x }, (record { pos = 32; ty = y21; ref = λ x. x }, (record { pos = 34; ty = y24; ref = λ x. x }, (record { pos = 36; ty = y24; ref = λ x. x }, (record { pos = 38; ty = y24; ref = λ x. x }, tt))))))))))))) 13 (0 ∷ 2 ∷ 3 ∷ 4 ∷ 5 ∷ 6 ∷ 7 ∷ 8 ∷ 9 ∷ 10 ∷ 11 ∷ 12 ∷ []) y5
+  abbrev s58 : (bs : List.List Nat.ℕ) → Typed.Gives T58 T60
+  s58 = λ bs. Relend.k-sl-relend (Array'.Array q1 2) T58 2 38 1 12 y29 y24 Row.off λ x. x
 
-  abbrev s59 : (bs : List.List Nat.ℕ) → Typed.Mo T60 → Typed.Mo T61
-  s59 = λ bs. Scalar.n-room T60 16 y6
+  abbrev s59 : (bs : List.List Nat.ℕ) → Typed.Asks T60 T61
+  s59 = λ bs. Relend.k-sl-aggregate (Array'.Array q1 2) (Relend.asMut (Array'.Array q1 2)) T60 38 39 12 y24 y24 (λ x. x) (Scalar.oFld 2 ((Syntax.field 1) ∷ []) y4 8 λ v. Shared.lenV (v .0))
 
-  abbrev s61 : (bs : List.List Nat.ℕ) → Typed.Both T61 T63
-  s61 = λ bs. Borrow.k-back-arr q4 T61 18 3 2 5001 y8 (λ x. x) λ x. x
+  abbrev s61 : (bs : List.List Nat.ℕ) → Typed.Gives T61 T63
+  s61 = λ bs. Borrow.k-arr-borrow q0 T61 (Row.hd 0 (Row.tl (Row.tl (Row.tl (Row.tl (Row.tl (Row.tl (Row.tl (Row.tl (Row.tl (Row.tl (Row.tl (Row.tl (Row.tl bs)))))))))))))) 13 40 4096 13 y26 λ x. x
 
-  abbrev s63 : (bs : List.List Nat.ℕ) → Typed.Mo T63 → Typed.Mo T65
-  s63 = λ bs. Scalar.n-room T63 3 (Syntax.tyArray y0 5001)
+  abbrev s62 : (bs : List.List Nat.ℕ) → Typed.Asks T63 T64
+  s62 = λ bs. Relend.k-sl-aggregate q0 (Relend.asMut q0) T63 40 41 13 y26 y21 (λ x. x) (Scalar.oBig Syntax.w64 4096)
 
-  abbrev s65 : (bs : List.List Nat.ℕ) → Typed.Both T65 T67
-  s65 = λ bs. Borrow.k-back-arr q4 T65 20 4 3 5002 y8 (λ x. x) λ x. x
+  abbrev s63 : (bs : List.List Nat.ℕ) → Typed.Both T64 T65
+  s63 = λ bs. Call.callB ps·3 r·3 (claims· .6) (claims· .7) T64 (record { pos = 1; ty = y28; ref = λ x. x }, (record { pos = 17; st = List.[]; d = 0; at = λ x. x }, (record { pos = 19; ty = y8; ref = λ x. x }, (record { pos = 21; ty = y8; ref = λ x. x }, (record { pos = 23; ty = y12; ref = λ x. x }, (record { pos = 25; ty = y15; ref = λ x. x }, (record { pos = 27; ty = y15; ref = λ x. x }, (record { pos = 29; ty = y18; ref = λ x. x }, (record { pos = 31; ty = y21; ref = λ x. x }, (record { pos = 33; ty = y21; ref = λ x. x }, (record { pos = 35; ty = y24; ref = λ x. x }, (record { pos = 37; ty = y24; ref = λ x. x }, (record { pos = 39; ty = y24; ref = λ x. x }, (record { pos = 41; ty = y21; ref = λ x. x }, tt)))))))))))))) 14 (0 ∷ 2 ∷ 3 ∷ 4 ∷ 5 ∷ 6 ∷ 7 ∷ 8 ∷ 9 ∷ 10 ∷ 11 ∷ 12 ∷ 13 ∷ []) y5
 
-  abbrev s67 : (bs : List.List Nat.ℕ) → Typed.Mo T67 → Typed.Mo T69
-  s67 = λ bs. Scalar.n-room T67 4 (Syntax.tyArray y0 5002)
+  abbrev s64 : (bs : List.List Nat.ℕ) → Typed.Mo T65 → Typed.Mo T66
+  s64 = λ bs. Scalar.n-room T65 17 y6
 
-  abbrev s69 : (bs : List.List Nat.ℕ) → Typed.Both T69 T71
-  s69 = λ bs. Borrow.k-back-arr q1 T69 22 5 4 5000 y12 (λ x. x) λ x. x
+  abbrev s66 : (bs : List.List Nat.ℕ) → Typed.Both T66 T68
+  s66 = λ bs. Borrow.k-back-arr q4 T66 19 3 2 5001 y8 (λ x. x) λ x. x
 
-  abbrev s71 : (bs : List.List Nat.ℕ) → Typed.Mo T71 → Typed.Mo T73
-  s71 = λ bs. Scalar.n-room T71 5 (Syntax.tyArray y1 5000)
+  abbrev s68 : (bs : List.List Nat.ℕ) → Typed.Mo T68 → Typed.Mo T70
+  s68 = λ bs. Scalar.n-room T68 3 (Syntax.tyArray y0 5001)
 
-  abbrev s73 : (bs : List.List Nat.ℕ) → Typed.Both T73 T75
-  s73 = λ bs. Borrow.k-back-arr q5 T73 24 6 5 16384 y15 (λ x. x) λ x. x
+  abbrev s70 : (bs : List.List Nat.ℕ) → Typed.Both T70 T72
+  s70 = λ bs. Borrow.k-back-arr q4 T70 21 4 3 5002 y8 (λ x. x) λ x. x
 
-  abbrev s75 : (bs : List.List Nat.ℕ) → Typed.Mo T75 → Typed.Mo T77
-  s75 = λ bs. Scalar.n-room T75 6 (Syntax.tyArray y2 16384)
+  abbrev s72 : (bs : List.List Nat.ℕ) → Typed.Mo T72 → Typed.Mo T74
+  s72 = λ bs. Scalar.n-room T72 4 (Syntax.tyArray y0 5002)
 
-  abbrev s77 : (bs : List.List Nat.ℕ) → Typed.Both T77 T79
-  s77 = λ bs. Borrow.k-back-arr q5 T77 26 7 6 16384 y15 (λ x. x) λ x. x
+  abbrev s74 : (bs : List.List Nat.ℕ) → Typed.Both T74 T76
+  s74 = λ bs. Borrow.k-back-arr q1 T74 23 5 4 5000 y12 (λ x. x) λ x. x
 
-  abbrev s79 : (bs : List.List Nat.ℕ) → Typed.Mo T79 → Typed.Mo T81
-  s79 = λ bs. Scalar.n-room T79 7 (Syntax.tyArray y2 16384)
+  abbrev s76 : (bs : List.List Nat.ℕ) → Typed.Mo T76 → Typed.Mo T78
+  s76 = λ bs. Scalar.n-room T76 5 (Syntax.tyArray y1 5000)
 
-  abbrev s81 : (bs : List.List Nat.ℕ) → Typed.Both T81 T83
-  s81 = λ bs. Borrow.k-back-arr Rec·type.the-row T81 28 8 7 5000 y18 (λ x. x) λ x. x
+  abbrev s78 : (bs : List.List Nat.ℕ) → Typed.Both T78 T80
+  s78 = λ bs. Borrow.k-back-arr q5 T78 25 6 5 16384 y15 (λ x. x) λ x. x
 
-  abbrev s83 : (bs : List.List Nat.ℕ) → Typed.Mo T83 → Typed.Mo T85
-  s83 = λ bs. Scalar.n-room T83 8 (Syntax.tyArray Rec·laws.mir 5000)
+  abbrev s80 : (bs : List.List Nat.ℕ) → Typed.Mo T80 → Typed.Mo T82
+  s80 = λ bs. Scalar.n-room T80 6 (Syntax.tyArray y2 16384)
 
-  abbrev s85 : (bs : List.List Nat.ℕ) → Typed.Both T85 T87
-  s85 = λ bs. Borrow.k-back-arr q0 T85 30 9 8 32768 y21 (λ x. x) λ x. x
+  abbrev s82 : (bs : List.List Nat.ℕ) → Typed.Both T82 T84
+  s82 = λ bs. Borrow.k-back-arr q5 T82 27 7 6 16384 y15 (λ x. x) λ x. x
 
-  abbrev s87 : (bs : List.List Nat.ℕ) → Typed.Mo T87 → Typed.Mo T89
-  s87 = λ bs. Scalar.n-room T87 9 (Syntax.tyArray y3 32768)
+  abbrev s84 : (bs : List.List Nat.ℕ) → Typed.Mo T84 → Typed.Mo T86
+  s84 = λ bs. Scalar.n-room T84 7 (Syntax.tyArray y2 16384)
 
-  abbrev s89 : (bs : List.List Nat.ℕ) → Typed.Both T89 T91
-  s89 = λ bs. Borrow.k-back-arr q0 T89 32 10 9 32768 y21 (λ x. x) λ x. x
+  abbrev s86 : (bs : List.List Nat.ℕ) → Typed.Both T86 T88
+  s86 = λ bs. Borrow.k-back-arr Rec·type.the-row T86 29 8 7 5000 y18 (λ x. x) λ x. x
 
-  abbrev s91 : (bs : List.List Nat.ℕ) → Typed.Mo T91 → Typed.Mo T93
-  s91 = λ bs. Scalar.n-room T91 10 (Syntax.tyArray y3 32768)
+  abbrev s88 : (bs : List.List Nat.ℕ) → Typed.Mo T88 → Typed.Mo T90
+  s88 = λ bs. Scalar.n-room T88 8 (Syntax.tyArray Rec·laws.mir 5000)
 
-  abbrev s93 : (bs : List.List Nat.ℕ) → Typed.Both T93 T95
-  s93 = λ bs. Borrow.k-back-arr (Array'.Array q1 2) T93 34 11 10 4096 y24 (λ x. x) λ x. x
+  abbrev s90 : (bs : List.List Nat.ℕ) → Typed.Both T90 T92
+  s90 = λ bs. Borrow.k-back-arr q0 T90 31 9 8 32768 y21 (λ x. x) λ x. x
 
-  abbrev s95 : (bs : List.List Nat.ℕ) → Typed.Mo T95 → Typed.Mo T97
-  s95 = λ bs. Scalar.n-room T95 11 (Syntax.tyArray (Syntax.tyArray y1 2) 4096)
+  abbrev s92 : (bs : List.List Nat.ℕ) → Typed.Mo T92 → Typed.Mo T94
+  s92 = λ bs. Scalar.n-room T92 9 (Syntax.tyArray y3 32768)
 
-  abbrev s97 : (bs : List.List Nat.ℕ) → Typed.Both T97 T99
-  s97 = λ bs. Borrow.k-back-arr (Array'.Array q1 2) T97 36 12 11 4096 y24 (λ x. x) λ x. x
+  abbrev s94 : (bs : List.List Nat.ℕ) → Typed.Both T94 T96
+  s94 = λ bs. Borrow.k-back-arr q0 T94 33 10 9 32768 y21 (λ x. x) λ x. x
 
-  abbrev s99 : (bs : List.List Nat.ℕ) → Typed.Mo T99 → Typed.Mo T101
-  s99 = λ bs. Scalar.n-room T99 12 (Syntax.tyArray (Syntax.tyArray y1 2) 4096)
+  abbrev s96 : (bs : List.List Nat.ℕ) → Typed.Mo T96 → Typed.Mo T98
+  s96 = λ bs. Scalar.n-room T96 10 (Syntax.tyArray y3 32768)
 
-  abbrev s101 : (bs : List.List Nat.ℕ) → Typed.Both T101 T103
-  s101 = λ bs. Relend.k-back-sl (Array'.Array q1 2) T101 38 2 1 12 y28 y24 Row.off (λ x. x) λ x. x
+  abbrev s98 : (bs : List.List Nat.ℕ) → Typed.Both T98 T100
+  s98 = λ bs. Borrow.k-back-arr (Array'.Array q1 2) T98 35 11 10 4096 y24 (λ x. x) λ x. x
 
-  abbrev s103 : (bs : List.List Nat.ℕ) → Typed.Mo T103 → Typed.Mo T105
-  s103 = λ bs. Make.n-struct-make (Apart.apartT Outcome.the-type) T103 0 λ m. (Answer.struct .as-values (m .1 .1 .1 .1 .1 .1 .1 .1 .1 .1 .1 .1 .1 .0) .0, (Answer.struct .as-values (m .1 .1 .1 .1 .1 .1 .1 .1 .1 .1 .1 .1 .1 .0) .1 .0, tt))
+  abbrev s100 : (bs : List.List Nat.ℕ) → Typed.Mo T100 → Typed.Mo T102
+  s100 = λ bs. Scalar.n-room T100 11 (Syntax.tyArray (Syntax.tyArray y1 2) 4096)
 
-  abbrev s104 : (bs : List.List Nat.ℕ) → Typed.Mo T105 → Typed.Mo T106
-  s104 = λ bs. Scalar.n-room T105 13 y5
+  abbrev s102 : (bs : List.List Nat.ℕ) → Typed.Both T102 T104
+  s102 = λ bs. Borrow.k-back-arr (Array'.Array q1 2) T102 37 12 11 4096 y24 (λ x. x) λ x. x
 
-  abbrev s105 : (bs : List.List Nat.ℕ) → Typed.Mo T106 → Typed.Mo T107
-  s105 = λ bs. AtSlots.n-as-by T106 0 (Rows'.whole q2) λ v. Outcome.struct .make v tt
+  abbrev s104 : (bs : List.List Nat.ℕ) → Typed.Mo T104 → Typed.Mo T106
+  s104 = λ bs. Scalar.n-room T104 12 (Syntax.tyArray (Syntax.tyArray y1 2) 4096)
+
+  abbrev s106 : (bs : List.List Nat.ℕ) → Typed.Both T106 T108
+  s106 = λ bs. Relend.k-back-sl (Array'.Array q1 2) T106 39 2 1 12 y29 y24 Row.off (λ x. x) λ x. x
+
+  abbrev s109 : (bs : List.List Nat.ℕ) → Typed.Both T108 T111
+  s109 = λ bs. Borrow.k-back-arr q0 T108 41 13 13 4096 y21 (λ x. x) λ x. x
+
+  abbrev s111 : (bs : List.List Nat.ℕ) → Typed.Mo T111 → Typed.Mo T113
+  s111 = λ bs. Scalar.n-room T111 13 (Syntax.tyArray y3 4096)
+
+  abbrev s112 : (bs : List.List Nat.ℕ) → Typed.Mo T113 → Typed.Mo T114
+  s112 = λ bs. Make.n-struct-make (Apart.apartT Outcome.the-type) T113 0 λ m. (Answer.struct .as-values (m .1 .1 .1 .1 .1 .1 .1 .1 .1 .1 .1 .1 .1 .1 .0) .0, (Answer.struct .as-values (m .1 .1 .1 .1 .1 .1 .1 .1 .1 .1 .1 .1 .1 .1 .0) .1 .0, tt))
+
+  abbrev s113 : (bs : List.List Nat.ℕ) → Typed.Mo T114 → Typed.Mo T115
+  s113 = λ bs. Scalar.n-room T114 14 y5
+
+  abbrev s114 : (bs : List.List Nat.ℕ) → Typed.Mo T115 → Typed.Mo T116
+  s114 = λ bs. AtSlots.n-as-by T115 0 (Rows'.whole q2) λ v. Outcome.struct .make v tt
 
   module _ (Pre· : (κs : Lifetimes.Lfts 2) → Kinds.Dens κs ps → Type 0)
       (Post· : (κs : Lifetimes.Lfts 2) → (a : Kinds.Dens κs ps) → Kinds.Plain 2 ps r κs) where
     module _ (M : Type 1) where
       abbrev pub Closed : Type 2
-      Closed = (𝓤 : URA.URA M) (H : Wp.Heap 𝓤) (A : Atoms.Atoms 𝓤) (W : Kit.Given 𝓤 H A) (𝓣 : Wp.Tables 𝓤 H) (known0 : Plain.Known 𝓤 H A W 𝓣 0 ps·0 r·0 (claims· .0) (claims· .1) "contig::no_candidates") (known1 : Plain.Known 𝓤 H A W 𝓣 0 ps·1 r·1 (claims· .2) (claims· .3) "contig::no_intervals") (known2 : Plain.Known 𝓤 H A W 𝓣 0 ps·2 r·2 (claims· .4) (claims· .5) "longdust::LongdustOptions::default") (known3 : Plain.Known 𝓤 H A W 𝓣 12 ps·3 r·3 (claims· .6) (claims· .7) "longdust::calls::process::process") → Statement.Triple 𝓤 (Wp.WpFn 𝓤 H (𝓣 .C) (𝓣 .Λ) (Function.fnOf 2 ps r xs m hs body)) (Function.plainOf 𝓤 H A 2 ps r Pre· Post·)
+      Closed = (𝓤 : URA.URA M) (H : Wp.Heap 𝓤) (A : Atoms.Atoms 𝓤) (W : Kit.Given 𝓤 H A) (𝓣 : Wp.Tables 𝓤 H) (known0 : Plain.Known 𝓤 H A W 𝓣 0 ps·0 r·0 (claims· .0) (claims· .1) "contig::no_candidates") (known1 : Plain.Known 𝓤 H A W 𝓣 0 ps·1 r·1 (claims· .2) (claims· .3) "contig::no_intervals") (known2 : Plain.Known 𝓤 H A W 𝓣 0 ps·2 r·2 (claims· .4) (claims· .5) "longdust::LongdustOptions::default") (known3 : Plain.Known 𝓤 H A W 𝓣 13 ps·3 r·3 (claims· .6) (claims· .7) "longdust::calls::process::process") → Statement.Triple 𝓤 (Wp.WpFn 𝓤 H (𝓣 .C) (𝓣 .Λ) (Function.fnOf 2 ps r xs m hs body)) (Function.plainOf 𝓤 H A 2 ps r Pre· Post·)
 
     module _ where
-      abbrev at0 : (bs : List.List Nat.ℕ) → Typed.TF T107 O0
+      abbrev at0 : (bs : List.List Nat.ℕ) → Typed.TF T116 O0
       at0 = λ bs. Typed.atRet O0
 
-      abbrev at1 : (bs : List.List Nat.ℕ) → Typed.TF T106 O0
-      at1 = λ bs. λ Ψ. Typed.pass T106 T107 (s105 bs) (at0 bs Ψ)
+      abbrev at1 : (bs : List.List Nat.ℕ) → Typed.TF T115 O0
+      at1 = λ bs. λ Ψ. Typed.pass T115 T116 (s114 bs) (at0 bs Ψ)
 
-      abbrev at2 : (bs : List.List Nat.ℕ) → Typed.TF T105 O0
-      at2 = λ bs. λ Ψ. Typed.pass T105 T106 (s104 bs) (at1 bs Ψ)
+      abbrev at2 : (bs : List.List Nat.ℕ) → Typed.TF T114 O0
+      at2 = λ bs. λ Ψ. Typed.pass T114 T115 (s113 bs) (at1 bs Ψ)
 
-      abbrev at3 : (bs : List.List Nat.ℕ) → Typed.TF T103 O0
-      at3 = λ bs. λ Ψ. Typed.pass T103 T105 (s103 bs) (at2 bs Ψ)
+      abbrev at3 : (bs : List.List Nat.ℕ) → Typed.TF T113 O0
+      at3 = λ bs. λ Ψ. Typed.pass T113 T114 (s112 bs) (at2 bs Ψ)
 
-      abbrev at4 : (bs : List.List Nat.ℕ) → Typed.TF T103 O0
-      at4 = λ bs. λ Ψ. at3 bs Ψ
+      abbrev at4 : (bs : List.List Nat.ℕ) → Typed.TF T111 O0
+      at4 = λ bs. λ Ψ. Typed.pass T111 T113 (s111 bs) (at3 bs Ψ)
 
-      abbrev at5 : (bs : List.List Nat.ℕ) → Typed.TF T101 O0
-      at5 = λ bs. λ Ψ. Typed.both (s101 bs) (at4 bs Ψ)
+      abbrev at5 : (bs : List.List Nat.ℕ) → Typed.TF T111 O0
+      at5 = λ bs. λ Ψ. at4 bs Ψ
 
-      abbrev at6 : (bs : List.List Nat.ℕ) → Typed.TF T101 O0
-      at6 = λ bs. λ Ψ. at5 bs Ψ
+      abbrev at6 : (bs : List.List Nat.ℕ) → Typed.TF T108 O0
+      at6 = λ bs. λ Ψ. Typed.both (s109 bs) (at5 bs Ψ)
 
-      abbrev at7 : (bs : List.List Nat.ℕ) → Typed.TF T99 O0
-      at7 = λ bs. λ Ψ. Typed.pass T99 T101 (s99 bs) (at6 bs Ψ)
+      abbrev at7 : (bs : List.List Nat.ℕ) → Typed.TF T108 O0
+      at7 = λ bs. λ Ψ. at6 bs Ψ
 
-      abbrev at8 : (bs : List.List Nat.ℕ) → Typed.TF T99 O0
+      abbrev at8 : (bs : List.List Nat.ℕ) → Typed.TF T108 O0
       at8 = λ bs. λ Ψ. at7 bs Ψ
 
-      abbrev at9 : (bs : List.List Nat.ℕ) → Typed.TF T97 O0
-      at9 = λ bs. λ Ψ. Typed.both (s97 bs) (at8 bs Ψ)
+      abbrev at9 : (bs : List.List Nat.ℕ) → Typed.TF T106 O0
+      at9 = λ bs. λ Ψ. Typed.both (s106 bs) (at8 bs Ψ)
 
-      abbrev at10 : (bs : List.List Nat.ℕ) → Typed.TF T97 O0
+      abbrev at10 : (bs : List.List Nat.ℕ) → Typed.TF T106 O0
       at10 = λ bs. λ Ψ. at9 bs Ψ
 
-      abbrev at11 : (bs : List.List Nat.ℕ) → Typed.TF T95 O0
-      at11 = λ bs. λ Ψ. Typed.pass T95 T97 (s95 bs) (at10 bs Ψ)
+      abbrev at11 : (bs : List.List Nat.ℕ) → Typed.TF T104 O0
+      at11 = λ bs. λ Ψ. Typed.pass T104 T106 (s104 bs) (at10 bs Ψ)
 
-      abbrev at12 : (bs : List.List Nat.ℕ) → Typed.TF T95 O0
+      abbrev at12 : (bs : List.List Nat.ℕ) → Typed.TF T104 O0
       at12 = λ bs. λ Ψ. at11 bs Ψ
 
-      abbrev at13 : (bs : List.List Nat.ℕ) → Typed.TF T93 O0
-      at13 = λ bs. λ Ψ. Typed.both (s93 bs) (at12 bs Ψ)
+      abbrev at13 : (bs : List.List Nat.ℕ) → Typed.TF T102 O0
+      at13 = λ bs. λ Ψ. Typed.both (s102 bs) (at12 bs Ψ)
 
-      abbrev at14 : (bs : List.List Nat.ℕ) → Typed.TF T93 O0
+      abbrev at14 : (bs : List.List Nat.ℕ) → Typed.TF T102 O0
       at14 = λ bs. λ Ψ. at13 bs Ψ
 
-      abbrev at15 : (bs : List.List Nat.ℕ) → Typed.TF T91 O0
-      at15 = λ bs. λ Ψ. Typed.pass T91 T93 (s91 bs) (at14 bs Ψ)
+      abbrev at15 : (bs : List.List Nat.ℕ) → Typed.TF T100 O0
+      at15 = λ bs. λ Ψ. Typed.pass T100 T102 (s100 bs) (at14 bs Ψ)
 
-      abbrev at16 : (bs : List.List Nat.ℕ) → Typed.TF T91 O0
+      abbrev at16 : (bs : List.List Nat.ℕ) → Typed.TF T100 O0
       at16 = λ bs. λ Ψ. at15 bs Ψ
 
-      abbrev at17 : (bs : List.List Nat.ℕ) → Typed.TF T89 O0
-      at17 = λ bs. λ Ψ. Typed.both (s89 bs) (at16 bs Ψ)
+      abbrev at17 : (bs : List.List Nat.ℕ) → Typed.TF T98 O0
+      at17 = λ bs. λ Ψ. Typed.both (s98 bs) (at16 bs Ψ)
 
-      abbrev at18 : (bs : List.List Nat.ℕ) → Typed.TF T89 O0
+      abbrev at18 : (bs : List.List Nat.ℕ) → Typed.TF T98 O0
       at18 = λ bs. λ Ψ. at17 bs Ψ
 
-      abbrev at19 : (bs : List.List Nat.ℕ) → Typed.TF T87 O0
-      at19 = λ bs. λ Ψ. Typed.pass T87 T89 (s87 bs) (at18 bs Ψ)
+      abbrev at19 : (bs : List.List Nat.ℕ) → Typed.TF T96 O0
+      at19 = λ bs. λ Ψ. Typed.pass T96 T98 (s96 bs) (at18 bs Ψ)
 
-      abbrev at20 : (bs : List.List Nat.ℕ) → Typed.TF T87 O0
+      abbrev at20 : (bs : List.List Nat.ℕ) → Typed.TF T96 O0
       at20 = λ bs. λ Ψ. at19 bs Ψ
 
-      abbrev at21 : (bs : List.List Nat.ℕ) → Typed.TF T85 O0
-      at21 = λ bs. λ Ψ. Typed.both (s85 bs) (at20 bs Ψ)
+      abbrev at21 : (bs : List.List Nat.ℕ) → Typed.TF T94 O0
+      at21 = λ bs. λ Ψ. Typed.both (s94 bs) (at20 bs Ψ)
 
-      abbrev at22 : (bs : List.List Nat.ℕ) → Typed.TF T85 O0
+      abbrev at22 : (bs : List.List Nat.ℕ) → Typed.TF T94 O0
       at22 = λ bs. λ Ψ. at21 bs Ψ
 
-      abbrev at23 : (bs : List.List Nat.ℕ) → Typed.TF T83 O0
-      at23 = λ bs. λ Ψ. Typed.pass T83 T85 (s83 bs) (at22 bs Ψ)
+      abbrev at23 : (bs : List.List Nat.ℕ) → Typed.TF T92 O0
+      at23 = λ bs. λ Ψ. Typed.pass T92 T94 (s92 bs) (at22 bs Ψ)
 
-      abbrev at24 : (bs : List.List Nat.ℕ) → Typed.TF T83 O0
+      abbrev at24 : (bs : List.List Nat.ℕ) → Typed.TF T92 O0
       at24 = λ bs. λ Ψ. at23 bs Ψ
 
-      abbrev at25 : (bs : List.List Nat.ℕ) → Typed.TF T81 O0
-      at25 = λ bs. λ Ψ. Typed.both (s81 bs) (at24 bs Ψ)
+      abbrev at25 : (bs : List.List Nat.ℕ) → Typed.TF T90 O0
+      at25 = λ bs. λ Ψ. Typed.both (s90 bs) (at24 bs Ψ)
 
-      abbrev at26 : (bs : List.List Nat.ℕ) → Typed.TF T81 O0
+      abbrev at26 : (bs : List.List Nat.ℕ) → Typed.TF T90 O0
       at26 = λ bs. λ Ψ. at25 bs Ψ
 
-      abbrev at27 : (bs : List.List Nat.ℕ) → Typed.TF T79 O0
-      at27 = λ bs. λ Ψ. Typed.pass T79 T81 (s79 bs) (at26 bs Ψ)
+      abbrev at27 : (bs : List.List Nat.ℕ) → Typed.TF T88 O0
+      at27 = λ bs. λ Ψ. Typed.pass T88 T90 (s88 bs) (at26 bs Ψ)
 
-      abbrev at28 : (bs : List.List Nat.ℕ) → Typed.TF T79 O0
+      abbrev at28 : (bs : List.List Nat.ℕ) → Typed.TF T88 O0
       at28 = λ bs. λ Ψ. at27 bs Ψ
 
-      abbrev at29 : (bs : List.List Nat.ℕ) → Typed.TF T77 O0
-      at29 = λ bs. λ Ψ. Typed.both (s77 bs) (at28 bs Ψ)
+      abbrev at29 : (bs : List.List Nat.ℕ) → Typed.TF T86 O0
+      at29 = λ bs. λ Ψ. Typed.both (s86 bs) (at28 bs Ψ)
 
-      abbrev at30 : (bs : List.List Nat.ℕ) → Typed.TF T77 O0
+      abbrev at30 : (bs : List.List Nat.ℕ) → Typed.TF T86 O0
       at30 = λ bs. λ Ψ. at29 bs Ψ
 
-      abbrev at31 : (bs : List.List Nat.ℕ) → Typed.TF T75 O0
-      at31 = λ bs. λ Ψ. Typed.pass T75 T77 (s75 bs) (at30 bs Ψ)
+      abbrev at31 : (bs : List.List Nat.ℕ) → Typed.TF T84 O0
+      at31 = λ bs. λ Ψ. Typed.pass T84 T86 (s84 bs) (at30 bs Ψ)
 
-      abbrev at32 : (bs : List.List Nat.ℕ) → Typed.TF T75 O0
+      abbrev at32 : (bs : List.List Nat.ℕ) → Typed.TF T84 O0
       at32 = λ bs. λ Ψ. at31 bs Ψ
 
-      abbrev at33 : (bs : List.List Nat.ℕ) → Typed.TF T73 O0
-      at33 = λ bs. λ Ψ. Typed.both (s73 bs) (at32 bs Ψ)
+      abbrev at33 : (bs : List.List Nat.ℕ) → Typed.TF T82 O0
+      at33 = λ bs. λ Ψ. Typed.both (s82 bs) (at32 bs Ψ)
 
-      abbrev at34 : (bs : List.List Nat.ℕ) → Typed.TF T73 O0
+      abbrev at34 : (bs : List.List Nat.ℕ) → Typed.TF T82 O0
       at34 = λ bs. λ Ψ. at33 bs Ψ
 
-      abbrev at35 : (bs : List.List Nat.ℕ) → Typed.TF T71 O0
-      at35 = λ bs. λ Ψ. Typed.pass T71 T73 (s71 bs) (at34 bs Ψ)
+      abbrev at35 : (bs : List.List Nat.ℕ) → Typed.TF T80 O0
+      at35 = λ bs. λ Ψ. Typed.pass T80 T82 (s80 bs) (at34 bs Ψ)
 
-      abbrev at36 : (bs : List.List Nat.ℕ) → Typed.TF T71 O0
+      abbrev at36 : (bs : List.List Nat.ℕ) → Typed.TF T80 O0
       at36 = λ bs. λ Ψ. at35 bs Ψ
 
-      abbrev at37 : (bs : List.List Nat.ℕ) → Typed.TF T69 O0
-      at37 = λ bs. λ Ψ. Typed.both (s69 bs) (at36 bs Ψ)
+      abbrev at37 : (bs : List.List Nat.ℕ) → Typed.TF T78 O0
+      at37 = λ bs. λ Ψ. Typed.both (s78 bs) (at36 bs Ψ)
 
-      abbrev at38 : (bs : List.List Nat.ℕ) → Typed.TF T69 O0
+      abbrev at38 : (bs : List.List Nat.ℕ) → Typed.TF T78 O0
       at38 = λ bs. λ Ψ. at37 bs Ψ
 
-      abbrev at39 : (bs : List.List Nat.ℕ) → Typed.TF T67 O0
-      at39 = λ bs. λ Ψ. Typed.pass T67 T69 (s67 bs) (at38 bs Ψ)
+      abbrev at39 : (bs : List.List Nat.ℕ) → Typed.TF T76 O0
+      at39 = λ bs. λ Ψ. Typed.pass T76 T78 (s76 bs) (at38 bs Ψ)
 
-      abbrev at40 : (bs : List.List Nat.ℕ) → Typed.TF T67 O0
+      abbrev at40 : (bs : List.List Nat.ℕ) → Typed.TF T76 O0
       at40 = λ bs. λ Ψ. at39 bs Ψ
 
-      abbrev at41 : (bs : List.List Nat.ℕ) → Typed.TF T65 O0
-      at41 = λ bs. λ Ψ. Typed.both (s65 bs) (at40 bs Ψ)
+      abbrev at41 : (bs : List.List Nat.ℕ) → Typed.TF T74 O0
+      at41 = λ bs. λ Ψ. Typed.both (s74 bs) (at40 bs Ψ)
 
-      abbrev at42 : (bs : List.List Nat.ℕ) → Typed.TF T65 O0
+      abbrev at42 : (bs : List.List Nat.ℕ) → Typed.TF T74 O0
       at42 = λ bs. λ Ψ. at41 bs Ψ
 
-      abbrev at43 : (bs : List.List Nat.ℕ) → Typed.TF T63 O0
-      at43 = λ bs. λ Ψ. Typed.pass T63 T65 (s63 bs) (at42 bs Ψ)
+      abbrev at43 : (bs : List.List Nat.ℕ) → Typed.TF T72 O0
+      at43 = λ bs. λ Ψ. Typed.pass T72 T74 (s72 bs) (at42 bs Ψ)
 
-      abbrev at44 : (bs : List.List Nat.ℕ) → Typed.TF T63 O0
+      abbrev at44 : (bs : List.List Nat.ℕ) → Typed.TF T72 O0
       at44 = λ bs. λ Ψ. at43 bs Ψ
 
-      abbrev at45 : (bs : List.List Nat.ℕ) → Typed.TF T61 O0
-      at45 = λ bs. λ Ψ. Typed.both (s61 bs) (at44 bs Ψ)
+      abbrev at45 : (bs : List.List Nat.ℕ) → Typed.TF T70 O0
+      at45 = λ bs. λ Ψ. Typed.both (s70 bs) (at44 bs Ψ)
 
-      abbrev at46 : (bs : List.List Nat.ℕ) → Typed.TF T61 O0
+      abbrev at46 : (bs : List.List Nat.ℕ) → Typed.TF T70 O0
       at46 = λ bs. λ Ψ. at45 bs Ψ
 
-      abbrev at47 : (bs : List.List Nat.ℕ) → Typed.TF T60 O0
-      at47 = λ bs. λ Ψ. Typed.pass T60 T61 (s59 bs) (at46 bs Ψ)
+      abbrev at47 : (bs : List.List Nat.ℕ) → Typed.TF T68 O0
+      at47 = λ bs. λ Ψ. Typed.pass T68 T70 (s68 bs) (at46 bs Ψ)
 
-      abbrev at48 : (bs : List.List Nat.ℕ) → Typed.TF T59 O0
-      at48 = λ bs. λ Ψ. Typed.both (s58 bs) (at47 bs Ψ)
+      abbrev at48 : (bs : List.List Nat.ℕ) → Typed.TF T68 O0
+      at48 = λ bs. λ Ψ. at47 bs Ψ
 
-      abbrev at49 : (bs : List.List Nat.ℕ) → Typed.TF T58 O0
-      at49 = λ bs. λ Ψ. Typed.ask (s57 bs) (at48 bs Ψ)
+      abbrev at49 : (bs : List.List Nat.ℕ) → Typed.TF T66 O0
+      at49 = λ bs. λ Ψ. Typed.both (s66 bs) (at48 bs Ψ)
 
-      abbrev at50 : (bs : List.List Nat.ℕ) → Typed.TF T56 O0
-      at50 = λ bs. λ Ψ. Typed.give (s56 bs) (at49 bs Ψ)
+      abbrev at50 : (bs : List.List Nat.ℕ) → Typed.TF T66 O0
+      at50 = λ bs. λ Ψ. at49 bs Ψ
 
-      abbrev at51 : (bs : List.List Nat.ℕ) → Typed.TF T56 O0
-      at51 = λ bs. λ Ψ. at50 bs Ψ
+      abbrev at51 : (bs : List.List Nat.ℕ) → Typed.TF T65 O0
+      at51 = λ bs. λ Ψ. Typed.pass T65 T66 (s64 bs) (at50 bs Ψ)
 
-      abbrev at52 : (bs : List.List Nat.ℕ) → Typed.TF T55 O0
-      at52 = λ bs. λ Ψ. Typed.ask (s54 bs) (at51 bs Ψ)
+      abbrev at52 : (bs : List.List Nat.ℕ) → Typed.TF T64 O0
+      at52 = λ bs. λ Ψ. Typed.both (s63 bs) (at51 bs Ψ)
 
-      abbrev at53 : (bs : List.List Nat.ℕ) → Typed.TF T53 O0
-      at53 = λ bs. λ Ψ. Typed.give (s53 bs) (at52 bs Ψ)
+      abbrev at53 : (bs : List.List Nat.ℕ) → Typed.TF T63 O0
+      at53 = λ bs. λ Ψ. Typed.ask (s62 bs) (at52 bs Ψ)
 
-      abbrev at54 : (bs : List.List Nat.ℕ) → Typed.TF T53 O0
-      at54 = λ bs. λ Ψ. at53 bs Ψ
+      abbrev at54 : (bs : List.List Nat.ℕ) → Typed.TF T61 O0
+      at54 = λ bs. λ Ψ. Typed.give (s61 bs) (at53 bs Ψ)
 
-      abbrev at55 : (bs : List.List Nat.ℕ) → Typed.TF T52 O0
-      at55 = λ bs. λ Ψ. Typed.ask (s51 bs) (at54 bs Ψ)
+      abbrev at55 : (bs : List.List Nat.ℕ) → Typed.TF T61 O0
+      at55 = λ bs. λ Ψ. at54 bs Ψ
 
-      abbrev at56 : (bs : List.List Nat.ℕ) → Typed.TF T50 O0
-      at56 = λ bs. λ Ψ. Typed.give (s50 bs) (at55 bs Ψ)
+      abbrev at56 : (bs : List.List Nat.ℕ) → Typed.TF T60 O0
+      at56 = λ bs. λ Ψ. Typed.ask (s59 bs) (at55 bs Ψ)
 
-      abbrev at57 : (bs : List.List Nat.ℕ) → Typed.TF T50 O0
-      at57 = λ bs. λ Ψ. at56 bs Ψ
+      abbrev at57 : (bs : List.List Nat.ℕ) → Typed.TF T58 O0
+      at57 = λ bs. λ Ψ. Typed.give (s58 bs) (at56 bs Ψ)
 
-      abbrev at58 : (bs : List.List Nat.ℕ) → Typed.TF T49 O0
-      at58 = λ bs. λ Ψ. Typed.ask (s48 bs) (at57 bs Ψ)
+      abbrev at58 : (bs : List.List Nat.ℕ) → Typed.TF T58 O0
+      at58 = λ bs. λ Ψ. at57 bs Ψ
 
-      abbrev at59 : (bs : List.List Nat.ℕ) → Typed.TF T47 O0
-      at59 = λ bs. λ Ψ. Typed.give (s47 bs) (at58 bs Ψ)
+      abbrev at59 : (bs : List.List Nat.ℕ) → Typed.TF T57 O0
+      at59 = λ bs. λ Ψ. Typed.ask (s56 bs) (at58 bs Ψ)
 
-      abbrev at60 : (bs : List.List Nat.ℕ) → Typed.TF T47 O0
-      at60 = λ bs. λ Ψ. at59 bs Ψ
+      abbrev at60 : (bs : List.List Nat.ℕ) → Typed.TF T55 O0
+      at60 = λ bs. λ Ψ. Typed.give (s55 bs) (at59 bs Ψ)
 
-      abbrev at61 : (bs : List.List Nat.ℕ) → Typed.TF T46 O0
-      at61 = λ bs. λ Ψ. Typed.ask (s45 bs) (at60 bs Ψ)
+      abbrev at61 : (bs : List.List Nat.ℕ) → Typed.TF T55 O0
+      at61 = λ bs. λ Ψ. at60 bs Ψ
 
-      abbrev at62 : (bs : List.List Nat.ℕ) → Typed.TF T44 O0
-      at62 = λ bs. λ Ψ. Typed.give (s44 bs) (at61 bs Ψ)
+      abbrev at62 : (bs : List.List Nat.ℕ) → Typed.TF T54 O0
+      at62 = λ bs. λ Ψ. Typed.ask (s53 bs) (at61 bs Ψ)
 
-      abbrev at63 : (bs : List.List Nat.ℕ) → Typed.TF T44 O0
-      at63 = λ bs. λ Ψ. at62 bs Ψ
+      abbrev at63 : (bs : List.List Nat.ℕ) → Typed.TF T52 O0
+      at63 = λ bs. λ Ψ. Typed.give (s52 bs) (at62 bs Ψ)
 
-      abbrev at64 : (bs : List.List Nat.ℕ) → Typed.TF T43 O0
-      at64 = λ bs. λ Ψ. Typed.ask (s42 bs) (at63 bs Ψ)
+      abbrev at64 : (bs : List.List Nat.ℕ) → Typed.TF T52 O0
+      at64 = λ bs. λ Ψ. at63 bs Ψ
 
-      abbrev at65 : (bs : List.List Nat.ℕ) → Typed.TF T41 O0
-      at65 = λ bs. λ Ψ. Typed.give (s41 bs) (at64 bs Ψ)
+      abbrev at65 : (bs : List.List Nat.ℕ) → Typed.TF T51 O0
+      at65 = λ bs. λ Ψ. Typed.ask (s50 bs) (at64 bs Ψ)
 
-      abbrev at66 : (bs : List.List Nat.ℕ) → Typed.TF T41 O0
-      at66 = λ bs. λ Ψ. at65 bs Ψ
+      abbrev at66 : (bs : List.List Nat.ℕ) → Typed.TF T49 O0
+      at66 = λ bs. λ Ψ. Typed.give (s49 bs) (at65 bs Ψ)
 
-      abbrev at67 : (bs : List.List Nat.ℕ) → Typed.TF T40 O0
-      at67 = λ bs. λ Ψ. Typed.ask (s39 bs) (at66 bs Ψ)
+      abbrev at67 : (bs : List.List Nat.ℕ) → Typed.TF T49 O0
+      at67 = λ bs. λ Ψ. at66 bs Ψ
 
-      abbrev at68 : (bs : List.List Nat.ℕ) → Typed.TF T38 O0
-      at68 = λ bs. λ Ψ. Typed.give (s38 bs) (at67 bs Ψ)
+      abbrev at68 : (bs : List.List Nat.ℕ) → Typed.TF T48 O0
+      at68 = λ bs. λ Ψ. Typed.ask (s47 bs) (at67 bs Ψ)
 
-      abbrev at69 : (bs : List.List Nat.ℕ) → Typed.TF T38 O0
-      at69 = λ bs. λ Ψ. at68 bs Ψ
+      abbrev at69 : (bs : List.List Nat.ℕ) → Typed.TF T46 O0
+      at69 = λ bs. λ Ψ. Typed.give (s46 bs) (at68 bs Ψ)
 
-      abbrev at70 : (bs : List.List Nat.ℕ) → Typed.TF T37 O0
-      at70 = λ bs. λ Ψ. Typed.ask (s36 bs) (at69 bs Ψ)
+      abbrev at70 : (bs : List.List Nat.ℕ) → Typed.TF T46 O0
+      at70 = λ bs. λ Ψ. at69 bs Ψ
 
-      abbrev at71 : (bs : List.List Nat.ℕ) → Typed.TF T35 O0
-      at71 = λ bs. λ Ψ. Typed.give (s35 bs) (at70 bs Ψ)
+      abbrev at71 : (bs : List.List Nat.ℕ) → Typed.TF T45 O0
+      at71 = λ bs. λ Ψ. Typed.ask (s44 bs) (at70 bs Ψ)
 
-      abbrev at72 : (bs : List.List Nat.ℕ) → Typed.TF T35 O0
-      at72 = λ bs. λ Ψ. at71 bs Ψ
+      abbrev at72 : (bs : List.List Nat.ℕ) → Typed.TF T43 O0
+      at72 = λ bs. λ Ψ. Typed.give (s43 bs) (at71 bs Ψ)
 
-      abbrev at73 : (bs : List.List Nat.ℕ) → Typed.TF T34 O0
-      at73 = λ bs. λ Ψ. Typed.ask (s33 bs) (at72 bs Ψ)
+      abbrev at73 : (bs : List.List Nat.ℕ) → Typed.TF T43 O0
+      at73 = λ bs. λ Ψ. at72 bs Ψ
 
-      abbrev at74 : (bs : List.List Nat.ℕ) → Typed.TF T32 O0
-      at74 = λ bs. λ Ψ. Typed.give (s32 bs) (at73 bs Ψ)
+      abbrev at74 : (bs : List.List Nat.ℕ) → Typed.TF T42 O0
+      at74 = λ bs. λ Ψ. Typed.ask (s41 bs) (at73 bs Ψ)
 
-      abbrev at75 : (bs : List.List Nat.ℕ) → Typed.TF T32 O0
-      at75 = λ bs. λ Ψ. at74 bs Ψ
+      abbrev at75 : (bs : List.List Nat.ℕ) → Typed.TF T40 O0
+      at75 = λ bs. λ Ψ. Typed.give (s40 bs) (at74 bs Ψ)
 
-      abbrev at76 : (bs : List.List Nat.ℕ) → Typed.TF T31 O0
-      at76 = λ bs. λ Ψ. Typed.ask (s30 bs) (at75 bs Ψ)
+      abbrev at76 : (bs : List.List Nat.ℕ) → Typed.TF T40 O0
+      at76 = λ bs. λ Ψ. at75 bs Ψ
 
-      abbrev at77 : (bs : List.List Nat.ℕ) → Typed.TF T29 O0
-      at77 = λ bs. λ Ψ. Typed.give (s29 bs) (at76 bs Ψ)
+      abbrev at77 : (bs : List.List Nat.ℕ) → Typed.TF T39 O0
+      at77 = λ bs. λ Ψ. Typed.ask (s38 bs) (at76 bs Ψ)
 
-      abbrev at78 : (bs : List.List Nat.ℕ) → Typed.TF T29 O0
-      at78 = λ bs. λ Ψ. at77 bs Ψ
+      abbrev at78 : (bs : List.List Nat.ℕ) → Typed.TF T37 O0
+      at78 = λ bs. λ Ψ. Typed.give (s37 bs) (at77 bs Ψ)
 
-      abbrev at79 : (bs : List.List Nat.ℕ) → Typed.TF T28 O0
-      at79 = λ bs. λ Ψ. Typed.ask (s27 bs) (at78 bs Ψ)
+      abbrev at79 : (bs : List.List Nat.ℕ) → Typed.TF T37 O0
+      at79 = λ bs. λ Ψ. at78 bs Ψ
 
-      abbrev at80 : (bs : List.List Nat.ℕ) → Typed.TF T26 O0
-      at80 = λ bs. λ Ψ. Typed.give (s26 bs) (at79 bs Ψ)
+      abbrev at80 : (bs : List.List Nat.ℕ) → Typed.TF T36 O0
+      at80 = λ bs. λ Ψ. Typed.ask (s35 bs) (at79 bs Ψ)
 
-      abbrev at81 : (bs : List.List Nat.ℕ) → Typed.TF T26 O0
-      at81 = λ bs. λ Ψ. at80 bs Ψ
+      abbrev at81 : (bs : List.List Nat.ℕ) → Typed.TF T34 O0
+      at81 = λ bs. λ Ψ. Typed.give (s34 bs) (at80 bs Ψ)
 
-      abbrev at82 : (bs : List.List Nat.ℕ) → Typed.TF T25 O0
-      at82 = λ bs. λ Ψ. Typed.both (s24 bs) (at81 bs Ψ)
+      abbrev at82 : (bs : List.List Nat.ℕ) → Typed.TF T34 O0
+      at82 = λ bs. λ Ψ. at81 bs Ψ
 
-      abbrev at83 : (bs : List.List Nat.ℕ) → Typed.TF T24 O0
-      at83 = λ bs. λ Ψ. Typed.pass T24 T25 (s23 bs) (at82 bs Ψ)
+      abbrev at83 : (bs : List.List Nat.ℕ) → Typed.TF T33 O0
+      at83 = λ bs. λ Ψ. Typed.ask (s32 bs) (at82 bs Ψ)
 
-      abbrev at84 : (bs : List.List Nat.ℕ) → Typed.TF T23 O0
-      at84 = λ bs. λ Ψ. Typed.pass T23 T24 (s22 bs) (at83 bs Ψ)
+      abbrev at84 : (bs : List.List Nat.ℕ) → Typed.TF T31 O0
+      at84 = λ bs. λ Ψ. Typed.give (s31 bs) (at83 bs Ψ)
 
-      abbrev at85 : (bs : List.List Nat.ℕ) → Typed.TF T22 O0
-      at85 = λ bs. λ Ψ. Typed.both (s21 bs) (at84 bs Ψ)
+      abbrev at85 : (bs : List.List Nat.ℕ) → Typed.TF T31 O0
+      at85 = λ bs. λ Ψ. at84 bs Ψ
 
-      abbrev at86 : (bs : List.List Nat.ℕ) → Typed.TF T21 O0
-      at86 = λ bs. λ Ψ. Typed.pass T21 T22 (s20 bs) (at85 bs Ψ)
+      abbrev at86 : (bs : List.List Nat.ℕ) → Typed.TF T30 O0
+      at86 = λ bs. λ Ψ. Typed.ask (s29 bs) (at85 bs Ψ)
 
-      abbrev at87 : (bs : List.List Nat.ℕ) → Typed.TF T20 O0
-      at87 = λ bs. λ Ψ. Typed.pass T20 T21 (s19 bs) (at86 bs Ψ)
+      abbrev at87 : (bs : List.List Nat.ℕ) → Typed.TF T28 O0
+      at87 = λ bs. λ Ψ. Typed.give (s28 bs) (at86 bs Ψ)
 
-      abbrev at88 : (bs : List.List Nat.ℕ) → Typed.TF T19 O0
-      at88 = λ bs. λ Ψ. Typed.both (s18 bs) (at87 bs Ψ)
+      abbrev at88 : (bs : List.List Nat.ℕ) → Typed.TF T28 O0
+      at88 = λ bs. λ Ψ. at87 bs Ψ
 
-      abbrev at89 : (bs : List.List Nat.ℕ) → Typed.TF T18 O0
-      at89 = λ bs. λ Ψ. Typed.pass T18 T19 (s17 bs) (at88 bs Ψ)
+      abbrev at89 : (bs : List.List Nat.ℕ) → Typed.TF T27 O0
+      at89 = λ bs. λ Ψ. Typed.both (s26 bs) (at88 bs Ψ)
 
-      abbrev at90 : (bs : List.List Nat.ℕ) → Typed.TF T17 O0
-      at90 = λ bs. λ Ψ. Typed.pass T17 T18 (s16 bs) (at89 bs Ψ)
+      abbrev at90 : (bs : List.List Nat.ℕ) → Typed.TF T26 O0
+      at90 = λ bs. λ Ψ. Typed.pass T26 T27 (s25 bs) (at89 bs Ψ)
 
-      abbrev at91 : (bs : List.List Nat.ℕ) → Typed.TF T16 O0
-      at91 = λ bs. λ Ψ. Typed.pass T16 T17 (s15 bs) (at90 bs Ψ)
+      abbrev at91 : (bs : List.List Nat.ℕ) → Typed.TF T25 O0
+      at91 = λ bs. λ Ψ. Typed.pass T25 T26 (s24 bs) (at90 bs Ψ)
 
-      abbrev at92 : (bs : List.List Nat.ℕ) → Typed.TF T15 O0
-      at92 = λ bs. λ Ψ. Typed.pass T15 T16 (s14 bs) (at91 bs Ψ)
+      abbrev at92 : (bs : List.List Nat.ℕ) → Typed.TF T24 O0
+      at92 = λ bs. λ Ψ. Typed.pass T24 T25 (s23 bs) (at91 bs Ψ)
 
-      abbrev at93 : (bs : List.List Nat.ℕ) → Typed.TF T14 O0
-      at93 = λ bs. λ Ψ. Typed.pass T14 T15 (s13 bs) (at92 bs Ψ)
+      abbrev at93 : (bs : List.List Nat.ℕ) → Typed.TF T23 O0
+      at93 = λ bs. λ Ψ. Typed.pass T23 T24 (s22 bs) (at92 bs Ψ)
 
-      abbrev at94 : (bs : List.List Nat.ℕ) → Typed.TF T13 O0
-      at94 = λ bs. λ Ψ. Typed.pass T13 T14 (s12 bs) (at93 bs Ψ)
+      abbrev at94 : (bs : List.List Nat.ℕ) → Typed.TF T22 O0
+      at94 = λ bs. λ Ψ. Typed.both (s21 bs) (at93 bs Ψ)
 
-      abbrev at95 : (bs : List.List Nat.ℕ) → Typed.TF T12 O0
-      at95 = λ bs. λ Ψ. Typed.both (s11 bs) (at94 bs Ψ)
+      abbrev at95 : (bs : List.List Nat.ℕ) → Typed.TF T21 O0
+      at95 = λ bs. λ Ψ. Typed.pass T21 T22 (s20 bs) (at94 bs Ψ)
 
-      abbrev at96 : (bs : List.List Nat.ℕ) → Typed.TF T11 O0
-      at96 = λ bs. λ Ψ. Typed.pass T11 T12 (s10 bs) (at95 bs Ψ)
+      abbrev at96 : (bs : List.List Nat.ℕ) → Typed.TF T20 O0
+      at96 = λ bs. λ Ψ. Typed.pass T20 T21 (s19 bs) (at95 bs Ψ)
 
-      abbrev at97 : (bs : List.List Nat.ℕ) → Typed.TF T10 O0
-      at97 = λ bs. λ Ψ. Typed.pass T10 T11 (s9 bs) (at96 bs Ψ)
+      abbrev at97 : (bs : List.List Nat.ℕ) → Typed.TF T19 O0
+      at97 = λ bs. λ Ψ. Typed.both (s18 bs) (at96 bs Ψ)
 
-      abbrev at98 : (bs : List.List Nat.ℕ) → Typed.TF T9 O0
-      at98 = λ bs. λ Ψ. Typed.pass T9 T10 (s8 bs) (at97 bs Ψ)
+      abbrev at98 : (bs : List.List Nat.ℕ) → Typed.TF T18 O0
+      at98 = λ bs. λ Ψ. Typed.pass T18 T19 (s17 bs) (at97 bs Ψ)
 
-      abbrev at99 : (bs : List.List Nat.ℕ) → Typed.TF T8 O0
-      at99 = λ bs. λ Ψ. Typed.pass T8 T9 (s7 bs) (at98 bs Ψ)
+      abbrev at99 : (bs : List.List Nat.ℕ) → Typed.TF T17 O0
+      at99 = λ bs. λ Ψ. Typed.pass T17 T18 (s16 bs) (at98 bs Ψ)
 
-      abbrev at100 : (bs : List.List Nat.ℕ) → Typed.TF T7 O0
-      at100 = λ bs. λ Ψ. Typed.pass T7 T8 (s6 bs) (at99 bs Ψ)
+      abbrev at100 : (bs : List.List Nat.ℕ) → Typed.TF T16 O0
+      at100 = λ bs. λ Ψ. Typed.pass T16 T17 (s15 bs) (at99 bs Ψ)
 
-      abbrev at101 : (bs : List.List Nat.ℕ) → Typed.TF T6 O0
-      at101 = λ bs. λ Ψ. Typed.pass T6 T7 (s5 bs) (at100 bs Ψ)
+      abbrev at101 : (bs : List.List Nat.ℕ) → Typed.TF T15 O0
+      at101 = λ bs. λ Ψ. Typed.pass T15 T16 (s14 bs) (at100 bs Ψ)
 
-      abbrev at102 : (bs : List.List Nat.ℕ) → Typed.TF T5 O0
-      at102 = λ bs. λ Ψ. Typed.pass T5 T6 (s4 bs) (at101 bs Ψ)
+      abbrev at102 : (bs : List.List Nat.ℕ) → Typed.TF T14 O0
+      at102 = λ bs. λ Ψ. Typed.pass T14 T15 (s13 bs) (at101 bs Ψ)
 
-      abbrev at103 : (bs : List.List Nat.ℕ) → Typed.TF T4 O0
-      at103 = λ bs. λ Ψ. Typed.pass T4 T5 (s3 bs) (at102 bs Ψ)
+      abbrev at103 : (bs : List.List Nat.ℕ) → Typed.TF T13 O0
+      at103 = λ bs. λ Ψ. Typed.pass T13 T14 (s12 bs) (at102 bs Ψ)
 
-      abbrev at104 : (bs : List.List Nat.ℕ) → Typed.TF T3 O0
-      at104 = λ bs. λ Ψ. Typed.pass T3 T4 (s2 bs) (at103 bs Ψ)
+      abbrev at104 : (bs : List.List Nat.ℕ) → Typed.TF T12 O0
+      at104 = λ bs. λ Ψ. Typed.both (s11 bs) (at103 bs Ψ)
 
-      abbrev at105 : (bs : List.List Nat.ℕ) → Typed.TF T2 O0
-      at105 = λ bs. λ Ψ. Typed.pass T2 T3 (s1 bs) (at104 bs Ψ)
+      abbrev at105 : (bs : List.List Nat.ℕ) → Typed.TF T11 O0
+      at105 = λ bs. λ Ψ. Typed.pass T11 T12 (s10 bs) (at104 bs Ψ)
 
-      abbrev at106 : (bs : List.List Nat.ℕ) → Typed.TF T0 O0
-      at106 = λ bs. λ Ψ. Typed.give (s0 bs) (at105 bs Ψ)
+      abbrev at106 : (bs : List.List Nat.ℕ) → Typed.TF T10 O0
+      at106 = λ bs. λ Ψ. Typed.pass T10 T11 (s9 bs) (at105 bs Ψ)
+
+      abbrev at107 : (bs : List.List Nat.ℕ) → Typed.TF T9 O0
+      at107 = λ bs. λ Ψ. Typed.pass T9 T10 (s8 bs) (at106 bs Ψ)
+
+      abbrev at108 : (bs : List.List Nat.ℕ) → Typed.TF T8 O0
+      at108 = λ bs. λ Ψ. Typed.pass T8 T9 (s7 bs) (at107 bs Ψ)
+
+      abbrev at109 : (bs : List.List Nat.ℕ) → Typed.TF T7 O0
+      at109 = λ bs. λ Ψ. Typed.pass T7 T8 (s6 bs) (at108 bs Ψ)
+
+      abbrev at110 : (bs : List.List Nat.ℕ) → Typed.TF T6 O0
+      at110 = λ bs. λ Ψ. Typed.pass T6 T7 (s5 bs) (at109 bs Ψ)
+
+      abbrev at111 : (bs : List.List Nat.ℕ) → Typed.TF T5 O0
+      at111 = λ bs. λ Ψ. Typed.pass T5 T6 (s4 bs) (at110 bs Ψ)
+
+      abbrev at112 : (bs : List.List Nat.ℕ) → Typed.TF T4 O0
+      at112 = λ bs. λ Ψ. Typed.pass T4 T5 (s3 bs) (at111 bs Ψ)
+
+      abbrev at113 : (bs : List.List Nat.ℕ) → Typed.TF T3 O0
+      at113 = λ bs. λ Ψ. Typed.pass T3 T4 (s2 bs) (at112 bs Ψ)
+
+      abbrev at114 : (bs : List.List Nat.ℕ) → Typed.TF T2 O0
+      at114 = λ bs. λ Ψ. Typed.pass T2 T3 (s1 bs) (at113 bs Ψ)
+
+      abbrev at115 : (bs : List.List Nat.ℕ) → Typed.TF T0 O0
+      at115 = λ bs. λ Ψ. Typed.give (s0 bs) (at114 bs Ψ)
 
       abbrev pub Φ : (bs : List.List Nat.ℕ) → Typed.TF T0 O0
-      Φ = λ bs. at106 bs
+      Φ = λ bs. at115 bs
 
       module _ {M : Type 1} (𝓤 : URA.URA M) (H : Wp.Heap 𝓤) (A : Atoms.Atoms 𝓤)
           (W : Kit.Given 𝓤 H A) (𝓣 : Wp.Tables 𝓤 H) where
         abbrev Knowns : Type 1
-        Knowns = Plain.Known 𝓤 H A W 𝓣 0 ps·0 r·0 (claims· .0) (claims· .1) "contig::no_candidates" × Plain.Known 𝓤 H A W 𝓣 0 ps·1 r·1 (claims· .2) (claims· .3) "contig::no_intervals" × Plain.Known 𝓤 H A W 𝓣 0 ps·2 r·2 (claims· .4) (claims· .5) "longdust::LongdustOptions::default" × Plain.Known 𝓤 H A W 𝓣 12 ps·3 r·3 (claims· .6) (claims· .7) "longdust::calls::process::process"
+        Knowns = Plain.Known 𝓤 H A W 𝓣 0 ps·0 r·0 (claims· .0) (claims· .1) "contig::no_candidates" × Plain.Known 𝓤 H A W 𝓣 0 ps·1 r·1 (claims· .2) (claims· .3) "contig::no_intervals" × Plain.Known 𝓤 H A W 𝓣 0 ps·2 r·2 (claims· .4) (claims· .5) "longdust::LongdustOptions::default" × Plain.Known 𝓤 H A W 𝓣 13 ps·3 r·3 (claims· .6) (claims· .7) "longdust::calls::process::process"
 
       module _ (κs : Lifetimes.Lfts 2) (qs : Lifetimes.Shares 2) where
         abbrev li0 : Row.Life
         li0 = Row.lease (κs .1 .0) (qs .1 .0)
 
         abbrev ei0 : Row.Entry
-        ei0 = (2, Relend.mslice-owed (Array'.Array q1 2) y28 1 12 li0)
+        ei0 = (2, Relend.mslice-owed (Array'.Array q1 2) y29 1 12 li0)
 
         abbrev ci0 : List.List Row.Entry
-        ci0 = e0 ∷ e1 ∷ ei0 ∷ e60 ∷ e63 ∷ e66 ∷ e69 ∷ e72 ∷ []
+        ci0 = e0 ∷ e1 ∷ ei0 ∷ e65 ∷ e68 ∷ e71 ∷ e74 ∷ e77 ∷ []
 
         abbrev ci1 : List.List Row.Entry
-        ci1 = e0 ∷ e1 ∷ ei0 ∷ e41 ∷ e63 ∷ e66 ∷ e69 ∷ e72 ∷ []
+        ci1 = e0 ∷ e1 ∷ ei0 ∷ e44 ∷ e68 ∷ e71 ∷ e74 ∷ e77 ∷ []
 
         abbrev ci2 : List.List Row.Entry
-        ci2 = e0 ∷ e1 ∷ ei0 ∷ e3 ∷ e63 ∷ e66 ∷ e69 ∷ e72 ∷ []
+        ci2 = e0 ∷ e1 ∷ ei0 ∷ e3 ∷ e68 ∷ e71 ∷ e74 ∷ e77 ∷ []
 
         abbrev ci3 : List.List Row.Entry
-        ci3 = e0 ∷ e1 ∷ ei0 ∷ e3 ∷ e43 ∷ e66 ∷ e69 ∷ e72 ∷ []
+        ci3 = e0 ∷ e1 ∷ ei0 ∷ e3 ∷ e46 ∷ e71 ∷ e74 ∷ e77 ∷ []
 
         abbrev ci4 : List.List Row.Entry
-        ci4 = e0 ∷ e1 ∷ ei0 ∷ e3 ∷ e4 ∷ e66 ∷ e69 ∷ e72 ∷ []
+        ci4 = e0 ∷ e1 ∷ ei0 ∷ e3 ∷ e4 ∷ e71 ∷ e74 ∷ e77 ∷ []
 
         abbrev ci5 : List.List Row.Entry
-        ci5 = e0 ∷ e1 ∷ ei0 ∷ e3 ∷ e4 ∷ e45 ∷ e69 ∷ e72 ∷ []
+        ci5 = e0 ∷ e1 ∷ ei0 ∷ e3 ∷ e4 ∷ e48 ∷ e74 ∷ e77 ∷ []
 
         abbrev ci6 : List.List Row.Entry
-        ci6 = e0 ∷ e1 ∷ ei0 ∷ e3 ∷ e4 ∷ e5 ∷ e69 ∷ e72 ∷ []
+        ci6 = e0 ∷ e1 ∷ ei0 ∷ e3 ∷ e4 ∷ e5 ∷ e74 ∷ e77 ∷ []
 
         abbrev ci7 : List.List Row.Entry
-        ci7 = e0 ∷ e1 ∷ ei0 ∷ e3 ∷ e4 ∷ e5 ∷ e47 ∷ e72 ∷ []
+        ci7 = e0 ∷ e1 ∷ ei0 ∷ e3 ∷ e4 ∷ e5 ∷ e50 ∷ e77 ∷ []
 
         abbrev ci8 : List.List Row.Entry
-        ci8 = e0 ∷ e1 ∷ ei0 ∷ e3 ∷ e4 ∷ e5 ∷ e6 ∷ e72 ∷ []
+        ci8 = e0 ∷ e1 ∷ ei0 ∷ e3 ∷ e4 ∷ e5 ∷ e6 ∷ e77 ∷ []
 
         abbrev ci9 : List.List Row.Entry
-        ci9 = e0 ∷ e1 ∷ ei0 ∷ e3 ∷ e4 ∷ e5 ∷ e6 ∷ e49 ∷ []
+        ci9 = e0 ∷ e1 ∷ ei0 ∷ e3 ∷ e4 ∷ e5 ∷ e6 ∷ e52 ∷ []
 
         abbrev ci10 : List.List Row.Entry
         ci10 = e0 ∷ e1 ∷ ei0 ∷ e3 ∷ e4 ∷ e5 ∷ e6 ∷ e7 ∷ []
@@ -2283,70 +2442,73 @@ module _ (claims· : Claims) where
         wi19 = li1 ∷ Row.off ∷ Row.off ∷ Row.off ∷ Row.off ∷ Row.off ∷ Row.off ∷ Row.off ∷ []
 
         abbrev g57 : List.List Row.Entry
-        g57 = ci0 ++ c56
+        g57 = ci0 ++ c57
 
         abbrev g60 : List.List Row.Entry
-        g60 = ci0 ++ c62
+        g60 = ci0 ++ c63
 
-        abbrev g64 : List.List Row.Entry
-        g64 = ci1 ++ c62
-
-        abbrev g66 : List.List Row.Entry
-        g66 = ci2 ++ c62
+        abbrev g63 : List.List Row.Entry
+        g63 = ci0 ++ c66
 
         abbrev g67 : List.List Row.Entry
-        g67 = ci3 ++ c62
+        g67 = ci1 ++ c66
 
         abbrev g69 : List.List Row.Entry
-        g69 = ci4 ++ c62
+        g69 = ci2 ++ c66
 
         abbrev g70 : List.List Row.Entry
-        g70 = ci5 ++ c62
+        g70 = ci3 ++ c66
 
         abbrev g72 : List.List Row.Entry
-        g72 = ci6 ++ c62
+        g72 = ci4 ++ c66
 
         abbrev g73 : List.List Row.Entry
-        g73 = ci7 ++ c62
+        g73 = ci5 ++ c66
 
         abbrev g75 : List.List Row.Entry
-        g75 = ci8 ++ c62
+        g75 = ci6 ++ c66
 
         abbrev g76 : List.List Row.Entry
-        g76 = ci9 ++ c62
+        g76 = ci7 ++ c66
 
         abbrev g78 : List.List Row.Entry
-        g78 = ci10 ++ c62
+        g78 = ci8 ++ c66
 
         abbrev g79 : List.List Row.Entry
-        g79 = ci10 ++ c81
+        g79 = ci9 ++ c66
 
         abbrev g81 : List.List Row.Entry
-        g81 = ci10 ++ c83
+        g81 = ci10 ++ c66
 
         abbrev g82 : List.List Row.Entry
-        g82 = ci10 ++ c84
-
-        abbrev g83 : List.List Row.Entry
-        g83 = ci10 ++ c85
+        g82 = ci10 ++ c86
 
         abbrev g84 : List.List Row.Entry
-        g84 = ci10 ++ c86
+        g84 = ci10 ++ c88
+
+        abbrev g85 : List.List Row.Entry
+        g85 = ci10 ++ c89
 
         abbrev g86 : List.List Row.Entry
-        g86 = ci10 ++ c88
+        g86 = ci10 ++ c90
 
         abbrev g87 : List.List Row.Entry
-        g87 = ci10 ++ c89
+        g87 = ci10 ++ c91
 
         abbrev g89 : List.List Row.Entry
-        g89 = ci10 ++ c91
+        g89 = ci10 ++ c93
 
         abbrev g90 : List.List Row.Entry
-        g90 = ci10 ++ c92
+        g90 = ci10 ++ c94
 
         abbrev g92 : List.List Row.Entry
-        g92 = ci10 ++ c94
+        g92 = ci10 ++ c96
+
+        abbrev g93 : List.List Row.Entry
+        g93 = ci10 ++ c97
+
+        abbrev g95 : List.List Row.Entry
+        g95 = ci10 ++ c99
 
         abbrev G0 : Row.Cx
         G0 = record { locals = List._++_ t0 (List._++_ t1 t2); slots = wi0 ++ w0 }
@@ -2409,268 +2571,295 @@ module _ (claims· : Claims) where
         G19 = record { locals = List._++_ t20 (List._++_ t1 t2); slots = wi0 ++ w0 }
 
         abbrev G20 : Row.Cx
-        G20 = record { locals = List._++_ t21 (List._++_ t1 t2); slots = wi0 ++ w0 }
+        G20 = record { locals = List._++_ t20 (List._++_ t21 t2); slots = wi0 ++ w0 }
 
         abbrev G21 : Row.Cx
-        G21 = record { locals = List._++_ t22 (List._++_ t1 t2); slots = wi0 ++ w0 }
+        G21 = record { locals = List._++_ t22 (List._++_ t21 t2); slots = wi0 ++ w0 }
 
         abbrev G22 : Row.Cx
-        G22 = record { locals = List._++_ t23 (List._++_ t1 t2); slots = wi0 ++ w0 }
+        G22 = record { locals = List._++_ t22 (List._++_ t1 t2); slots = wi0 ++ w0 }
 
         abbrev G23 : Row.Cx
-        G23 = record { locals = List._++_ t22 (List._++_ t1 t2); slots = wi0 ++ w0 }
+        G23 = record { locals = List._++_ t22 (List._++_ t21 t2); slots = wi0 ++ w0 }
 
         abbrev G24 : Row.Cx
-        G24 = record { locals = List._++_ t24 (List._++_ t1 t2); slots = wi0 ++ w0 }
+        G24 = record { locals = List._++_ t23 (List._++_ t21 t2); slots = wi0 ++ w0 }
 
         abbrev G25 : Row.Cx
-        G25 = record { locals = List._++_ t25 (List._++_ t1 t2); slots = wi0 ++ w0 }
+        G25 = record { locals = List._++_ t23 (List._++_ t1 t2); slots = wi0 ++ w0 }
 
         abbrev G26 : Row.Cx
-        G26 = record { locals = List._++_ t25 (List._++_ t26 t2); slots = wi0 ++ w0 }
+        G26 = record { locals = List._++_ t24 (List._++_ t1 t2); slots = wi0 ++ w0 }
 
         abbrev G27 : Row.Cx
-        G27 = record { locals = List._++_ t25 (List._++_ t26 t2); slots = wi1 ++ w0 }
+        G27 = record { locals = List._++_ t25 (List._++_ t1 t2); slots = wi0 ++ w0 }
 
         abbrev G28 : Row.Cx
-        G28 = record { locals = List._++_ t27 (List._++_ t28 t2); slots = wi1 ++ w0 }
+        G28 = record { locals = List._++_ t25 (List._++_ t26 t2); slots = wi0 ++ w0 }
 
         abbrev G29 : Row.Cx
-        G29 = record { locals = List._++_ t27 (List._++_ t29 t2); slots = wi1 ++ w0 }
+        G29 = record { locals = List._++_ t25 (List._++_ t26 t2); slots = wi1 ++ w0 }
 
         abbrev G30 : Row.Cx
-        G30 = record { locals = List._++_ t27 (List._++_ t29 t2); slots = wi2 ++ w0 }
+        G30 = record { locals = List._++_ t27 (List._++_ t28 t2); slots = wi1 ++ w0 }
 
         abbrev G31 : Row.Cx
-        G31 = record { locals = List._++_ t30 (List._++_ t31 t2); slots = wi2 ++ w0 }
+        G31 = record { locals = List._++_ t27 (List._++_ t29 t2); slots = wi1 ++ w0 }
 
         abbrev G32 : Row.Cx
-        G32 = record { locals = List._++_ t30 (List._++_ t32 t2); slots = wi2 ++ w0 }
+        G32 = record { locals = List._++_ t27 (List._++_ t29 t2); slots = wi2 ++ w0 }
 
         abbrev G33 : Row.Cx
-        G33 = record { locals = List._++_ t30 (List._++_ t32 t2); slots = wi3 ++ w0 }
+        G33 = record { locals = List._++_ t30 (List._++_ t31 t2); slots = wi2 ++ w0 }
 
         abbrev G34 : Row.Cx
-        G34 = record { locals = List._++_ t33 (List._++_ t34 t2); slots = wi3 ++ w0 }
+        G34 = record { locals = List._++_ t30 (List._++_ t32 t2); slots = wi2 ++ w0 }
 
         abbrev G35 : Row.Cx
-        G35 = record { locals = List._++_ t33 (List._++_ t35 t2); slots = wi3 ++ w0 }
+        G35 = record { locals = List._++_ t30 (List._++_ t32 t2); slots = wi3 ++ w0 }
 
         abbrev G36 : Row.Cx
-        G36 = record { locals = List._++_ t33 (List._++_ t35 t2); slots = wi4 ++ w0 }
+        G36 = record { locals = List._++_ t33 (List._++_ t34 t2); slots = wi3 ++ w0 }
 
         abbrev G37 : Row.Cx
-        G37 = record { locals = List._++_ t36 (List._++_ t37 t2); slots = wi4 ++ w0 }
+        G37 = record { locals = List._++_ t33 (List._++_ t35 t2); slots = wi3 ++ w0 }
 
         abbrev G38 : Row.Cx
-        G38 = record { locals = List._++_ t36 (List._++_ t38 t2); slots = wi4 ++ w0 }
+        G38 = record { locals = List._++_ t33 (List._++_ t35 t2); slots = wi4 ++ w0 }
 
         abbrev G39 : Row.Cx
-        G39 = record { locals = List._++_ t36 (List._++_ t38 t2); slots = wi5 ++ w0 }
+        G39 = record { locals = List._++_ t36 (List._++_ t37 t2); slots = wi4 ++ w0 }
 
         abbrev G40 : Row.Cx
-        G40 = record { locals = List._++_ t39 (List._++_ t40 t2); slots = wi5 ++ w0 }
+        G40 = record { locals = List._++_ t36 (List._++_ t38 t2); slots = wi4 ++ w0 }
 
         abbrev G41 : Row.Cx
-        G41 = record { locals = List._++_ t39 (List._++_ t41 t2); slots = wi5 ++ w0 }
+        G41 = record { locals = List._++_ t36 (List._++_ t38 t2); slots = wi5 ++ w0 }
 
         abbrev G42 : Row.Cx
-        G42 = record { locals = List._++_ t39 (List._++_ t41 t2); slots = wi6 ++ w0 }
+        G42 = record { locals = List._++_ t39 (List._++_ t40 t2); slots = wi5 ++ w0 }
 
         abbrev G43 : Row.Cx
-        G43 = record { locals = List._++_ t42 (List._++_ t43 t2); slots = wi6 ++ w0 }
+        G43 = record { locals = List._++_ t39 (List._++_ t41 t2); slots = wi5 ++ w0 }
 
         abbrev G44 : Row.Cx
-        G44 = record { locals = List._++_ t42 (List._++_ t44 t2); slots = wi6 ++ w0 }
+        G44 = record { locals = List._++_ t39 (List._++_ t41 t2); slots = wi6 ++ w0 }
 
         abbrev G45 : Row.Cx
-        G45 = record { locals = List._++_ t42 (List._++_ t44 t2); slots = wi6 ++ w1 }
+        G45 = record { locals = List._++_ t42 (List._++_ t43 t2); slots = wi6 ++ w0 }
 
         abbrev G46 : Row.Cx
-        G46 = record { locals = List._++_ t45 (List._++_ t46 t2); slots = wi6 ++ w1 }
+        G46 = record { locals = List._++_ t42 (List._++_ t44 t2); slots = wi6 ++ w0 }
 
         abbrev G47 : Row.Cx
-        G47 = record { locals = List._++_ t45 (List._++_ t47 t2); slots = wi6 ++ w1 }
+        G47 = record { locals = List._++_ t42 (List._++_ t44 t2); slots = wi6 ++ w1 }
 
         abbrev G48 : Row.Cx
-        G48 = record { locals = List._++_ t45 (List._++_ t47 t2); slots = wi6 ++ w2 }
+        G48 = record { locals = List._++_ t45 (List._++_ t46 t2); slots = wi6 ++ w1 }
 
         abbrev G49 : Row.Cx
-        G49 = record { locals = List._++_ t48 (List._++_ t49 t2); slots = wi6 ++ w2 }
+        G49 = record { locals = List._++_ t45 (List._++_ t47 t2); slots = wi6 ++ w1 }
 
         abbrev G50 : Row.Cx
-        G50 = record { locals = List._++_ t48 (List._++_ t47 t50); slots = wi6 ++ w2 }
+        G50 = record { locals = List._++_ t45 (List._++_ t47 t2); slots = wi6 ++ w2 }
 
         abbrev G51 : Row.Cx
-        G51 = record { locals = List._++_ t48 (List._++_ t47 t50); slots = wi6 ++ w3 }
+        G51 = record { locals = List._++_ t48 (List._++_ t47 t49); slots = wi6 ++ w2 }
 
         abbrev G52 : Row.Cx
-        G52 = record { locals = List._++_ t51 (List._++_ t47 t52); slots = wi6 ++ w3 }
+        G52 = record { locals = List._++_ t48 (List._++_ t47 t50); slots = wi6 ++ w2 }
 
         abbrev G53 : Row.Cx
-        G53 = record { locals = List._++_ t51 (List._++_ t47 t53); slots = wi6 ++ w3 }
+        G53 = record { locals = List._++_ t48 (List._++_ t47 t50); slots = wi6 ++ w3 }
 
         abbrev G54 : Row.Cx
-        G54 = record { locals = List._++_ t51 (List._++_ t47 t53); slots = wi6 ++ w4 }
+        G54 = record { locals = List._++_ t51 (List._++_ t47 t52); slots = wi6 ++ w3 }
 
         abbrev G55 : Row.Cx
-        G55 = record { locals = List._++_ t54 (List._++_ t47 t55); slots = wi6 ++ w4 }
+        G55 = record { locals = List._++_ t51 (List._++_ t47 t53); slots = wi6 ++ w3 }
 
         abbrev G56 : Row.Cx
-        G56 = record { locals = List._++_ t54 (List._++_ t47 t56); slots = wi6 ++ w4 }
+        G56 = record { locals = List._++_ t51 (List._++_ t47 t53); slots = wi6 ++ w4 }
 
         abbrev G57 : Row.Cx
-        G57 = record { locals = List._++_ t54 (List._++_ t47 t56); slots = wi6 ++ w5 }
+        G57 = record { locals = List._++_ t54 (List._++_ t47 t55); slots = wi6 ++ w4 }
 
         abbrev G58 : Row.Cx
-        G58 = record { locals = List._++_ g57 (List._++_ t47 t58); slots = wi7 ++ w5 }
+        G58 = record { locals = List._++_ t54 (List._++_ t47 t56); slots = wi6 ++ w4 }
 
         abbrev G59 : Row.Cx
-        G59 = record { locals = List._++_ g57 (List._++_ t47 t59); slots = wi7 ++ w5 }
+        G59 = record { locals = List._++_ t54 (List._++_ t47 t56); slots = wi6 ++ w5 }
 
         abbrev G60 : Row.Cx
-        G60 = record { locals = List._++_ g60 (List._++_ t61 t62); slots = wi7 ++ w5 }
+        G60 = record { locals = List._++_ g57 (List._++_ t47 t58); slots = wi7 ++ w5 }
 
         abbrev G61 : Row.Cx
-        G61 = record { locals = List._++_ g60 (List._++_ t63 t62); slots = wi7 ++ w5 }
+        G61 = record { locals = List._++_ g57 (List._++_ t47 t59); slots = wi7 ++ w5 }
 
         abbrev G62 : Row.Cx
-        G62 = record { locals = List._++_ g60 (List._++_ t63 t62); slots = wi8 ++ w5 }
+        G62 = record { locals = List._++_ g57 (List._++_ t47 t59); slots = wi7 ++ w6 }
 
         abbrev G63 : Row.Cx
-        G63 = record { locals = List._++_ g64 (List._++_ t65 t62); slots = wi8 ++ w5 }
+        G63 = record { locals = List._++_ g60 (List._++_ t47 t61); slots = wi7 ++ w6 }
 
         abbrev G64 : Row.Cx
-        G64 = record { locals = List._++_ g64 (List._++_ t65 t62); slots = wi9 ++ w5 }
+        G64 = record { locals = List._++_ g60 (List._++_ t47 t62); slots = wi7 ++ w6 }
 
         abbrev G65 : Row.Cx
-        G65 = record { locals = List._++_ g66 (List._++_ t65 t62); slots = wi9 ++ w5 }
+        G65 = record { locals = List._++_ g63 (List._++_ t64 t65); slots = wi7 ++ w6 }
 
         abbrev G66 : Row.Cx
-        G66 = record { locals = List._++_ g66 (List._++_ t65 t62); slots = wi10 ++ w5 }
+        G66 = record { locals = List._++_ g63 (List._++_ t66 t65); slots = wi7 ++ w6 }
 
         abbrev G67 : Row.Cx
-        G67 = record { locals = List._++_ g67 (List._++_ t68 t62); slots = wi10 ++ w5 }
+        G67 = record { locals = List._++_ g63 (List._++_ t66 t65); slots = wi8 ++ w6 }
 
         abbrev G68 : Row.Cx
-        G68 = record { locals = List._++_ g67 (List._++_ t68 t62); slots = wi11 ++ w5 }
+        G68 = record { locals = List._++_ g67 (List._++_ t68 t65); slots = wi8 ++ w6 }
 
         abbrev G69 : Row.Cx
-        G69 = record { locals = List._++_ g69 (List._++_ t68 t62); slots = wi11 ++ w5 }
+        G69 = record { locals = List._++_ g67 (List._++_ t68 t65); slots = wi9 ++ w6 }
 
         abbrev G70 : Row.Cx
-        G70 = record { locals = List._++_ g69 (List._++_ t68 t62); slots = wi12 ++ w5 }
+        G70 = record { locals = List._++_ g69 (List._++_ t68 t65); slots = wi9 ++ w6 }
 
         abbrev G71 : Row.Cx
-        G71 = record { locals = List._++_ g70 (List._++_ t71 t62); slots = wi12 ++ w5 }
+        G71 = record { locals = List._++_ g69 (List._++_ t68 t65); slots = wi10 ++ w6 }
 
         abbrev G72 : Row.Cx
-        G72 = record { locals = List._++_ g70 (List._++_ t71 t62); slots = wi13 ++ w5 }
+        G72 = record { locals = List._++_ g70 (List._++_ t71 t65); slots = wi10 ++ w6 }
 
         abbrev G73 : Row.Cx
-        G73 = record { locals = List._++_ g72 (List._++_ t71 t62); slots = wi13 ++ w5 }
+        G73 = record { locals = List._++_ g70 (List._++_ t71 t65); slots = wi11 ++ w6 }
 
         abbrev G74 : Row.Cx
-        G74 = record { locals = List._++_ g72 (List._++_ t71 t62); slots = wi14 ++ w5 }
+        G74 = record { locals = List._++_ g72 (List._++_ t71 t65); slots = wi11 ++ w6 }
 
         abbrev G75 : Row.Cx
-        G75 = record { locals = List._++_ g73 (List._++_ t74 t62); slots = wi14 ++ w5 }
+        G75 = record { locals = List._++_ g72 (List._++_ t71 t65); slots = wi12 ++ w6 }
 
         abbrev G76 : Row.Cx
-        G76 = record { locals = List._++_ g73 (List._++_ t74 t62); slots = wi15 ++ w5 }
+        G76 = record { locals = List._++_ g73 (List._++_ t74 t65); slots = wi12 ++ w6 }
 
         abbrev G77 : Row.Cx
-        G77 = record { locals = List._++_ g75 (List._++_ t74 t62); slots = wi15 ++ w5 }
+        G77 = record { locals = List._++_ g73 (List._++_ t74 t65); slots = wi13 ++ w6 }
 
         abbrev G78 : Row.Cx
-        G78 = record { locals = List._++_ g75 (List._++_ t74 t62); slots = wi16 ++ w5 }
+        G78 = record { locals = List._++_ g75 (List._++_ t74 t65); slots = wi13 ++ w6 }
 
         abbrev G79 : Row.Cx
-        G79 = record { locals = List._++_ g76 (List._++_ t77 t62); slots = wi16 ++ w5 }
+        G79 = record { locals = List._++_ g75 (List._++_ t74 t65); slots = wi14 ++ w6 }
 
         abbrev G80 : Row.Cx
-        G80 = record { locals = List._++_ g76 (List._++_ t77 t62); slots = wi17 ++ w5 }
+        G80 = record { locals = List._++_ g76 (List._++_ t77 t65); slots = wi14 ++ w6 }
 
         abbrev G81 : Row.Cx
-        G81 = record { locals = List._++_ g78 (List._++_ t77 t62); slots = wi17 ++ w5 }
+        G81 = record { locals = List._++_ g76 (List._++_ t77 t65); slots = wi15 ++ w6 }
 
         abbrev G82 : Row.Cx
-        G82 = record { locals = List._++_ g78 (List._++_ t77 t62); slots = wi18 ++ w5 }
+        G82 = record { locals = List._++_ g78 (List._++_ t77 t65); slots = wi15 ++ w6 }
 
         abbrev G83 : Row.Cx
-        G83 = record { locals = List._++_ g79 (List._++_ t80 t62); slots = wi18 ++ w5 }
+        G83 = record { locals = List._++_ g78 (List._++_ t77 t65); slots = wi16 ++ w6 }
 
         abbrev G84 : Row.Cx
-        G84 = record { locals = List._++_ g79 (List._++_ t80 t62); slots = wi19 ++ w5 }
+        G84 = record { locals = List._++_ g79 (List._++_ t80 t65); slots = wi16 ++ w6 }
 
         abbrev G85 : Row.Cx
-        G85 = record { locals = List._++_ g81 (List._++_ t80 t62); slots = wi19 ++ w5 }
+        G85 = record { locals = List._++_ g79 (List._++_ t80 t65); slots = wi17 ++ w6 }
 
         abbrev G86 : Row.Cx
-        G86 = record { locals = List._++_ g81 (List._++_ t80 t62); slots = wi19 ++ w6 }
+        G86 = record { locals = List._++_ g81 (List._++_ t80 t65); slots = wi17 ++ w6 }
 
         abbrev G87 : Row.Cx
-        G87 = record { locals = List._++_ g82 (List._++_ t1 t62); slots = wi19 ++ w6 }
+        G87 = record { locals = List._++_ g81 (List._++_ t80 t65); slots = wi18 ++ w6 }
 
         abbrev G88 : Row.Cx
-        G88 = record { locals = List._++_ g82 (List._++_ t1 t62); slots = wi19 ++ w7 }
+        G88 = record { locals = List._++_ g82 (List._++_ t83 t65); slots = wi18 ++ w6 }
 
         abbrev G89 : Row.Cx
-        G89 = record { locals = List._++_ g83 (List._++_ t1 t62); slots = wi19 ++ w7 }
+        G89 = record { locals = List._++_ g82 (List._++_ t83 t65); slots = wi19 ++ w6 }
 
         abbrev G90 : Row.Cx
-        G90 = record { locals = List._++_ g83 (List._++_ t1 t62); slots = wi19 ++ w8 }
+        G90 = record { locals = List._++_ g84 (List._++_ t83 t65); slots = wi19 ++ w6 }
 
         abbrev G91 : Row.Cx
-        G91 = record { locals = List._++_ g84 (List._++_ t1 t85); slots = wi19 ++ w8 }
+        G91 = record { locals = List._++_ g84 (List._++_ t83 t65); slots = wi19 ++ w7 }
 
         abbrev G92 : Row.Cx
-        G92 = record { locals = List._++_ g84 (List._++_ t1 t85); slots = wi19 ++ w9 }
+        G92 = record { locals = List._++_ g85 (List._++_ t1 t65); slots = wi19 ++ w7 }
 
         abbrev G93 : Row.Cx
-        G93 = record { locals = List._++_ g86 (List._++_ t1 t85); slots = wi19 ++ w9 }
+        G93 = record { locals = List._++_ g85 (List._++_ t1 t65); slots = wi19 ++ w8 }
 
         abbrev G94 : Row.Cx
-        G94 = record { locals = List._++_ g86 (List._++_ t1 t85); slots = wi19 ++ w10 }
+        G94 = record { locals = List._++_ g86 (List._++_ t1 t65); slots = wi19 ++ w8 }
 
         abbrev G95 : Row.Cx
-        G95 = record { locals = List._++_ g87 (List._++_ t1 t88); slots = wi19 ++ w10 }
+        G95 = record { locals = List._++_ g86 (List._++_ t1 t65); slots = wi19 ++ w9 }
 
         abbrev G96 : Row.Cx
-        G96 = record { locals = List._++_ g87 (List._++_ t1 t88); slots = wi19 ++ w11 }
+        G96 = record { locals = List._++_ g87 (List._++_ t1 t88); slots = wi19 ++ w9 }
 
         abbrev G97 : Row.Cx
-        G97 = record { locals = List._++_ g89 (List._++_ t1 t88); slots = wi19 ++ w11 }
+        G97 = record { locals = List._++_ g87 (List._++_ t1 t88); slots = wi19 ++ w10 }
 
         abbrev G98 : Row.Cx
-        G98 = record { locals = List._++_ g89 (List._++_ t1 t88); slots = wi19 ++ w12 }
+        G98 = record { locals = List._++_ g89 (List._++_ t1 t88); slots = wi19 ++ w10 }
 
         abbrev G99 : Row.Cx
-        G99 = record { locals = List._++_ g90 (List._++_ t1 t91); slots = wi19 ++ w12 }
+        G99 = record { locals = List._++_ g89 (List._++_ t1 t88); slots = wi19 ++ w11 }
 
         abbrev G100 : Row.Cx
-        G100 = record { locals = List._++_ g90 (List._++_ t1 t91); slots = wi19 ++ w13 }
+        G100 = record { locals = List._++_ g90 (List._++_ t1 t91); slots = wi19 ++ w11 }
 
         abbrev G101 : Row.Cx
-        G101 = record { locals = List._++_ g92 (List._++_ t1 t91); slots = wi19 ++ w13 }
+        G101 = record { locals = List._++_ g90 (List._++_ t1 t91); slots = wi19 ++ w12 }
 
         abbrev G102 : Row.Cx
-        G102 = record { locals = List._++_ g92 (List._++_ t1 t91); slots = wi19 ++ w14 }
+        G102 = record { locals = List._++_ g92 (List._++_ t1 t91); slots = wi19 ++ w12 }
 
         abbrev G103 : Row.Cx
-        G103 = record { locals = List._++_ t93 (List._++_ t1 t2); slots = wi0 ++ w14 }
+        G103 = record { locals = List._++_ g92 (List._++_ t1 t91); slots = wi19 ++ w13 }
 
         abbrev G104 : Row.Cx
-        G104 = record { locals = List._++_ t93 (List._++_ t1 t2); slots = wi0 ++ w0 }
+        G104 = record { locals = List._++_ g93 (List._++_ t1 t94); slots = wi19 ++ w13 }
 
         abbrev G105 : Row.Cx
-        G105 = record { locals = List._++_ t94 (List._++_ t1 t2); slots = wi0 ++ w0 }
+        G105 = record { locals = List._++_ g93 (List._++_ t1 t94); slots = wi19 ++ w14 }
 
         abbrev G106 : Row.Cx
-        G106 = record { locals = List._++_ t95 (List._++_ t1 t2); slots = wi0 ++ w0 }
+        G106 = record { locals = List._++_ g95 (List._++_ t1 t94); slots = wi19 ++ w14 }
 
         abbrev G107 : Row.Cx
-        G107 = record { locals = List._++_ t3 (List._++_ t1 t2); slots = wi0 ++ w0 }
+        G107 = record { locals = List._++_ g95 (List._++_ t1 t94); slots = wi19 ++ w15 }
+
+        abbrev G108 : Row.Cx
+        G108 = record { locals = List._++_ t96 (List._++_ t1 t97); slots = wi0 ++ w15 }
+
+        abbrev G109 : Row.Cx
+        G109 = record { locals = List._++_ t96 (List._++_ t1 t97); slots = wi0 ++ w16 }
+
+        abbrev G110 : Row.Cx
+        G110 = record { locals = List._++_ t96 (List._++_ t1 t97); slots = wi0 ++ w17 }
+
+        abbrev G111 : Row.Cx
+        G111 = record { locals = List._++_ t98 (List._++_ t1 t2); slots = wi0 ++ w17 }
+
+        abbrev G112 : Row.Cx
+        G112 = record { locals = List._++_ t98 (List._++_ t1 t2); slots = wi0 ++ w0 }
+
+        abbrev G113 : Row.Cx
+        G113 = record { locals = List._++_ t99 (List._++_ t1 t2); slots = wi0 ++ w0 }
+
+        abbrev G114 : Row.Cx
+        G114 = record { locals = List._++_ t100 (List._++_ t1 t2); slots = wi0 ++ w0 }
+
+        abbrev G115 : Row.Cx
+        G115 = record { locals = List._++_ t101 (List._++_ t1 t2); slots = wi0 ++ w0 }
+
+        abbrev G116 : Row.Cx
+        G116 = record { locals = List._++_ t3 (List._++_ t1 t2); slots = wi0 ++ w0 }
 
         abbrev Δ0 : Typed.Outs
         Δ0 = record { next = Option.none; exits = List.[]; returns = Option.some G1 }
@@ -2681,326 +2870,353 @@ module _ (claims· : Claims) where
           abbrev E : Wp.Env 𝓤 H
           E = Frame.EnvOf 𝓤 H (List._∷_ (Kinds.tyR r) (Enter.tysP ps xs)) bs
 
-          d0 : Typed.Typed 𝓤 H A 𝓣 E G107 b38 Δ0 (at0 bs)
+          d0 : Typed.Typed 𝓤 H A 𝓣 E G116 b41 Δ0 (at0 bs)
           d0 = Typed.t-return 𝓤 H A W 𝓣 E Δ0 tt
 
-          d1 : Typed.Typed 𝓤 H A 𝓣 E G106 b38 Δ0 (at1 bs)
-          d1 = Typed.g-pre 𝓤 H A W 𝓣 E G106 G107 b38 Δ0 (Typed.pass T106 T107 (s105 bs)) (at0 bs) (AtSlots.g-as-by 𝓤 H A W E (λ ρ. Unit) G106 0 (Rows'.whole q2) (λ v. Outcome.struct .make v tt) (Own.told-none 𝓤 H A (G106 .slots)) λ ρ told v b. Apart.folds 𝓤 H A Outcome.the-type (Outcome.struct .Ghost) (Outcome.struct .make) (λ v g. Path'.refl) ρ v tt b) d0
+          d1 : Typed.Typed 𝓤 H A 𝓣 E G115 b41 Δ0 (at1 bs)
+          d1 = Typed.g-pre 𝓤 H A W 𝓣 E G115 G116 b41 Δ0 (Typed.pass T115 T116 (s114 bs)) (at0 bs) (AtSlots.g-as-by 𝓤 H A W E (λ ρ. Unit) G115 0 (Rows'.whole q2) (λ v. Outcome.struct .make v tt) (Own.told-none 𝓤 H A (G115 .slots)) λ ρ told v b. Apart.folds 𝓤 H A Outcome.the-type (Outcome.struct .Ghost) (Outcome.struct .make) (λ v g. Path'.refl) ρ v tt b) d0
 
-          d2 : Typed.Typed 𝓤 H A 𝓣 E G105 b38 Δ0 (at2 bs)
-          d2 = Typed.g-pre 𝓤 H A W 𝓣 E G105 G106 b38 Δ0 (Typed.pass T105 T106 (s104 bs)) (at1 bs) (Scalar.g-room 𝓤 H A W E G105 13 y5 (Local.room-whole 𝓤 H A W q6 y5 Path'.refl)) d1
+          d2 : Typed.Typed 𝓤 H A 𝓣 E G114 b41 Δ0 (at2 bs)
+          d2 = Typed.g-pre 𝓤 H A W 𝓣 E G114 G115 b41 Δ0 (Typed.pass T114 T115 (s113 bs)) (at1 bs) (Scalar.g-room 𝓤 H A W E G114 14 y5 (Local.room-whole 𝓤 H A W q6 y5 Path'.refl)) d1
 
-          d3 : Typed.Typed 𝓤 H A 𝓣 E G104 b39 Δ0 (at3 bs)
-          d3 = Typed.s-seq 𝓤 H A W 𝓣 E G104 G105 b37 b38 Δ0 (Typed.pass T103 T105 (s103 bs)) (at2 bs) (Make.t-struct-make 𝓤 H A W E 𝓣 (Apart.apartT Outcome.the-type) Laws.the-laws Laws.the-plain G104 0 ((Scalar.oFld 13 ((Syntax.field 0) ∷ []) y1 0 (Reads.fieldV Answer.the-type Laws'.the-laws 0)) ∷ (Scalar.oFld 13 ((Syntax.field 1) ∷ []) y4 8 (Reads.fieldV Answer.the-type Laws'.the-laws 1)) ∷ []) (λ m. (Answer.struct .as-values (m .1 .1 .1 .1 .1 .1 .1 .1 .1 .1 .1 .1 .1 .0) .0, (Answer.struct .as-values (m .1 .1 .1 .1 .1 .1 .1 .1 .1 .1 .1 .1 .1 .0) .1 .0, tt))) (Reads'.room-gone 𝓤 H A y26) ((Reads.reads-field 𝓤 H A W Answer.the-type Laws'.the-laws 0 y1 0 Path'.refl, Path'.refl), ((Reads.reads-field 𝓤 H A W Answer.the-type Laws'.the-laws 1 y4 8 Path'.refl, Path'.refl), tt)) Path'.refl (λ u. Path'.refl) λ m. Make.is-wt (Apart.apartT Outcome.the-type) Laws.the-laws (Make.u32-wt, (Make.u64-wt, tt)) (Answer.struct .as-values (m .1 .1 .1 .1 .1 .1 .1 .1 .1 .1 .1 .1 .1 .0) .0, (Answer.struct .as-values (m .1 .1 .1 .1 .1 .1 .1 .1 .1 .1 .1 .1 .1 .0) .1 .0, tt))) d2
+          d3 : Typed.Typed 𝓤 H A 𝓣 E G113 b42 Δ0 (at3 bs)
+          d3 = Typed.s-seq 𝓤 H A W 𝓣 E G113 G114 b40 b41 Δ0 (Typed.pass T113 T114 (s112 bs)) (at2 bs) (Make.t-struct-make 𝓤 H A W E 𝓣 (Apart.apartT Outcome.the-type) Laws.the-laws Laws.the-plain G113 0 ((Scalar.oFld 14 ((Syntax.field 0) ∷ []) y1 0 (Reads.fieldV Answer.the-type Laws'.the-laws 0)) ∷ (Scalar.oFld 14 ((Syntax.field 1) ∷ []) y4 8 (Reads.fieldV Answer.the-type Laws'.the-laws 1)) ∷ []) (λ m. (Answer.struct .as-values (m .1 .1 .1 .1 .1 .1 .1 .1 .1 .1 .1 .1 .1 .1 .0) .0, (Answer.struct .as-values (m .1 .1 .1 .1 .1 .1 .1 .1 .1 .1 .1 .1 .1 .1 .0) .1 .0, tt))) (Reads'.room-gone 𝓤 H A y27) ((Reads.reads-field 𝓤 H A W Answer.the-type Laws'.the-laws 0 y1 0 Path'.refl, Path'.refl), ((Reads.reads-field 𝓤 H A W Answer.the-type Laws'.the-laws 1 y4 8 Path'.refl, Path'.refl), tt)) Path'.refl (λ u. Path'.refl) λ m. Make.is-wt (Apart.apartT Outcome.the-type) Laws.the-laws (Make.u32-wt, (Make.u64-wt, tt)) (Answer.struct .as-values (m .1 .1 .1 .1 .1 .1 .1 .1 .1 .1 .1 .1 .1 .1 .0) .0, (Answer.struct .as-values (m .1 .1 .1 .1 .1 .1 .1 .1 .1 .1 .1 .1 .1 .1 .0) .1 .0, tt))) d2
 
-          d4 : Typed.Typed 𝓤 H A 𝓣 E G103 b39 Δ0 (at4 bs)
-          d4 = Typed.g-pre 𝓤 H A W 𝓣 E G103 G104 b39 Δ0 (λ Ψ. Ψ) (at3 bs) (Lifetime.g-forget 𝓤 H A W E G103 12 Row.dead Path'.refl) d3
+          d4 : Typed.Typed 𝓤 H A 𝓣 E G112 b42 Δ0 (at4 bs)
+          d4 = Typed.g-pre 𝓤 H A W 𝓣 E G112 G113 b42 Δ0 (Typed.pass T111 T113 (s111 bs)) (at3 bs) (Scalar.g-room 𝓤 H A W E G112 13 (Syntax.tyArray y3 4096) (Init.room-arr 𝓤 H A W q0 4096 0 4096 Path'.refl)) d3
 
-          d5 : Typed.Typed 𝓤 H A 𝓣 E G102 b39 Δ0 (at5 bs)
-          d5 = Typed.g-pre 𝓤 H A W 𝓣 E G102 G103 b39 Δ0 (Typed.both (s101 bs)) (at4 bs) (Relend.g-back-sl 𝓤 H A W E (Array'.Array q1 2) G102 38 2 1 12 y28 y24 li0 (λ x. x) (λ x. x) (Reads'.as-is 𝓤 H A (Mut.msleft (Array'.Array q1 2) y24)) (Reads'.as-is 𝓤 H A (Relend.mslice-owed (Array'.Array q1 2) y28 1 12 li0)) Path'.refl Path'.refl) d4
+          d5 : Typed.Typed 𝓤 H A 𝓣 E G111 b42 Δ0 (at5 bs)
+          d5 = Typed.g-pre 𝓤 H A W 𝓣 E G111 G112 b42 Δ0 (λ Ψ. Ψ) (at4 bs) (Lifetime.g-forget 𝓤 H A W E G111 13 Row.dead Path'.refl) d4
 
-          d6 : Typed.Typed 𝓤 H A 𝓣 E G101 b39 Δ0 (at6 bs)
-          d6 = Typed.g-pre 𝓤 H A W 𝓣 E G101 G102 b39 Δ0 (λ Ψ. Ψ) (at5 bs) (Lifetime.g-end 𝓤 H A W E G101 12 Path'.refl) d5
+          d6 : Typed.Typed 𝓤 H A 𝓣 E G110 b42 Δ0 (at6 bs)
+          d6 = Typed.g-pre 𝓤 H A W 𝓣 E G110 G111 b42 Δ0 (Typed.both (s109 bs)) (at5 bs) (Borrow.g-back-arr 𝓤 H A W E q0 G110 41 13 13 4096 y21 (λ x. x) (λ x. x) (Reads'.as-is 𝓤 H A (Mut.msleft q0 y21)) (Reads'.as-is 𝓤 H A (Rows.arr-owed q0 4096 13)) Path'.refl) d5
 
-          d7 : Typed.Typed 𝓤 H A 𝓣 E G100 b39 Δ0 (at7 bs)
-          d7 = Typed.g-pre 𝓤 H A W 𝓣 E G100 G101 b39 Δ0 (Typed.pass T99 T101 (s99 bs)) (at6 bs) (Scalar.g-room 𝓤 H A W E G100 12 (Syntax.tyArray (Syntax.tyArray y1 2) 4096) (Init.room-arr 𝓤 H A W (Array'.Array q1 2) 4096 0 4096 Path'.refl)) d6
+          d7 : Typed.Typed 𝓤 H A 𝓣 E G109 b42 Δ0 (at7 bs)
+          d7 = Typed.g-pre 𝓤 H A W 𝓣 E G109 G110 b42 Δ0 (λ Ψ. Ψ) (at6 bs) (Lifetime.g-end 𝓤 H A W E G109 13 Path'.refl) d6
 
-          d8 : Typed.Typed 𝓤 H A 𝓣 E G99 b39 Δ0 (at8 bs)
-          d8 = Typed.g-pre 𝓤 H A W 𝓣 E G99 G100 b39 Δ0 (λ Ψ. Ψ) (at7 bs) (Lifetime.g-forget 𝓤 H A W E G99 11 Row.dead Path'.refl) d7
+          d8 : Typed.Typed 𝓤 H A 𝓣 E G108 b42 Δ0 (at8 bs)
+          d8 = Typed.g-pre 𝓤 H A W 𝓣 E G108 G109 b42 Δ0 (λ Ψ. Ψ) (at7 bs) (Lifetime.g-forget 𝓤 H A W E G108 12 Row.dead Path'.refl) d7
 
-          d9 : Typed.Typed 𝓤 H A 𝓣 E G98 b39 Δ0 (at9 bs)
-          d9 = Typed.g-pre 𝓤 H A W 𝓣 E G98 G99 b39 Δ0 (Typed.both (s97 bs)) (at8 bs) (Borrow.g-back-arr 𝓤 H A W E (Array'.Array q1 2) G98 36 12 11 4096 y24 (λ x. x) (λ x. x) (Reads'.as-is 𝓤 H A (Mut.msleft (Array'.Array q1 2) y24)) (Reads'.as-is 𝓤 H A (Rows.arr-owed (Array'.Array q1 2) 4096 11)) Path'.refl) d8
+          d9 : Typed.Typed 𝓤 H A 𝓣 E G107 b42 Δ0 (at9 bs)
+          d9 = Typed.g-pre 𝓤 H A W 𝓣 E G107 G108 b42 Δ0 (Typed.both (s106 bs)) (at8 bs) (Relend.g-back-sl 𝓤 H A W E (Array'.Array q1 2) G107 39 2 1 12 y29 y24 li0 (λ x. x) (λ x. x) (Reads'.as-is 𝓤 H A (Mut.msleft (Array'.Array q1 2) y24)) (Reads'.as-is 𝓤 H A (Relend.mslice-owed (Array'.Array q1 2) y29 1 12 li0)) Path'.refl Path'.refl) d8
 
-          d10 : Typed.Typed 𝓤 H A 𝓣 E G97 b39 Δ0 (at10 bs)
-          d10 = Typed.g-pre 𝓤 H A W 𝓣 E G97 G98 b39 Δ0 (λ Ψ. Ψ) (at9 bs) (Lifetime.g-end 𝓤 H A W E G97 11 Path'.refl) d9
+          d10 : Typed.Typed 𝓤 H A 𝓣 E G106 b42 Δ0 (at10 bs)
+          d10 = Typed.g-pre 𝓤 H A W 𝓣 E G106 G107 b42 Δ0 (λ Ψ. Ψ) (at9 bs) (Lifetime.g-end 𝓤 H A W E G106 12 Path'.refl) d9
 
-          d11 : Typed.Typed 𝓤 H A 𝓣 E G96 b39 Δ0 (at11 bs)
-          d11 = Typed.g-pre 𝓤 H A W 𝓣 E G96 G97 b39 Δ0 (Typed.pass T95 T97 (s95 bs)) (at10 bs) (Scalar.g-room 𝓤 H A W E G96 11 (Syntax.tyArray (Syntax.tyArray y1 2) 4096) (Init.room-arr 𝓤 H A W (Array'.Array q1 2) 4096 0 4096 Path'.refl)) d10
+          d11 : Typed.Typed 𝓤 H A 𝓣 E G105 b42 Δ0 (at11 bs)
+          d11 = Typed.g-pre 𝓤 H A W 𝓣 E G105 G106 b42 Δ0 (Typed.pass T104 T106 (s104 bs)) (at10 bs) (Scalar.g-room 𝓤 H A W E G105 12 (Syntax.tyArray (Syntax.tyArray y1 2) 4096) (Init.room-arr 𝓤 H A W (Array'.Array q1 2) 4096 0 4096 Path'.refl)) d10
 
-          d12 : Typed.Typed 𝓤 H A 𝓣 E G95 b39 Δ0 (at12 bs)
-          d12 = Typed.g-pre 𝓤 H A W 𝓣 E G95 G96 b39 Δ0 (λ Ψ. Ψ) (at11 bs) (Lifetime.g-forget 𝓤 H A W E G95 10 Row.dead Path'.refl) d11
+          d12 : Typed.Typed 𝓤 H A 𝓣 E G104 b42 Δ0 (at12 bs)
+          d12 = Typed.g-pre 𝓤 H A W 𝓣 E G104 G105 b42 Δ0 (λ Ψ. Ψ) (at11 bs) (Lifetime.g-forget 𝓤 H A W E G104 11 Row.dead Path'.refl) d11
 
-          d13 : Typed.Typed 𝓤 H A 𝓣 E G94 b39 Δ0 (at13 bs)
-          d13 = Typed.g-pre 𝓤 H A W 𝓣 E G94 G95 b39 Δ0 (Typed.both (s93 bs)) (at12 bs) (Borrow.g-back-arr 𝓤 H A W E (Array'.Array q1 2) G94 34 11 10 4096 y24 (λ x. x) (λ x. x) (Reads'.as-is 𝓤 H A (Mut.msleft (Array'.Array q1 2) y24)) (Reads'.as-is 𝓤 H A (Rows.arr-owed (Array'.Array q1 2) 4096 10)) Path'.refl) d12
+          d13 : Typed.Typed 𝓤 H A 𝓣 E G103 b42 Δ0 (at13 bs)
+          d13 = Typed.g-pre 𝓤 H A W 𝓣 E G103 G104 b42 Δ0 (Typed.both (s102 bs)) (at12 bs) (Borrow.g-back-arr 𝓤 H A W E (Array'.Array q1 2) G103 37 12 11 4096 y24 (λ x. x) (λ x. x) (Reads'.as-is 𝓤 H A (Mut.msleft (Array'.Array q1 2) y24)) (Reads'.as-is 𝓤 H A (Rows.arr-owed (Array'.Array q1 2) 4096 11)) Path'.refl) d12
 
-          d14 : Typed.Typed 𝓤 H A 𝓣 E G93 b39 Δ0 (at14 bs)
-          d14 = Typed.g-pre 𝓤 H A W 𝓣 E G93 G94 b39 Δ0 (λ Ψ. Ψ) (at13 bs) (Lifetime.g-end 𝓤 H A W E G93 10 Path'.refl) d13
+          d14 : Typed.Typed 𝓤 H A 𝓣 E G102 b42 Δ0 (at14 bs)
+          d14 = Typed.g-pre 𝓤 H A W 𝓣 E G102 G103 b42 Δ0 (λ Ψ. Ψ) (at13 bs) (Lifetime.g-end 𝓤 H A W E G102 11 Path'.refl) d13
 
-          d15 : Typed.Typed 𝓤 H A 𝓣 E G92 b39 Δ0 (at15 bs)
-          d15 = Typed.g-pre 𝓤 H A W 𝓣 E G92 G93 b39 Δ0 (Typed.pass T91 T93 (s91 bs)) (at14 bs) (Scalar.g-room 𝓤 H A W E G92 10 (Syntax.tyArray y3 32768) (Init.room-arr 𝓤 H A W q0 32768 0 32768 Path'.refl)) d14
+          d15 : Typed.Typed 𝓤 H A 𝓣 E G101 b42 Δ0 (at15 bs)
+          d15 = Typed.g-pre 𝓤 H A W 𝓣 E G101 G102 b42 Δ0 (Typed.pass T100 T102 (s100 bs)) (at14 bs) (Scalar.g-room 𝓤 H A W E G101 11 (Syntax.tyArray (Syntax.tyArray y1 2) 4096) (Init.room-arr 𝓤 H A W (Array'.Array q1 2) 4096 0 4096 Path'.refl)) d14
 
-          d16 : Typed.Typed 𝓤 H A 𝓣 E G91 b39 Δ0 (at16 bs)
-          d16 = Typed.g-pre 𝓤 H A W 𝓣 E G91 G92 b39 Δ0 (λ Ψ. Ψ) (at15 bs) (Lifetime.g-forget 𝓤 H A W E G91 9 Row.dead Path'.refl) d15
+          d16 : Typed.Typed 𝓤 H A 𝓣 E G100 b42 Δ0 (at16 bs)
+          d16 = Typed.g-pre 𝓤 H A W 𝓣 E G100 G101 b42 Δ0 (λ Ψ. Ψ) (at15 bs) (Lifetime.g-forget 𝓤 H A W E G100 10 Row.dead Path'.refl) d15
 
-          d17 : Typed.Typed 𝓤 H A 𝓣 E G90 b39 Δ0 (at17 bs)
-          d17 = Typed.g-pre 𝓤 H A W 𝓣 E G90 G91 b39 Δ0 (Typed.both (s89 bs)) (at16 bs) (Borrow.g-back-arr 𝓤 H A W E q0 G90 32 10 9 32768 y21 (λ x. x) (λ x. x) (Reads'.as-is 𝓤 H A (Mut.msleft q0 y21)) (Reads'.as-is 𝓤 H A (Rows.arr-owed q0 32768 9)) Path'.refl) d16
+          d17 : Typed.Typed 𝓤 H A 𝓣 E G99 b42 Δ0 (at17 bs)
+          d17 = Typed.g-pre 𝓤 H A W 𝓣 E G99 G100 b42 Δ0 (Typed.both (s98 bs)) (at16 bs) (Borrow.g-back-arr 𝓤 H A W E (Array'.Array q1 2) G99 35 11 10 4096 y24 (λ x. x) (λ x. x) (Reads'.as-is 𝓤 H A (Mut.msleft (Array'.Array q1 2) y24)) (Reads'.as-is 𝓤 H A (Rows.arr-owed (Array'.Array q1 2) 4096 10)) Path'.refl) d16
 
-          d18 : Typed.Typed 𝓤 H A 𝓣 E G89 b39 Δ0 (at18 bs)
-          d18 = Typed.g-pre 𝓤 H A W 𝓣 E G89 G90 b39 Δ0 (λ Ψ. Ψ) (at17 bs) (Lifetime.g-end 𝓤 H A W E G89 9 Path'.refl) d17
+          d18 : Typed.Typed 𝓤 H A 𝓣 E G98 b42 Δ0 (at18 bs)
+          d18 = Typed.g-pre 𝓤 H A W 𝓣 E G98 G99 b42 Δ0 (λ Ψ. Ψ) (at17 bs) (Lifetime.g-end 𝓤 H A W E G98 10 Path'.refl) d17
 
-          d19 : Typed.Typed 𝓤 H A 𝓣 E G88 b39 Δ0 (at19 bs)
-          d19 = Typed.g-pre 𝓤 H A W 𝓣 E G88 G89 b39 Δ0 (Typed.pass T87 T89 (s87 bs)) (at18 bs) (Scalar.g-room 𝓤 H A W E G88 9 (Syntax.tyArray y3 32768) (Init.room-arr 𝓤 H A W q0 32768 0 32768 Path'.refl)) d18
+          d19 : Typed.Typed 𝓤 H A 𝓣 E G97 b42 Δ0 (at19 bs)
+          d19 = Typed.g-pre 𝓤 H A W 𝓣 E G97 G98 b42 Δ0 (Typed.pass T96 T98 (s96 bs)) (at18 bs) (Scalar.g-room 𝓤 H A W E G97 10 (Syntax.tyArray y3 32768) (Init.room-arr 𝓤 H A W q0 32768 0 32768 Path'.refl)) d18
 
-          d20 : Typed.Typed 𝓤 H A 𝓣 E G87 b39 Δ0 (at20 bs)
-          d20 = Typed.g-pre 𝓤 H A W 𝓣 E G87 G88 b39 Δ0 (λ Ψ. Ψ) (at19 bs) (Lifetime.g-forget 𝓤 H A W E G87 8 Row.dead Path'.refl) d19
+          d20 : Typed.Typed 𝓤 H A 𝓣 E G96 b42 Δ0 (at20 bs)
+          d20 = Typed.g-pre 𝓤 H A W 𝓣 E G96 G97 b42 Δ0 (λ Ψ. Ψ) (at19 bs) (Lifetime.g-forget 𝓤 H A W E G96 9 Row.dead Path'.refl) d19
 
-          d21 : Typed.Typed 𝓤 H A 𝓣 E G86 b39 Δ0 (at21 bs)
-          d21 = Typed.g-pre 𝓤 H A W 𝓣 E G86 G87 b39 Δ0 (Typed.both (s85 bs)) (at20 bs) (Borrow.g-back-arr 𝓤 H A W E q0 G86 30 9 8 32768 y21 (λ x. x) (λ x. x) (Reads'.as-is 𝓤 H A (Mut.msleft q0 y21)) (Reads'.as-is 𝓤 H A (Rows.arr-owed q0 32768 8)) Path'.refl) d20
+          d21 : Typed.Typed 𝓤 H A 𝓣 E G95 b42 Δ0 (at21 bs)
+          d21 = Typed.g-pre 𝓤 H A W 𝓣 E G95 G96 b42 Δ0 (Typed.both (s94 bs)) (at20 bs) (Borrow.g-back-arr 𝓤 H A W E q0 G95 33 10 9 32768 y21 (λ x. x) (λ x. x) (Reads'.as-is 𝓤 H A (Mut.msleft q0 y21)) (Reads'.as-is 𝓤 H A (Rows.arr-owed q0 32768 9)) Path'.refl) d20
 
-          d22 : Typed.Typed 𝓤 H A 𝓣 E G85 b39 Δ0 (at22 bs)
-          d22 = Typed.g-pre 𝓤 H A W 𝓣 E G85 G86 b39 Δ0 (λ Ψ. Ψ) (at21 bs) (Lifetime.g-end 𝓤 H A W E G85 8 Path'.refl) d21
+          d22 : Typed.Typed 𝓤 H A 𝓣 E G94 b42 Δ0 (at22 bs)
+          d22 = Typed.g-pre 𝓤 H A W 𝓣 E G94 G95 b42 Δ0 (λ Ψ. Ψ) (at21 bs) (Lifetime.g-end 𝓤 H A W E G94 9 Path'.refl) d21
 
-          d23 : Typed.Typed 𝓤 H A 𝓣 E G84 b39 Δ0 (at23 bs)
-          d23 = Typed.g-pre 𝓤 H A W 𝓣 E G84 G85 b39 Δ0 (Typed.pass T83 T85 (s83 bs)) (at22 bs) (Scalar.g-room 𝓤 H A W E G84 8 (Syntax.tyArray Rec·laws.mir 5000) (Init.room-arr 𝓤 H A W Rec·type.the-row 5000 0 5000 Path'.refl)) d22
+          d23 : Typed.Typed 𝓤 H A 𝓣 E G93 b42 Δ0 (at23 bs)
+          d23 = Typed.g-pre 𝓤 H A W 𝓣 E G93 G94 b42 Δ0 (Typed.pass T92 T94 (s92 bs)) (at22 bs) (Scalar.g-room 𝓤 H A W E G93 9 (Syntax.tyArray y3 32768) (Init.room-arr 𝓤 H A W q0 32768 0 32768 Path'.refl)) d22
 
-          d24 : Typed.Typed 𝓤 H A 𝓣 E G83 b39 Δ0 (at24 bs)
-          d24 = Typed.g-pre 𝓤 H A W 𝓣 E G83 G84 b39 Δ0 (λ Ψ. Ψ) (at23 bs) (Lifetime.g-forget 𝓤 H A W E G83 7 Row.dead Path'.refl) d23
+          d24 : Typed.Typed 𝓤 H A 𝓣 E G92 b42 Δ0 (at24 bs)
+          d24 = Typed.g-pre 𝓤 H A W 𝓣 E G92 G93 b42 Δ0 (λ Ψ. Ψ) (at23 bs) (Lifetime.g-forget 𝓤 H A W E G92 8 Row.dead Path'.refl) d23
 
-          d25 : Typed.Typed 𝓤 H A 𝓣 E G82 b39 Δ0 (at25 bs)
-          d25 = Typed.g-pre 𝓤 H A W 𝓣 E G82 G83 b39 Δ0 (Typed.both (s81 bs)) (at24 bs) (Borrow.g-back-arr 𝓤 H A W E Rec·type.the-row G82 28 8 7 5000 y18 (λ x. x) (λ x. x) (Reads'.as-is 𝓤 H A (Mut.msleft Rec·type.the-row y18)) (Reads'.as-is 𝓤 H A (Rows.arr-owed Rec·type.the-row 5000 7)) Path'.refl) d24
+          d25 : Typed.Typed 𝓤 H A 𝓣 E G91 b42 Δ0 (at25 bs)
+          d25 = Typed.g-pre 𝓤 H A W 𝓣 E G91 G92 b42 Δ0 (Typed.both (s90 bs)) (at24 bs) (Borrow.g-back-arr 𝓤 H A W E q0 G91 31 9 8 32768 y21 (λ x. x) (λ x. x) (Reads'.as-is 𝓤 H A (Mut.msleft q0 y21)) (Reads'.as-is 𝓤 H A (Rows.arr-owed q0 32768 8)) Path'.refl) d24
 
-          d26 : Typed.Typed 𝓤 H A 𝓣 E G81 b39 Δ0 (at26 bs)
-          d26 = Typed.g-pre 𝓤 H A W 𝓣 E G81 G82 b39 Δ0 (λ Ψ. Ψ) (at25 bs) (Lifetime.g-end 𝓤 H A W E G81 7 Path'.refl) d25
+          d26 : Typed.Typed 𝓤 H A 𝓣 E G90 b42 Δ0 (at26 bs)
+          d26 = Typed.g-pre 𝓤 H A W 𝓣 E G90 G91 b42 Δ0 (λ Ψ. Ψ) (at25 bs) (Lifetime.g-end 𝓤 H A W E G90 8 Path'.refl) d25
 
-          d27 : Typed.Typed 𝓤 H A 𝓣 E G80 b39 Δ0 (at27 bs)
-          d27 = Typed.g-pre 𝓤 H A W 𝓣 E G80 G81 b39 Δ0 (Typed.pass T79 T81 (s79 bs)) (at26 bs) (Scalar.g-room 𝓤 H A W E G80 7 (Syntax.tyArray y2 16384) (Init.room-arr 𝓤 H A W q5 16384 0 16384 Path'.refl)) d26
+          d27 : Typed.Typed 𝓤 H A 𝓣 E G89 b42 Δ0 (at27 bs)
+          d27 = Typed.g-pre 𝓤 H A W 𝓣 E G89 G90 b42 Δ0 (Typed.pass T88 T90 (s88 bs)) (at26 bs) (Scalar.g-room 𝓤 H A W E G89 8 (Syntax.tyArray Rec·laws.mir 5000) (Init.room-arr 𝓤 H A W Rec·type.the-row 5000 0 5000 Path'.refl)) d26
 
-          d28 : Typed.Typed 𝓤 H A 𝓣 E G79 b39 Δ0 (at28 bs)
-          d28 = Typed.g-pre 𝓤 H A W 𝓣 E G79 G80 b39 Δ0 (λ Ψ. Ψ) (at27 bs) (Lifetime.g-forget 𝓤 H A W E G79 6 Row.dead Path'.refl) d27
+          d28 : Typed.Typed 𝓤 H A 𝓣 E G88 b42 Δ0 (at28 bs)
+          d28 = Typed.g-pre 𝓤 H A W 𝓣 E G88 G89 b42 Δ0 (λ Ψ. Ψ) (at27 bs) (Lifetime.g-forget 𝓤 H A W E G88 7 Row.dead Path'.refl) d27
 
-          d29 : Typed.Typed 𝓤 H A 𝓣 E G78 b39 Δ0 (at29 bs)
-          d29 = Typed.g-pre 𝓤 H A W 𝓣 E G78 G79 b39 Δ0 (Typed.both (s77 bs)) (at28 bs) (Borrow.g-back-arr 𝓤 H A W E q5 G78 26 7 6 16384 y15 (λ x. x) (λ x. x) (Reads'.as-is 𝓤 H A (Mut.msleft q5 y15)) (Reads'.as-is 𝓤 H A (Rows.arr-owed q5 16384 6)) Path'.refl) d28
+          d29 : Typed.Typed 𝓤 H A 𝓣 E G87 b42 Δ0 (at29 bs)
+          d29 = Typed.g-pre 𝓤 H A W 𝓣 E G87 G88 b42 Δ0 (Typed.both (s86 bs)) (at28 bs) (Borrow.g-back-arr 𝓤 H A W E Rec·type.the-row G87 29 8 7 5000 y18 (λ x. x) (λ x. x) (Reads'.as-is 𝓤 H A (Mut.msleft Rec·type.the-row y18)) (Reads'.as-is 𝓤 H A (Rows.arr-owed Rec·type.the-row 5000 7)) Path'.refl) d28
 
-          d30 : Typed.Typed 𝓤 H A 𝓣 E G77 b39 Δ0 (at30 bs)
-          d30 = Typed.g-pre 𝓤 H A W 𝓣 E G77 G78 b39 Δ0 (λ Ψ. Ψ) (at29 bs) (Lifetime.g-end 𝓤 H A W E G77 6 Path'.refl) d29
+          d30 : Typed.Typed 𝓤 H A 𝓣 E G86 b42 Δ0 (at30 bs)
+          d30 = Typed.g-pre 𝓤 H A W 𝓣 E G86 G87 b42 Δ0 (λ Ψ. Ψ) (at29 bs) (Lifetime.g-end 𝓤 H A W E G86 7 Path'.refl) d29
 
-          d31 : Typed.Typed 𝓤 H A 𝓣 E G76 b39 Δ0 (at31 bs)
-          d31 = Typed.g-pre 𝓤 H A W 𝓣 E G76 G77 b39 Δ0 (Typed.pass T75 T77 (s75 bs)) (at30 bs) (Scalar.g-room 𝓤 H A W E G76 6 (Syntax.tyArray y2 16384) (Init.room-arr 𝓤 H A W q5 16384 0 16384 Path'.refl)) d30
+          d31 : Typed.Typed 𝓤 H A 𝓣 E G85 b42 Δ0 (at31 bs)
+          d31 = Typed.g-pre 𝓤 H A W 𝓣 E G85 G86 b42 Δ0 (Typed.pass T84 T86 (s84 bs)) (at30 bs) (Scalar.g-room 𝓤 H A W E G85 7 (Syntax.tyArray y2 16384) (Init.room-arr 𝓤 H A W q5 16384 0 16384 Path'.refl)) d30
 
-          d32 : Typed.Typed 𝓤 H A 𝓣 E G75 b39 Δ0 (at32 bs)
-          d32 = Typed.g-pre 𝓤 H A W 𝓣 E G75 G76 b39 Δ0 (λ Ψ. Ψ) (at31 bs) (Lifetime.g-forget 𝓤 H A W E G75 5 Row.dead Path'.refl) d31
+          d32 : Typed.Typed 𝓤 H A 𝓣 E G84 b42 Δ0 (at32 bs)
+          d32 = Typed.g-pre 𝓤 H A W 𝓣 E G84 G85 b42 Δ0 (λ Ψ. Ψ) (at31 bs) (Lifetime.g-forget 𝓤 H A W E G84 6 Row.dead Path'.refl) d31
 
-          d33 : Typed.Typed 𝓤 H A 𝓣 E G74 b39 Δ0 (at33 bs)
-          d33 = Typed.g-pre 𝓤 H A W 𝓣 E G74 G75 b39 Δ0 (Typed.both (s73 bs)) (at32 bs) (Borrow.g-back-arr 𝓤 H A W E q5 G74 24 6 5 16384 y15 (λ x. x) (λ x. x) (Reads'.as-is 𝓤 H A (Mut.msleft q5 y15)) (Reads'.as-is 𝓤 H A (Rows.arr-owed q5 16384 5)) Path'.refl) d32
+          d33 : Typed.Typed 𝓤 H A 𝓣 E G83 b42 Δ0 (at33 bs)
+          d33 = Typed.g-pre 𝓤 H A W 𝓣 E G83 G84 b42 Δ0 (Typed.both (s82 bs)) (at32 bs) (Borrow.g-back-arr 𝓤 H A W E q5 G83 27 7 6 16384 y15 (λ x. x) (λ x. x) (Reads'.as-is 𝓤 H A (Mut.msleft q5 y15)) (Reads'.as-is 𝓤 H A (Rows.arr-owed q5 16384 6)) Path'.refl) d32
 
-          d34 : Typed.Typed 𝓤 H A 𝓣 E G73 b39 Δ0 (at34 bs)
-          d34 = Typed.g-pre 𝓤 H A W 𝓣 E G73 G74 b39 Δ0 (λ Ψ. Ψ) (at33 bs) (Lifetime.g-end 𝓤 H A W E G73 5 Path'.refl) d33
+          d34 : Typed.Typed 𝓤 H A 𝓣 E G82 b42 Δ0 (at34 bs)
+          d34 = Typed.g-pre 𝓤 H A W 𝓣 E G82 G83 b42 Δ0 (λ Ψ. Ψ) (at33 bs) (Lifetime.g-end 𝓤 H A W E G82 6 Path'.refl) d33
 
-          d35 : Typed.Typed 𝓤 H A 𝓣 E G72 b39 Δ0 (at35 bs)
-          d35 = Typed.g-pre 𝓤 H A W 𝓣 E G72 G73 b39 Δ0 (Typed.pass T71 T73 (s71 bs)) (at34 bs) (Scalar.g-room 𝓤 H A W E G72 5 (Syntax.tyArray y1 5000) (Init.room-arr 𝓤 H A W q1 5000 0 5000 Path'.refl)) d34
+          d35 : Typed.Typed 𝓤 H A 𝓣 E G81 b42 Δ0 (at35 bs)
+          d35 = Typed.g-pre 𝓤 H A W 𝓣 E G81 G82 b42 Δ0 (Typed.pass T80 T82 (s80 bs)) (at34 bs) (Scalar.g-room 𝓤 H A W E G81 6 (Syntax.tyArray y2 16384) (Init.room-arr 𝓤 H A W q5 16384 0 16384 Path'.refl)) d34
 
-          d36 : Typed.Typed 𝓤 H A 𝓣 E G71 b39 Δ0 (at36 bs)
-          d36 = Typed.g-pre 𝓤 H A W 𝓣 E G71 G72 b39 Δ0 (λ Ψ. Ψ) (at35 bs) (Lifetime.g-forget 𝓤 H A W E G71 4 Row.dead Path'.refl) d35
+          d36 : Typed.Typed 𝓤 H A 𝓣 E G80 b42 Δ0 (at36 bs)
+          d36 = Typed.g-pre 𝓤 H A W 𝓣 E G80 G81 b42 Δ0 (λ Ψ. Ψ) (at35 bs) (Lifetime.g-forget 𝓤 H A W E G80 5 Row.dead Path'.refl) d35
 
-          d37 : Typed.Typed 𝓤 H A 𝓣 E G70 b39 Δ0 (at37 bs)
-          d37 = Typed.g-pre 𝓤 H A W 𝓣 E G70 G71 b39 Δ0 (Typed.both (s69 bs)) (at36 bs) (Borrow.g-back-arr 𝓤 H A W E q1 G70 22 5 4 5000 y12 (λ x. x) (λ x. x) (Reads'.as-is 𝓤 H A (Mut.msleft q1 y12)) (Reads'.as-is 𝓤 H A (Rows.arr-owed q1 5000 4)) Path'.refl) d36
+          d37 : Typed.Typed 𝓤 H A 𝓣 E G79 b42 Δ0 (at37 bs)
+          d37 = Typed.g-pre 𝓤 H A W 𝓣 E G79 G80 b42 Δ0 (Typed.both (s78 bs)) (at36 bs) (Borrow.g-back-arr 𝓤 H A W E q5 G79 25 6 5 16384 y15 (λ x. x) (λ x. x) (Reads'.as-is 𝓤 H A (Mut.msleft q5 y15)) (Reads'.as-is 𝓤 H A (Rows.arr-owed q5 16384 5)) Path'.refl) d36
 
-          d38 : Typed.Typed 𝓤 H A 𝓣 E G69 b39 Δ0 (at38 bs)
-          d38 = Typed.g-pre 𝓤 H A W 𝓣 E G69 G70 b39 Δ0 (λ Ψ. Ψ) (at37 bs) (Lifetime.g-end 𝓤 H A W E G69 4 Path'.refl) d37
+          d38 : Typed.Typed 𝓤 H A 𝓣 E G78 b42 Δ0 (at38 bs)
+          d38 = Typed.g-pre 𝓤 H A W 𝓣 E G78 G79 b42 Δ0 (λ Ψ. Ψ) (at37 bs) (Lifetime.g-end 𝓤 H A W E G78 5 Path'.refl) d37
 
-          d39 : Typed.Typed 𝓤 H A 𝓣 E G68 b39 Δ0 (at39 bs)
-          d39 = Typed.g-pre 𝓤 H A W 𝓣 E G68 G69 b39 Δ0 (Typed.pass T67 T69 (s67 bs)) (at38 bs) (Scalar.g-room 𝓤 H A W E G68 4 (Syntax.tyArray y0 5002) (Init.room-arr 𝓤 H A W q4 5002 0 5002 Path'.refl)) d38
+          d39 : Typed.Typed 𝓤 H A 𝓣 E G77 b42 Δ0 (at39 bs)
+          d39 = Typed.g-pre 𝓤 H A W 𝓣 E G77 G78 b42 Δ0 (Typed.pass T76 T78 (s76 bs)) (at38 bs) (Scalar.g-room 𝓤 H A W E G77 5 (Syntax.tyArray y1 5000) (Init.room-arr 𝓤 H A W q1 5000 0 5000 Path'.refl)) d38
 
-          d40 : Typed.Typed 𝓤 H A 𝓣 E G67 b39 Δ0 (at40 bs)
-          d40 = Typed.g-pre 𝓤 H A W 𝓣 E G67 G68 b39 Δ0 (λ Ψ. Ψ) (at39 bs) (Lifetime.g-forget 𝓤 H A W E G67 3 Row.dead Path'.refl) d39
+          d40 : Typed.Typed 𝓤 H A 𝓣 E G76 b42 Δ0 (at40 bs)
+          d40 = Typed.g-pre 𝓤 H A W 𝓣 E G76 G77 b42 Δ0 (λ Ψ. Ψ) (at39 bs) (Lifetime.g-forget 𝓤 H A W E G76 4 Row.dead Path'.refl) d39
 
-          d41 : Typed.Typed 𝓤 H A 𝓣 E G66 b39 Δ0 (at41 bs)
-          d41 = Typed.g-pre 𝓤 H A W 𝓣 E G66 G67 b39 Δ0 (Typed.both (s65 bs)) (at40 bs) (Borrow.g-back-arr 𝓤 H A W E q4 G66 20 4 3 5002 y8 (λ x. x) (λ x. x) (Reads'.as-is 𝓤 H A (Mut.msleft q4 y8)) (Reads'.as-is 𝓤 H A (Rows.arr-owed q4 5002 3)) Path'.refl) d40
+          d41 : Typed.Typed 𝓤 H A 𝓣 E G75 b42 Δ0 (at41 bs)
+          d41 = Typed.g-pre 𝓤 H A W 𝓣 E G75 G76 b42 Δ0 (Typed.both (s74 bs)) (at40 bs) (Borrow.g-back-arr 𝓤 H A W E q1 G75 23 5 4 5000 y12 (λ x. x) (λ x. x) (Reads'.as-is 𝓤 H A (Mut.msleft q1 y12)) (Reads'.as-is 𝓤 H A (Rows.arr-owed q1 5000 4)) Path'.refl) d40
 
-          d42 : Typed.Typed 𝓤 H A 𝓣 E G65 b39 Δ0 (at42 bs)
-          d42 = Typed.g-pre 𝓤 H A W 𝓣 E G65 G66 b39 Δ0 (λ Ψ. Ψ) (at41 bs) (Lifetime.g-end 𝓤 H A W E G65 3 Path'.refl) d41
+          d42 : Typed.Typed 𝓤 H A 𝓣 E G74 b42 Δ0 (at42 bs)
+          d42 = Typed.g-pre 𝓤 H A W 𝓣 E G74 G75 b42 Δ0 (λ Ψ. Ψ) (at41 bs) (Lifetime.g-end 𝓤 H A W E G74 4 Path'.refl) d41
 
-          d43 : Typed.Typed 𝓤 H A 𝓣 E G64 b39 Δ0 (at43 bs)
-          d43 = Typed.g-pre 𝓤 H A W 𝓣 E G64 G65 b39 Δ0 (Typed.pass T63 T65 (s63 bs)) (at42 bs) (Scalar.g-room 𝓤 H A W E G64 3 (Syntax.tyArray y0 5001) (Init.room-arr 𝓤 H A W q4 5001 0 5001 Path'.refl)) d42
+          d43 : Typed.Typed 𝓤 H A 𝓣 E G73 b42 Δ0 (at43 bs)
+          d43 = Typed.g-pre 𝓤 H A W 𝓣 E G73 G74 b42 Δ0 (Typed.pass T72 T74 (s72 bs)) (at42 bs) (Scalar.g-room 𝓤 H A W E G73 4 (Syntax.tyArray y0 5002) (Init.room-arr 𝓤 H A W q4 5002 0 5002 Path'.refl)) d42
 
-          d44 : Typed.Typed 𝓤 H A 𝓣 E G63 b39 Δ0 (at44 bs)
-          d44 = Typed.g-pre 𝓤 H A W 𝓣 E G63 G64 b39 Δ0 (λ Ψ. Ψ) (at43 bs) (Lifetime.g-forget 𝓤 H A W E G63 2 Row.dead Path'.refl) d43
+          d44 : Typed.Typed 𝓤 H A 𝓣 E G72 b42 Δ0 (at44 bs)
+          d44 = Typed.g-pre 𝓤 H A W 𝓣 E G72 G73 b42 Δ0 (λ Ψ. Ψ) (at43 bs) (Lifetime.g-forget 𝓤 H A W E G72 3 Row.dead Path'.refl) d43
 
-          d45 : Typed.Typed 𝓤 H A 𝓣 E G62 b39 Δ0 (at45 bs)
-          d45 = Typed.g-pre 𝓤 H A W 𝓣 E G62 G63 b39 Δ0 (Typed.both (s61 bs)) (at44 bs) (Borrow.g-back-arr 𝓤 H A W E q4 G62 18 3 2 5001 y8 (λ x. x) (λ x. x) (Reads'.as-is 𝓤 H A (Mut.msleft q4 y8)) (Reads'.as-is 𝓤 H A (Rows.arr-owed q4 5001 2)) Path'.refl) d44
+          d45 : Typed.Typed 𝓤 H A 𝓣 E G71 b42 Δ0 (at45 bs)
+          d45 = Typed.g-pre 𝓤 H A W 𝓣 E G71 G72 b42 Δ0 (Typed.both (s70 bs)) (at44 bs) (Borrow.g-back-arr 𝓤 H A W E q4 G71 21 4 3 5002 y8 (λ x. x) (λ x. x) (Reads'.as-is 𝓤 H A (Mut.msleft q4 y8)) (Reads'.as-is 𝓤 H A (Rows.arr-owed q4 5002 3)) Path'.refl) d44
 
-          d46 : Typed.Typed 𝓤 H A 𝓣 E G61 b39 Δ0 (at46 bs)
-          d46 = Typed.g-pre 𝓤 H A W 𝓣 E G61 G62 b39 Δ0 (λ Ψ. Ψ) (at45 bs) (Lifetime.g-end 𝓤 H A W E G61 2 Path'.refl) d45
+          d46 : Typed.Typed 𝓤 H A 𝓣 E G70 b42 Δ0 (at46 bs)
+          d46 = Typed.g-pre 𝓤 H A W 𝓣 E G70 G71 b42 Δ0 (λ Ψ. Ψ) (at45 bs) (Lifetime.g-end 𝓤 H A W E G70 3 Path'.refl) d45
 
-          d47 : Typed.Typed 𝓤 H A 𝓣 E G60 b39 Δ0 (at47 bs)
-          d47 = Typed.g-pre 𝓤 H A W 𝓣 E G60 G61 b39 Δ0 (Typed.pass T60 T61 (s59 bs)) (at46 bs) (Scalar.g-room 𝓤 H A W E G60 16 y6 (Local.room-whole 𝓤 H A W q3 y6 Path'.refl)) d46
+          d47 : Typed.Typed 𝓤 H A 𝓣 E G69 b42 Δ0 (at47 bs)
+          d47 = Typed.g-pre 𝓤 H A W 𝓣 E G69 G70 b42 Δ0 (Typed.pass T68 T70 (s68 bs)) (at46 bs) (Scalar.g-room 𝓤 H A W E G69 3 (Syntax.tyArray y0 5001) (Init.room-arr 𝓤 H A W q4 5001 0 5001 Path'.refl)) d46
 
-          d48 : Typed.Typed 𝓤 H A 𝓣 E G59 b40 Δ0 (at48 bs)
-          d48 = Typed.s-seq 𝓤 H A W 𝓣 E G59 G60 b36 b39 Δ0 (Typed.both (s58 bs)) (at47 bs) (Plain.t-call-plain 𝓤 H A W 𝓣 12 ps·3 r·3 (claims· .6) (claims· .7) "longdust::calls::process::process" (known .3) E (λ pos β. β) G59 (record { pos = 1; ty = y27; ref = λ x. x }, (record { pos = 16; st = List.[]; d = 0; at = λ x. x }, (record { pos = 18; ty = y8; ref = λ x. x }, (record { pos = 20; ty = y8; ref = λ x. x }, (record { pos = 22; ty = y12; ref = λ x. x }, (record { pos = 24; ty = y15; ref = λ x. x }, (record { pos = 26; ty = y15; ref = λ x. x }, (record { pos = 28; ty = y18; ref = λ x. x }, (record { pos = 30; ty = y21; ref = λ x. x }, (record { pos = 32; ty = y21; ref = λ x. x }, (record { pos = 34; ty = y24; ref = λ x. x }, (record { pos = 36; ty = y24; ref = λ x. x }, (record { pos = 38; ty = y24; ref = λ x. x }, tt))))))))))))) 13 (0 ∷ 2 ∷ 3 ∷ 4 ∷ 5 ∷ 6 ∷ 7 ∷ 8 ∷ 9 ∷ 10 ∷ 11 ∷ 12 ∷ []) (Call.sub-id 𝓤 H A W (G59 .slots)) (ShrSlice.spares-sslice 𝓤 H A W q0 y27 0, Shared.reads-sslice 𝓤 H A W q0 y27 0, Path'.refl, ((Yields.yields-copy 𝓤 H A W (λ ρ. Unit) q3 Path'.refl (Copies.cStruct LongdustOptions.the-type Laws''.the-laws Laws''.the-copy .copy 𝓤 H A W) (Rows'.whole q3) (λ x. x) (λ x. x) (λ ρ told. Local.mem-whole 𝓤 H A W q3 ρ) λ ρ told. Local.whole-mem 𝓤 H A W q3 ρ, Path'.refl), (Reads'.as-is 𝓤 H A (Mut.mslice q4 y8 2), Mut.reads-mslice 𝓤 H A W q4 y8 2, Path'.refl, (Reads'.as-is 𝓤 H A (Mut.mslice q4 y8 3), Mut.reads-mslice 𝓤 H A W q4 y8 3, Path'.refl, (Reads'.as-is 𝓤 H A (Mut.mslice q1 y12 4), Mut.reads-mslice 𝓤 H A W q1 y12 4, Path'.refl, (Reads'.as-is 𝓤 H A (Mut.mslice q5 y15 5), Mut.reads-mslice 𝓤 H A W q5 y15 5, Path'.refl, (Reads'.as-is 𝓤 H A (Mut.mslice q5 y15 6), Mut.reads-mslice 𝓤 H A W q5 y15 6, Path'.refl, (Reads'.as-is 𝓤 H A (Mut.mslice Rec·type.the-row y18 7), Mut.reads-mslice 𝓤 H A W Rec·type.the-row y18 7, Path'.refl, (Reads'.as-is 𝓤 H A (Mut.mslice q0 y21 8), Mut.reads-mslice 𝓤 H A W q0 y21 8, Path'.refl, (Reads'.as-is 𝓤 H A (Mut.mslice q0 y21 9), Mut.reads-mslice 𝓤 H A W q0 y21 9, Path'.refl, (Reads'.as-is 𝓤 H A (Mut.mslice (Array'.Array q1 2) y24 10), Mut.reads-mslice 𝓤 H A W (Array'.Array q1 2) y24 10, Path'.refl, (Reads'.as-is 𝓤 H A (Mut.mslice (Array'.Array q1 2) y24 11), Mut.reads-mslice 𝓤 H A W (Array'.Array q1 2) y24 11, Path'.refl, (Reads'.as-is 𝓤 H A (Mut.mslice (Array'.Array q1 2) y24 12), Mut.reads-mslice 𝓤 H A W (Array'.Array q1 2) y24 12, Path'.refl, tt))))))))))))) (Reads'.room-gone 𝓤 H A y5) (tt, (tt, (tt, (tt, (tt, (tt, (tt, (tt, (tt, (tt, (tt, (tt, tt)))))))))))) Path'.refl) d47
+          d48 : Typed.Typed 𝓤 H A 𝓣 E G68 b42 Δ0 (at48 bs)
+          d48 = Typed.g-pre 𝓤 H A W 𝓣 E G68 G69 b42 Δ0 (λ Ψ. Ψ) (at47 bs) (Lifetime.g-forget 𝓤 H A W E G68 2 Row.dead Path'.refl) d47
 
-          d49 : Typed.Typed 𝓤 H A 𝓣 E G58 b41 Δ0 (at49 bs)
-          d49 = Typed.s-seq 𝓤 H A W 𝓣 E G58 G59 b35 b40 Δ0 (Typed.ask (s57 bs)) (at48 bs) (Relend.t-sl-aggregate 𝓤 H A W E (Array'.Array q1 2) 𝓣 (Relend.asMut (Array'.Array q1 2)) G58 37 38 12 y24 y24 (λ x. x) (Scalar.oFld 2 ((Syntax.field 1) ∷ []) y4 8 λ v. Shared.lenV (v .0)) (Reads'.as-is 𝓤 H A (Relend.msptr (Array'.Array q1 2) y24 12)) (Reads'.room-gone 𝓤 H A y25) (Relend.reads-owed-len 𝓤 H A W (Array'.Array q1 2) y28 1 12 li0 8 Path'.refl, Path'.refl) Path'.refl Path'.refl λ b o k. tt) d48
+          d49 : Typed.Typed 𝓤 H A 𝓣 E G67 b42 Δ0 (at49 bs)
+          d49 = Typed.g-pre 𝓤 H A W 𝓣 E G67 G68 b42 Δ0 (Typed.both (s66 bs)) (at48 bs) (Borrow.g-back-arr 𝓤 H A W E q4 G67 19 3 2 5001 y8 (λ x. x) (λ x. x) (Reads'.as-is 𝓤 H A (Mut.msleft q4 y8)) (Reads'.as-is 𝓤 H A (Rows.arr-owed q4 5001 2)) Path'.refl) d48
 
-          d50 : Typed.Typed 𝓤 H A 𝓣 E G57 b42 Δ0 (at50 bs)
-          d50 = Typed.s-seq 𝓤 H A W 𝓣 E G57 G58 b34 b41 Δ0 (Typed.give (s56 bs)) (at49 bs) (Relend.t-sl-relend 𝓤 H A W E (Array'.Array q1 2) 𝓣 G57 2 37 1 12 y28 y24 li0 0 (λ x. x) (Reads'.as-is 𝓤 H A (Mut.mslice (Array'.Array q1 2) y28 1)) (Reads'.room-gone 𝓤 H A y24) Path'.refl tt Path'.refl Path'.refl Path'.refl λ b o. tt) d49
+          d50 : Typed.Typed 𝓤 H A 𝓣 E G66 b42 Δ0 (at50 bs)
+          d50 = Typed.g-pre 𝓤 H A W 𝓣 E G66 G67 b42 Δ0 (λ Ψ. Ψ) (at49 bs) (Lifetime.g-end 𝓤 H A W E G66 2 Path'.refl) d49
 
-          d51 : Typed.Typed 𝓤 H A 𝓣 E G56 b42 Δ0 (at51 bs)
-          d51 = Typed.g-pre 𝓤 H A W 𝓣 E G56 G57 b42 Δ0 (λ Ψ. Ψ) (at50 bs) (Lifetime.g-begin 𝓤 H A W E G56 12 (tt, (tt, (tt, (tt, (tt, (tt, (tt, (tt, (tt, (tt, (tt, (tt, (tt, (tt, (tt, (tt, (tt, (tt, (tt, (tt, (tt, (tt, (tt, (tt, (tt, (tt, (tt, (tt, (tt, (tt, (tt, (tt, (tt, (tt, (tt, (tt, (tt, (tt, (tt, tt)))))))))))))))))))))))))))))))))))))))) d50
+          d51 : Typed.Typed 𝓤 H A 𝓣 E G65 b42 Δ0 (at51 bs)
+          d51 = Typed.g-pre 𝓤 H A W 𝓣 E G65 G66 b42 Δ0 (Typed.pass T65 T66 (s64 bs)) (at50 bs) (Scalar.g-room 𝓤 H A W E G65 17 y6 (Local.room-whole 𝓤 H A W q3 y6 Path'.refl)) d50
 
-          d52 : Typed.Typed 𝓤 H A 𝓣 E G55 b43 Δ0 (at52 bs)
-          d52 = Typed.s-seq 𝓤 H A W 𝓣 E G55 G56 b33 b42 Δ0 (Typed.ask (s54 bs)) (at51 bs) (Relend.t-sl-aggregate 𝓤 H A W E (Array'.Array q1 2) 𝓣 (Relend.asMut (Array'.Array q1 2)) G55 35 36 11 y23 y24 (λ x. x) (Scalar.oBig Syntax.w64 4096) (Reads'.as-is 𝓤 H A (Relend.msptr (Array'.Array q1 2) y23 11)) (Reads'.room-gone 𝓤 H A y25) record { lower = record { fits = Dec'.lit< tt } } Path'.refl Path'.refl λ b o k. tt) d51
+          d52 : Typed.Typed 𝓤 H A 𝓣 E G64 b43 Δ0 (at52 bs)
+          d52 = Typed.s-seq 𝓤 H A W 𝓣 E G64 G65 b39 b42 Δ0 (Typed.both (s63 bs)) (at51 bs) (Plain.t-call-plain 𝓤 H A W 𝓣 13 ps·3 r·3 (claims· .6) (claims· .7) "longdust::calls::process::process" (known .3) E (λ pos β. β) G64 (record { pos = 1; ty = y28; ref = λ x. x }, (record { pos = 17; st = List.[]; d = 0; at = λ x. x }, (record { pos = 19; ty = y8; ref = λ x. x }, (record { pos = 21; ty = y8; ref = λ x. x }, (record { pos = 23; ty = y12; ref = λ x. x }, (record { pos = 25; ty = y15; ref = λ x. x }, (record { pos = 27; ty = y15; ref = λ x. x }, (record { pos = 29; ty = y18; ref = λ x. x }, (record { pos = 31; ty = y21; ref = λ x. x }, (record { pos = 33; ty = y21; ref = λ x. x }, (record { pos = 35; ty = y24; ref = λ x. x }, (record { pos = 37; ty = y24; ref = λ x. x }, (record { pos = 39; ty = y24; ref = λ x. x }, (record { pos = 41; ty = y21; ref = λ x. x }, tt)))))))))))))) 14 (0 ∷ 2 ∷ 3 ∷ 4 ∷ 5 ∷ 6 ∷ 7 ∷ 8 ∷ 9 ∷ 10 ∷ 11 ∷ 12 ∷ 13 ∷ []) (Call.sub-id 𝓤 H A W (G64 .slots)) (ShrSlice.spares-sslice 𝓤 H A W q0 y28 0, Shared.reads-sslice 𝓤 H A W q0 y28 0, Path'.refl, ((Yields.yields-copy 𝓤 H A W (λ ρ. Unit) q3 Path'.refl (Copies.cStruct LongdustOptions.the-type Laws''.the-laws Laws''.the-copy .copy 𝓤 H A W) (Rows'.whole q3) (λ x. x) (λ x. x) (λ ρ told. Local.mem-whole 𝓤 H A W q3 ρ) λ ρ told. Local.whole-mem 𝓤 H A W q3 ρ, Path'.refl), (Reads'.as-is 𝓤 H A (Mut.mslice q4 y8 2), Mut.reads-mslice 𝓤 H A W q4 y8 2, Path'.refl, (Reads'.as-is 𝓤 H A (Mut.mslice q4 y8 3), Mut.reads-mslice 𝓤 H A W q4 y8 3, Path'.refl, (Reads'.as-is 𝓤 H A (Mut.mslice q1 y12 4), Mut.reads-mslice 𝓤 H A W q1 y12 4, Path'.refl, (Reads'.as-is 𝓤 H A (Mut.mslice q5 y15 5), Mut.reads-mslice 𝓤 H A W q5 y15 5, Path'.refl, (Reads'.as-is 𝓤 H A (Mut.mslice q5 y15 6), Mut.reads-mslice 𝓤 H A W q5 y15 6, Path'.refl, (Reads'.as-is 𝓤 H A (Mut.mslice Rec·type.the-row y18 7), Mut.reads-mslice 𝓤 H A W Rec·type.the-row y18 7, Path'.refl, (Reads'.as-is 𝓤 H A (Mut.mslice q0 y21 8), Mut.reads-mslice 𝓤 H A W q0 y21 8, Path'.refl, (Reads'.as-is 𝓤 H A (Mut.mslice q0 y21 9), Mut.reads-mslice 𝓤 H A W q0 y21 9, Path'.refl, (Reads'.as-is 𝓤 H A (Mut.mslice (Array'.Array q1 2) y24 10), Mut.reads-mslice 𝓤 H A W (Array'.Array q1 2) y24 10, Path'.refl, (Reads'.as-is 𝓤 H A (Mut.mslice (Array'.Array q1 2) y24 11), Mut.reads-mslice 𝓤 H A W (Array'.Array q1 2) y24 11, Path'.refl, (Reads'.as-is 𝓤 H A (Mut.mslice (Array'.Array q1 2) y24 12), Mut.reads-mslice 𝓤 H A W (Array'.Array q1 2) y24 12, Path'.refl, (Reads'.as-is 𝓤 H A (Mut.mslice q0 y21 13), Mut.reads-mslice 𝓤 H A W q0 y21 13, Path'.refl, tt)))))))))))))) (Reads'.room-gone 𝓤 H A y5) (tt, (tt, (tt, (tt, (tt, (tt, (tt, (tt, (tt, (tt, (tt, (tt, (tt, tt))))))))))))) Path'.refl) d51
 
-          d53 : Typed.Typed 𝓤 H A 𝓣 E G54 b44 Δ0 (at53 bs)
-          d53 = Typed.s-seq 𝓤 H A W 𝓣 E G54 G55 b32 b43 Δ0 (Typed.give (s53 bs)) (at52 bs) (Borrow.t-arr-borrow 𝓤 H A W E 𝓣 (Array'.Array q1 2) G54 12 35 4096 11 y23 (λ x. x) (Reads'.as-is 𝓤 H A (Rows.arrF (Array'.Array q1 2) 4096 0)) (Reads'.room-gone 𝓤 H A y23) Path'.refl (λ b o. tt) (Dec'.lit< tt, Dec'.lit< tt)) d52
+          d53 : Typed.Typed 𝓤 H A 𝓣 E G63 b44 Δ0 (at53 bs)
+          d53 = Typed.s-seq 𝓤 H A W 𝓣 E G63 G64 b38 b43 Δ0 (Typed.ask (s62 bs)) (at52 bs) (Relend.t-sl-aggregate 𝓤 H A W E q0 𝓣 (Relend.asMut q0) G63 40 41 13 y26 y21 (λ x. x) (Scalar.oBig Syntax.w64 4096) (Reads'.as-is 𝓤 H A (Relend.msptr q0 y26 13)) (Reads'.room-gone 𝓤 H A y22) record { lower = record { fits = Dec'.lit< tt } } Path'.refl Path'.refl λ b o k. tt) d52
 
-          d54 : Typed.Typed 𝓤 H A 𝓣 E G53 b44 Δ0 (at54 bs)
-          d54 = Typed.g-pre 𝓤 H A W 𝓣 E G53 G54 b44 Δ0 (λ Ψ. Ψ) (at53 bs) (Lifetime.g-begin 𝓤 H A W E G53 11 (tt, (tt, (tt, (tt, (tt, (tt, (tt, (tt, (tt, (tt, (tt, (tt, (tt, (tt, (tt, (tt, (tt, (tt, (tt, (tt, (tt, (tt, (tt, (tt, (tt, (tt, (tt, (tt, (tt, (tt, (tt, (tt, (tt, (tt, (tt, (tt, (tt, (tt, (tt, tt)))))))))))))))))))))))))))))))))))))))) d53
+          d54 : Typed.Typed 𝓤 H A 𝓣 E G62 b45 Δ0 (at54 bs)
+          d54 = Typed.s-seq 𝓤 H A W 𝓣 E G62 G63 b37 b44 Δ0 (Typed.give (s61 bs)) (at53 bs) (Borrow.t-arr-borrow 𝓤 H A W E 𝓣 q0 G62 13 40 4096 13 y26 (λ x. x) (Reads'.as-is 𝓤 H A (Rows.arrF q0 4096 0)) (Reads'.room-gone 𝓤 H A y26) Path'.refl (λ b o. tt) (Dec'.lit< tt, Dec'.lit< tt)) d53
 
-          d55 : Typed.Typed 𝓤 H A 𝓣 E G52 b45 Δ0 (at55 bs)
-          d55 = Typed.s-seq 𝓤 H A W 𝓣 E G52 G53 b31 b44 Δ0 (Typed.ask (s51 bs)) (at54 bs) (Relend.t-sl-aggregate 𝓤 H A W E (Array'.Array q1 2) 𝓣 (Relend.asMut (Array'.Array q1 2)) G52 33 34 10 y23 y24 (λ x. x) (Scalar.oBig Syntax.w64 4096) (Reads'.as-is 𝓤 H A (Relend.msptr (Array'.Array q1 2) y23 10)) (Reads'.room-gone 𝓤 H A y25) record { lower = record { fits = Dec'.lit< tt } } Path'.refl Path'.refl λ b o k. tt) d54
+          d55 : Typed.Typed 𝓤 H A 𝓣 E G61 b45 Δ0 (at55 bs)
+          d55 = Typed.g-pre 𝓤 H A W 𝓣 E G61 G62 b45 Δ0 (λ Ψ. Ψ) (at54 bs) (Lifetime.g-begin 𝓤 H A W E G61 13 (tt, (tt, ((tt, tt), (tt, (tt, (tt, (tt, (tt, (tt, (tt, (tt, (tt, (tt, (tt, (tt, (tt, (tt, (tt, (tt, (tt, (tt, (tt, (tt, (tt, (tt, (tt, (tt, (tt, (tt, (tt, (tt, (tt, (tt, (tt, (tt, (tt, (tt, (tt, (tt, (tt, (tt, (tt, tt))))))))))))))))))))))))))))))))))))))))))) d54
 
-          d56 : Typed.Typed 𝓤 H A 𝓣 E G51 b46 Δ0 (at56 bs)
-          d56 = Typed.s-seq 𝓤 H A W 𝓣 E G51 G52 b30 b45 Δ0 (Typed.give (s50 bs)) (at55 bs) (Borrow.t-arr-borrow 𝓤 H A W E 𝓣 (Array'.Array q1 2) G51 11 33 4096 10 y23 (λ x. x) (Reads'.as-is 𝓤 H A (Rows.arrF (Array'.Array q1 2) 4096 0)) (Reads'.room-gone 𝓤 H A y23) Path'.refl (λ b o. tt) (Dec'.lit< tt, Dec'.lit< tt)) d55
+          d56 : Typed.Typed 𝓤 H A 𝓣 E G60 b46 Δ0 (at56 bs)
+          d56 = Typed.s-seq 𝓤 H A W 𝓣 E G60 G61 b36 b45 Δ0 (Typed.ask (s59 bs)) (at55 bs) (Relend.t-sl-aggregate 𝓤 H A W E (Array'.Array q1 2) 𝓣 (Relend.asMut (Array'.Array q1 2)) G60 38 39 12 y24 y24 (λ x. x) (Scalar.oFld 2 ((Syntax.field 1) ∷ []) y4 8 λ v. Shared.lenV (v .0)) (Reads'.as-is 𝓤 H A (Relend.msptr (Array'.Array q1 2) y24 12)) (Reads'.room-gone 𝓤 H A y25) (Relend.reads-owed-len 𝓤 H A W (Array'.Array q1 2) y29 1 12 li0 8 Path'.refl, Path'.refl) Path'.refl Path'.refl λ b o k. tt) d55
 
-          d57 : Typed.Typed 𝓤 H A 𝓣 E G50 b46 Δ0 (at57 bs)
-          d57 = Typed.g-pre 𝓤 H A W 𝓣 E G50 G51 b46 Δ0 (λ Ψ. Ψ) (at56 bs) (Lifetime.g-begin 𝓤 H A W E G50 10 (tt, (tt, (tt, (tt, (tt, (tt, (tt, (tt, (tt, (tt, (tt, (tt, (tt, (tt, (tt, (tt, (tt, (tt, (tt, (tt, (tt, (tt, (tt, (tt, (tt, (tt, (tt, (tt, (tt, (tt, (tt, (tt, (tt, (tt, (tt, (tt, (tt, (tt, (tt, tt)))))))))))))))))))))))))))))))))))))))) d56
+          d57 : Typed.Typed 𝓤 H A 𝓣 E G59 b47 Δ0 (at57 bs)
+          d57 = Typed.s-seq 𝓤 H A W 𝓣 E G59 G60 b35 b46 Δ0 (Typed.give (s58 bs)) (at56 bs) (Relend.t-sl-relend 𝓤 H A W E (Array'.Array q1 2) 𝓣 G59 2 38 1 12 y29 y24 li0 0 (λ x. x) (Reads'.as-is 𝓤 H A (Mut.mslice (Array'.Array q1 2) y29 1)) (Reads'.room-gone 𝓤 H A y24) Path'.refl tt Path'.refl Path'.refl Path'.refl λ b o. tt) d56
 
-          d58 : Typed.Typed 𝓤 H A 𝓣 E G49 b47 Δ0 (at58 bs)
-          d58 = Typed.s-seq 𝓤 H A W 𝓣 E G49 G50 b29 b46 Δ0 (Typed.ask (s48 bs)) (at57 bs) (Relend.t-sl-aggregate 𝓤 H A W E q0 𝓣 (Relend.asMut q0) G49 31 32 9 y20 y21 (λ x. x) (Scalar.oBig Syntax.w64 32768) (Reads'.as-is 𝓤 H A (Relend.msptr q0 y20 9)) (Reads'.room-gone 𝓤 H A y22) record { lower = record { fits = Dec'.lit< tt } } Path'.refl Path'.refl λ b o k. tt) d57
+          d58 : Typed.Typed 𝓤 H A 𝓣 E G58 b47 Δ0 (at58 bs)
+          d58 = Typed.g-pre 𝓤 H A W 𝓣 E G58 G59 b47 Δ0 (λ Ψ. Ψ) (at57 bs) (Lifetime.g-begin 𝓤 H A W E G58 12 (tt, (tt, (tt, (tt, (tt, (tt, (tt, (tt, (tt, (tt, (tt, (tt, (tt, (tt, (tt, (tt, (tt, (tt, (tt, (tt, (tt, (tt, (tt, (tt, (tt, (tt, (tt, (tt, (tt, (tt, (tt, (tt, (tt, (tt, (tt, (tt, (tt, (tt, (tt, (tt, (tt, (tt, tt))))))))))))))))))))))))))))))))))))))))))) d57
 
-          d59 : Typed.Typed 𝓤 H A 𝓣 E G48 b48 Δ0 (at59 bs)
-          d59 = Typed.s-seq 𝓤 H A W 𝓣 E G48 G49 b28 b47 Δ0 (Typed.give (s47 bs)) (at58 bs) (Borrow.t-arr-borrow 𝓤 H A W E 𝓣 q0 G48 10 31 32768 9 y20 (λ x. x) (Reads'.as-is 𝓤 H A (Rows.arrF q0 32768 0)) (Reads'.room-gone 𝓤 H A y20) Path'.refl (λ b o. tt) (Dec'.lit< tt, Dec'.lit< tt)) d58
+          d59 : Typed.Typed 𝓤 H A 𝓣 E G57 b48 Δ0 (at59 bs)
+          d59 = Typed.s-seq 𝓤 H A W 𝓣 E G57 G58 b34 b47 Δ0 (Typed.ask (s56 bs)) (at58 bs) (Relend.t-sl-aggregate 𝓤 H A W E (Array'.Array q1 2) 𝓣 (Relend.asMut (Array'.Array q1 2)) G57 36 37 11 y23 y24 (λ x. x) (Scalar.oBig Syntax.w64 4096) (Reads'.as-is 𝓤 H A (Relend.msptr (Array'.Array q1 2) y23 11)) (Reads'.room-gone 𝓤 H A y25) record { lower = record { fits = Dec'.lit< tt } } Path'.refl Path'.refl λ b o k. tt) d58
 
-          d60 : Typed.Typed 𝓤 H A 𝓣 E G47 b48 Δ0 (at60 bs)
-          d60 = Typed.g-pre 𝓤 H A W 𝓣 E G47 G48 b48 Δ0 (λ Ψ. Ψ) (at59 bs) (Lifetime.g-begin 𝓤 H A W E G47 9 (tt, (tt, (tt, (tt, (tt, (tt, (tt, (tt, (tt, (tt, (tt, (tt, (tt, (tt, (tt, (tt, (tt, (tt, (tt, (tt, (tt, (tt, (tt, (tt, (tt, (tt, (tt, (tt, (tt, (tt, (tt, (tt, (tt, (tt, (tt, (tt, (tt, (tt, (tt, tt)))))))))))))))))))))))))))))))))))))))) d59
+          d60 : Typed.Typed 𝓤 H A 𝓣 E G56 b49 Δ0 (at60 bs)
+          d60 = Typed.s-seq 𝓤 H A W 𝓣 E G56 G57 b33 b48 Δ0 (Typed.give (s55 bs)) (at59 bs) (Borrow.t-arr-borrow 𝓤 H A W E 𝓣 (Array'.Array q1 2) G56 12 36 4096 11 y23 (λ x. x) (Reads'.as-is 𝓤 H A (Rows.arrF (Array'.Array q1 2) 4096 0)) (Reads'.room-gone 𝓤 H A y23) Path'.refl (λ b o. tt) (Dec'.lit< tt, Dec'.lit< tt)) d59
 
-          d61 : Typed.Typed 𝓤 H A 𝓣 E G46 b49 Δ0 (at61 bs)
-          d61 = Typed.s-seq 𝓤 H A W 𝓣 E G46 G47 b27 b48 Δ0 (Typed.ask (s45 bs)) (at60 bs) (Relend.t-sl-aggregate 𝓤 H A W E q0 𝓣 (Relend.asMut q0) G46 29 30 8 y20 y21 (λ x. x) (Scalar.oBig Syntax.w64 32768) (Reads'.as-is 𝓤 H A (Relend.msptr q0 y20 8)) (Reads'.room-gone 𝓤 H A y22) record { lower = record { fits = Dec'.lit< tt } } Path'.refl Path'.refl λ b o k. tt) d60
+          d61 : Typed.Typed 𝓤 H A 𝓣 E G55 b49 Δ0 (at61 bs)
+          d61 = Typed.g-pre 𝓤 H A W 𝓣 E G55 G56 b49 Δ0 (λ Ψ. Ψ) (at60 bs) (Lifetime.g-begin 𝓤 H A W E G55 11 (tt, (tt, (tt, (tt, (tt, (tt, (tt, (tt, (tt, (tt, (tt, (tt, (tt, (tt, (tt, (tt, (tt, (tt, (tt, (tt, (tt, (tt, (tt, (tt, (tt, (tt, (tt, (tt, (tt, (tt, (tt, (tt, (tt, (tt, (tt, (tt, (tt, (tt, (tt, (tt, (tt, (tt, tt))))))))))))))))))))))))))))))))))))))))))) d60
 
-          d62 : Typed.Typed 𝓤 H A 𝓣 E G45 b50 Δ0 (at62 bs)
-          d62 = Typed.s-seq 𝓤 H A W 𝓣 E G45 G46 b26 b49 Δ0 (Typed.give (s44 bs)) (at61 bs) (Borrow.t-arr-borrow 𝓤 H A W E 𝓣 q0 G45 9 29 32768 8 y20 (λ x. x) (Reads'.as-is 𝓤 H A (Rows.arrF q0 32768 0)) (Reads'.room-gone 𝓤 H A y20) Path'.refl (λ b o. tt) (Dec'.lit< tt, Dec'.lit< tt)) d61
+          d62 : Typed.Typed 𝓤 H A 𝓣 E G54 b50 Δ0 (at62 bs)
+          d62 = Typed.s-seq 𝓤 H A W 𝓣 E G54 G55 b32 b49 Δ0 (Typed.ask (s53 bs)) (at61 bs) (Relend.t-sl-aggregate 𝓤 H A W E (Array'.Array q1 2) 𝓣 (Relend.asMut (Array'.Array q1 2)) G54 34 35 10 y23 y24 (λ x. x) (Scalar.oBig Syntax.w64 4096) (Reads'.as-is 𝓤 H A (Relend.msptr (Array'.Array q1 2) y23 10)) (Reads'.room-gone 𝓤 H A y25) record { lower = record { fits = Dec'.lit< tt } } Path'.refl Path'.refl λ b o k. tt) d61
 
-          d63 : Typed.Typed 𝓤 H A 𝓣 E G44 b50 Δ0 (at63 bs)
-          d63 = Typed.g-pre 𝓤 H A W 𝓣 E G44 G45 b50 Δ0 (λ Ψ. Ψ) (at62 bs) (Lifetime.g-begin 𝓤 H A W E G44 8 (tt, (tt, (tt, (tt, (tt, (tt, (tt, (tt, (tt, (tt, (tt, (tt, (tt, (tt, (tt, (tt, (tt, (tt, (tt, (tt, (tt, (tt, (tt, (tt, (tt, (tt, (tt, (tt, (tt, (tt, (tt, (tt, (tt, (tt, (tt, (tt, (tt, (tt, (tt, tt)))))))))))))))))))))))))))))))))))))))) d62
+          d63 : Typed.Typed 𝓤 H A 𝓣 E G53 b51 Δ0 (at63 bs)
+          d63 = Typed.s-seq 𝓤 H A W 𝓣 E G53 G54 b31 b50 Δ0 (Typed.give (s52 bs)) (at62 bs) (Borrow.t-arr-borrow 𝓤 H A W E 𝓣 (Array'.Array q1 2) G53 11 34 4096 10 y23 (λ x. x) (Reads'.as-is 𝓤 H A (Rows.arrF (Array'.Array q1 2) 4096 0)) (Reads'.room-gone 𝓤 H A y23) Path'.refl (λ b o. tt) (Dec'.lit< tt, Dec'.lit< tt)) d62
 
-          d64 : Typed.Typed 𝓤 H A 𝓣 E G43 b51 Δ0 (at64 bs)
-          d64 = Typed.s-seq 𝓤 H A W 𝓣 E G43 G44 b25 b50 Δ0 (Typed.ask (s42 bs)) (at63 bs) (Relend.t-sl-aggregate 𝓤 H A W E Rec·type.the-row 𝓣 (Relend.asMut Rec·type.the-row) G43 27 28 7 y17 y18 (λ x. x) (Scalar.oBig Syntax.w64 5000) (Reads'.as-is 𝓤 H A (Relend.msptr Rec·type.the-row y17 7)) (Reads'.room-gone 𝓤 H A y19) record { lower = record { fits = Dec'.lit< tt } } Path'.refl Path'.refl λ b o k. tt) d63
+          d64 : Typed.Typed 𝓤 H A 𝓣 E G52 b51 Δ0 (at64 bs)
+          d64 = Typed.g-pre 𝓤 H A W 𝓣 E G52 G53 b51 Δ0 (λ Ψ. Ψ) (at63 bs) (Lifetime.g-begin 𝓤 H A W E G52 10 (tt, (tt, (tt, (tt, (tt, (tt, (tt, (tt, (tt, (tt, (tt, (tt, (tt, (tt, (tt, (tt, (tt, (tt, (tt, (tt, (tt, (tt, (tt, (tt, (tt, (tt, (tt, (tt, (tt, (tt, (tt, (tt, (tt, (tt, (tt, (tt, (tt, (tt, (tt, (tt, (tt, (tt, tt))))))))))))))))))))))))))))))))))))))))))) d63
 
-          d65 : Typed.Typed 𝓤 H A 𝓣 E G42 b52 Δ0 (at65 bs)
-          d65 = Typed.s-seq 𝓤 H A W 𝓣 E G42 G43 b24 b51 Δ0 (Typed.give (s41 bs)) (at64 bs) (Borrow.t-arr-borrow 𝓤 H A W E 𝓣 Rec·type.the-row G42 8 27 5000 7 y17 (λ x. x) (Reads'.as-is 𝓤 H A (Rows.arrF Rec·type.the-row 5000 0)) (Reads'.room-gone 𝓤 H A y17) Path'.refl (λ b o. tt) (Dec'.lit< tt, Dec'.lit< tt)) d64
+          d65 : Typed.Typed 𝓤 H A 𝓣 E G51 b52 Δ0 (at65 bs)
+          d65 = Typed.s-seq 𝓤 H A W 𝓣 E G51 G52 b30 b51 Δ0 (Typed.ask (s50 bs)) (at64 bs) (Relend.t-sl-aggregate 𝓤 H A W E q0 𝓣 (Relend.asMut q0) G51 32 33 9 y20 y21 (λ x. x) (Scalar.oBig Syntax.w64 32768) (Reads'.as-is 𝓤 H A (Relend.msptr q0 y20 9)) (Reads'.room-gone 𝓤 H A y22) record { lower = record { fits = Dec'.lit< tt } } Path'.refl Path'.refl λ b o k. tt) d64
 
-          d66 : Typed.Typed 𝓤 H A 𝓣 E G41 b52 Δ0 (at66 bs)
-          d66 = Typed.g-pre 𝓤 H A W 𝓣 E G41 G42 b52 Δ0 (λ Ψ. Ψ) (at65 bs) (Lifetime.g-begin 𝓤 H A W E G41 7 (tt, (tt, (tt, (tt, (tt, (tt, (tt, (tt, (tt, (tt, (tt, (tt, (tt, (tt, (tt, (tt, (tt, (tt, (tt, (tt, (tt, (tt, (tt, (tt, (tt, (tt, (tt, (tt, (tt, (tt, (tt, (tt, (tt, (tt, (tt, (tt, (tt, (tt, (tt, tt)))))))))))))))))))))))))))))))))))))))) d65
+          d66 : Typed.Typed 𝓤 H A 𝓣 E G50 b53 Δ0 (at66 bs)
+          d66 = Typed.s-seq 𝓤 H A W 𝓣 E G50 G51 b29 b52 Δ0 (Typed.give (s49 bs)) (at65 bs) (Borrow.t-arr-borrow 𝓤 H A W E 𝓣 q0 G50 10 32 32768 9 y20 (λ x. x) (Reads'.as-is 𝓤 H A (Rows.arrF q0 32768 0)) (Reads'.room-gone 𝓤 H A y20) Path'.refl (λ b o. tt) (Dec'.lit< tt, Dec'.lit< tt)) d65
 
-          d67 : Typed.Typed 𝓤 H A 𝓣 E G40 b53 Δ0 (at67 bs)
-          d67 = Typed.s-seq 𝓤 H A W 𝓣 E G40 G41 b23 b52 Δ0 (Typed.ask (s39 bs)) (at66 bs) (Relend.t-sl-aggregate 𝓤 H A W E q5 𝓣 (Relend.asMut q5) G40 25 26 6 y14 y15 (λ x. x) (Scalar.oBig Syntax.w64 16384) (Reads'.as-is 𝓤 H A (Relend.msptr q5 y14 6)) (Reads'.room-gone 𝓤 H A y16) record { lower = record { fits = Dec'.lit< tt } } Path'.refl Path'.refl λ b o k. tt) d66
+          d67 : Typed.Typed 𝓤 H A 𝓣 E G49 b53 Δ0 (at67 bs)
+          d67 = Typed.g-pre 𝓤 H A W 𝓣 E G49 G50 b53 Δ0 (λ Ψ. Ψ) (at66 bs) (Lifetime.g-begin 𝓤 H A W E G49 9 (tt, (tt, (tt, (tt, (tt, (tt, (tt, (tt, (tt, (tt, (tt, (tt, (tt, (tt, (tt, (tt, (tt, (tt, (tt, (tt, (tt, (tt, (tt, (tt, (tt, (tt, (tt, (tt, (tt, (tt, (tt, (tt, (tt, (tt, (tt, (tt, (tt, (tt, (tt, (tt, (tt, (tt, tt))))))))))))))))))))))))))))))))))))))))))) d66
 
-          d68 : Typed.Typed 𝓤 H A 𝓣 E G39 b54 Δ0 (at68 bs)
-          d68 = Typed.s-seq 𝓤 H A W 𝓣 E G39 G40 b22 b53 Δ0 (Typed.give (s38 bs)) (at67 bs) (Borrow.t-arr-borrow 𝓤 H A W E 𝓣 q5 G39 7 25 16384 6 y14 (λ x. x) (Reads'.as-is 𝓤 H A (Rows.arrF q5 16384 0)) (Reads'.room-gone 𝓤 H A y14) Path'.refl (λ b o. tt) (Dec'.lit< tt, Dec'.lit< tt)) d67
+          d68 : Typed.Typed 𝓤 H A 𝓣 E G48 b54 Δ0 (at68 bs)
+          d68 = Typed.s-seq 𝓤 H A W 𝓣 E G48 G49 b28 b53 Δ0 (Typed.ask (s47 bs)) (at67 bs) (Relend.t-sl-aggregate 𝓤 H A W E q0 𝓣 (Relend.asMut q0) G48 30 31 8 y20 y21 (λ x. x) (Scalar.oBig Syntax.w64 32768) (Reads'.as-is 𝓤 H A (Relend.msptr q0 y20 8)) (Reads'.room-gone 𝓤 H A y22) record { lower = record { fits = Dec'.lit< tt } } Path'.refl Path'.refl λ b o k. tt) d67
 
-          d69 : Typed.Typed 𝓤 H A 𝓣 E G38 b54 Δ0 (at69 bs)
-          d69 = Typed.g-pre 𝓤 H A W 𝓣 E G38 G39 b54 Δ0 (λ Ψ. Ψ) (at68 bs) (Lifetime.g-begin 𝓤 H A W E G38 6 (tt, (tt, (tt, (tt, (tt, (tt, (tt, (tt, (tt, (tt, (tt, (tt, (tt, (tt, (tt, (tt, (tt, (tt, (tt, (tt, (tt, (tt, (tt, (tt, (tt, (tt, (tt, (tt, (tt, (tt, (tt, (tt, (tt, (tt, (tt, (tt, (tt, (tt, (tt, tt)))))))))))))))))))))))))))))))))))))))) d68
+          d69 : Typed.Typed 𝓤 H A 𝓣 E G47 b55 Δ0 (at69 bs)
+          d69 = Typed.s-seq 𝓤 H A W 𝓣 E G47 G48 b27 b54 Δ0 (Typed.give (s46 bs)) (at68 bs) (Borrow.t-arr-borrow 𝓤 H A W E 𝓣 q0 G47 9 30 32768 8 y20 (λ x. x) (Reads'.as-is 𝓤 H A (Rows.arrF q0 32768 0)) (Reads'.room-gone 𝓤 H A y20) Path'.refl (λ b o. tt) (Dec'.lit< tt, Dec'.lit< tt)) d68
 
-          d70 : Typed.Typed 𝓤 H A 𝓣 E G37 b55 Δ0 (at70 bs)
-          d70 = Typed.s-seq 𝓤 H A W 𝓣 E G37 G38 b21 b54 Δ0 (Typed.ask (s36 bs)) (at69 bs) (Relend.t-sl-aggregate 𝓤 H A W E q5 𝓣 (Relend.asMut q5) G37 23 24 5 y14 y15 (λ x. x) (Scalar.oBig Syntax.w64 16384) (Reads'.as-is 𝓤 H A (Relend.msptr q5 y14 5)) (Reads'.room-gone 𝓤 H A y16) record { lower = record { fits = Dec'.lit< tt } } Path'.refl Path'.refl λ b o k. tt) d69
+          d70 : Typed.Typed 𝓤 H A 𝓣 E G46 b55 Δ0 (at70 bs)
+          d70 = Typed.g-pre 𝓤 H A W 𝓣 E G46 G47 b55 Δ0 (λ Ψ. Ψ) (at69 bs) (Lifetime.g-begin 𝓤 H A W E G46 8 (tt, (tt, (tt, (tt, (tt, (tt, (tt, (tt, (tt, (tt, (tt, (tt, (tt, (tt, (tt, (tt, (tt, (tt, (tt, (tt, (tt, (tt, (tt, (tt, (tt, (tt, (tt, (tt, (tt, (tt, (tt, (tt, (tt, (tt, (tt, (tt, (tt, (tt, (tt, (tt, (tt, (tt, tt))))))))))))))))))))))))))))))))))))))))))) d69
 
-          d71 : Typed.Typed 𝓤 H A 𝓣 E G36 b56 Δ0 (at71 bs)
-          d71 = Typed.s-seq 𝓤 H A W 𝓣 E G36 G37 b20 b55 Δ0 (Typed.give (s35 bs)) (at70 bs) (Borrow.t-arr-borrow 𝓤 H A W E 𝓣 q5 G36 6 23 16384 5 y14 (λ x. x) (Reads'.as-is 𝓤 H A (Rows.arrF q5 16384 0)) (Reads'.room-gone 𝓤 H A y14) Path'.refl (λ b o. tt) (Dec'.lit< tt, Dec'.lit< tt)) d70
+          d71 : Typed.Typed 𝓤 H A 𝓣 E G45 b56 Δ0 (at71 bs)
+          d71 = Typed.s-seq 𝓤 H A W 𝓣 E G45 G46 b26 b55 Δ0 (Typed.ask (s44 bs)) (at70 bs) (Relend.t-sl-aggregate 𝓤 H A W E Rec·type.the-row 𝓣 (Relend.asMut Rec·type.the-row) G45 28 29 7 y17 y18 (λ x. x) (Scalar.oBig Syntax.w64 5000) (Reads'.as-is 𝓤 H A (Relend.msptr Rec·type.the-row y17 7)) (Reads'.room-gone 𝓤 H A y19) record { lower = record { fits = Dec'.lit< tt } } Path'.refl Path'.refl λ b o k. tt) d70
 
-          d72 : Typed.Typed 𝓤 H A 𝓣 E G35 b56 Δ0 (at72 bs)
-          d72 = Typed.g-pre 𝓤 H A W 𝓣 E G35 G36 b56 Δ0 (λ Ψ. Ψ) (at71 bs) (Lifetime.g-begin 𝓤 H A W E G35 5 (tt, (tt, (tt, (tt, (tt, (tt, (tt, (tt, (tt, (tt, (tt, (tt, (tt, (tt, (tt, (tt, (tt, (tt, (tt, (tt, (tt, (tt, (tt, (tt, (tt, (tt, (tt, (tt, (tt, (tt, (tt, (tt, (tt, (tt, (tt, (tt, (tt, (tt, (tt, tt)))))))))))))))))))))))))))))))))))))))) d71
+          d72 : Typed.Typed 𝓤 H A 𝓣 E G44 b57 Δ0 (at72 bs)
+          d72 = Typed.s-seq 𝓤 H A W 𝓣 E G44 G45 b25 b56 Δ0 (Typed.give (s43 bs)) (at71 bs) (Borrow.t-arr-borrow 𝓤 H A W E 𝓣 Rec·type.the-row G44 8 28 5000 7 y17 (λ x. x) (Reads'.as-is 𝓤 H A (Rows.arrF Rec·type.the-row 5000 0)) (Reads'.room-gone 𝓤 H A y17) Path'.refl (λ b o. tt) (Dec'.lit< tt, Dec'.lit< tt)) d71
 
-          d73 : Typed.Typed 𝓤 H A 𝓣 E G34 b57 Δ0 (at73 bs)
-          d73 = Typed.s-seq 𝓤 H A W 𝓣 E G34 G35 b19 b56 Δ0 (Typed.ask (s33 bs)) (at72 bs) (Relend.t-sl-aggregate 𝓤 H A W E q1 𝓣 (Relend.asMut q1) G34 21 22 4 y11 y12 (λ x. x) (Scalar.oBig Syntax.w64 5000) (Reads'.as-is 𝓤 H A (Relend.msptr q1 y11 4)) (Reads'.room-gone 𝓤 H A y13) record { lower = record { fits = Dec'.lit< tt } } Path'.refl Path'.refl λ b o k. tt) d72
+          d73 : Typed.Typed 𝓤 H A 𝓣 E G43 b57 Δ0 (at73 bs)
+          d73 = Typed.g-pre 𝓤 H A W 𝓣 E G43 G44 b57 Δ0 (λ Ψ. Ψ) (at72 bs) (Lifetime.g-begin 𝓤 H A W E G43 7 (tt, (tt, (tt, (tt, (tt, (tt, (tt, (tt, (tt, (tt, (tt, (tt, (tt, (tt, (tt, (tt, (tt, (tt, (tt, (tt, (tt, (tt, (tt, (tt, (tt, (tt, (tt, (tt, (tt, (tt, (tt, (tt, (tt, (tt, (tt, (tt, (tt, (tt, (tt, (tt, (tt, (tt, tt))))))))))))))))))))))))))))))))))))))))))) d72
 
-          d74 : Typed.Typed 𝓤 H A 𝓣 E G33 b58 Δ0 (at74 bs)
-          d74 = Typed.s-seq 𝓤 H A W 𝓣 E G33 G34 b18 b57 Δ0 (Typed.give (s32 bs)) (at73 bs) (Borrow.t-arr-borrow 𝓤 H A W E 𝓣 q1 G33 5 21 5000 4 y11 (λ x. x) (Reads'.as-is 𝓤 H A (Rows.arrF q1 5000 0)) (Reads'.room-gone 𝓤 H A y11) Path'.refl (λ b o. tt) (Dec'.lit< tt, Dec'.lit< tt)) d73
+          d74 : Typed.Typed 𝓤 H A 𝓣 E G42 b58 Δ0 (at74 bs)
+          d74 = Typed.s-seq 𝓤 H A W 𝓣 E G42 G43 b24 b57 Δ0 (Typed.ask (s41 bs)) (at73 bs) (Relend.t-sl-aggregate 𝓤 H A W E q5 𝓣 (Relend.asMut q5) G42 26 27 6 y14 y15 (λ x. x) (Scalar.oBig Syntax.w64 16384) (Reads'.as-is 𝓤 H A (Relend.msptr q5 y14 6)) (Reads'.room-gone 𝓤 H A y16) record { lower = record { fits = Dec'.lit< tt } } Path'.refl Path'.refl λ b o k. tt) d73
 
-          d75 : Typed.Typed 𝓤 H A 𝓣 E G32 b58 Δ0 (at75 bs)
-          d75 = Typed.g-pre 𝓤 H A W 𝓣 E G32 G33 b58 Δ0 (λ Ψ. Ψ) (at74 bs) (Lifetime.g-begin 𝓤 H A W E G32 4 (tt, (tt, (tt, (tt, (tt, (tt, (tt, (tt, (tt, (tt, (tt, (tt, (tt, (tt, (tt, (tt, (tt, (tt, (tt, (tt, (tt, (tt, (tt, (tt, (tt, (tt, (tt, (tt, (tt, (tt, (tt, (tt, (tt, (tt, (tt, (tt, (tt, (tt, (tt, tt)))))))))))))))))))))))))))))))))))))))) d74
+          d75 : Typed.Typed 𝓤 H A 𝓣 E G41 b59 Δ0 (at75 bs)
+          d75 = Typed.s-seq 𝓤 H A W 𝓣 E G41 G42 b23 b58 Δ0 (Typed.give (s40 bs)) (at74 bs) (Borrow.t-arr-borrow 𝓤 H A W E 𝓣 q5 G41 7 26 16384 6 y14 (λ x. x) (Reads'.as-is 𝓤 H A (Rows.arrF q5 16384 0)) (Reads'.room-gone 𝓤 H A y14) Path'.refl (λ b o. tt) (Dec'.lit< tt, Dec'.lit< tt)) d74
 
-          d76 : Typed.Typed 𝓤 H A 𝓣 E G31 b59 Δ0 (at76 bs)
-          d76 = Typed.s-seq 𝓤 H A W 𝓣 E G31 G32 b17 b58 Δ0 (Typed.ask (s30 bs)) (at75 bs) (Relend.t-sl-aggregate 𝓤 H A W E q4 𝓣 (Relend.asMut q4) G31 19 20 3 y10 y8 (λ x. x) (Scalar.oBig Syntax.w64 5002) (Reads'.as-is 𝓤 H A (Relend.msptr q4 y10 3)) (Reads'.room-gone 𝓤 H A y9) record { lower = record { fits = Dec'.lit< tt } } Path'.refl Path'.refl λ b o k. tt) d75
+          d76 : Typed.Typed 𝓤 H A 𝓣 E G40 b59 Δ0 (at76 bs)
+          d76 = Typed.g-pre 𝓤 H A W 𝓣 E G40 G41 b59 Δ0 (λ Ψ. Ψ) (at75 bs) (Lifetime.g-begin 𝓤 H A W E G40 6 (tt, (tt, (tt, (tt, (tt, (tt, (tt, (tt, (tt, (tt, (tt, (tt, (tt, (tt, (tt, (tt, (tt, (tt, (tt, (tt, (tt, (tt, (tt, (tt, (tt, (tt, (tt, (tt, (tt, (tt, (tt, (tt, (tt, (tt, (tt, (tt, (tt, (tt, (tt, (tt, (tt, (tt, tt))))))))))))))))))))))))))))))))))))))))))) d75
 
-          d77 : Typed.Typed 𝓤 H A 𝓣 E G30 b60 Δ0 (at77 bs)
-          d77 = Typed.s-seq 𝓤 H A W 𝓣 E G30 G31 b16 b59 Δ0 (Typed.give (s29 bs)) (at76 bs) (Borrow.t-arr-borrow 𝓤 H A W E 𝓣 q4 G30 4 19 5002 3 y10 (λ x. x) (Reads'.as-is 𝓤 H A (Rows.arrF q4 5002 0)) (Reads'.room-gone 𝓤 H A y10) Path'.refl (λ b o. tt) (Dec'.lit< tt, Dec'.lit< tt)) d76
+          d77 : Typed.Typed 𝓤 H A 𝓣 E G39 b60 Δ0 (at77 bs)
+          d77 = Typed.s-seq 𝓤 H A W 𝓣 E G39 G40 b22 b59 Δ0 (Typed.ask (s38 bs)) (at76 bs) (Relend.t-sl-aggregate 𝓤 H A W E q5 𝓣 (Relend.asMut q5) G39 24 25 5 y14 y15 (λ x. x) (Scalar.oBig Syntax.w64 16384) (Reads'.as-is 𝓤 H A (Relend.msptr q5 y14 5)) (Reads'.room-gone 𝓤 H A y16) record { lower = record { fits = Dec'.lit< tt } } Path'.refl Path'.refl λ b o k. tt) d76
 
-          d78 : Typed.Typed 𝓤 H A 𝓣 E G29 b60 Δ0 (at78 bs)
-          d78 = Typed.g-pre 𝓤 H A W 𝓣 E G29 G30 b60 Δ0 (λ Ψ. Ψ) (at77 bs) (Lifetime.g-begin 𝓤 H A W E G29 3 (tt, (tt, (tt, (tt, (tt, (tt, (tt, (tt, (tt, (tt, (tt, (tt, (tt, (tt, (tt, (tt, (tt, (tt, (tt, (tt, (tt, (tt, (tt, (tt, (tt, (tt, (tt, (tt, (tt, (tt, (tt, (tt, (tt, (tt, (tt, (tt, (tt, (tt, (tt, tt)))))))))))))))))))))))))))))))))))))))) d77
+          d78 : Typed.Typed 𝓤 H A 𝓣 E G38 b61 Δ0 (at78 bs)
+          d78 = Typed.s-seq 𝓤 H A W 𝓣 E G38 G39 b21 b60 Δ0 (Typed.give (s37 bs)) (at77 bs) (Borrow.t-arr-borrow 𝓤 H A W E 𝓣 q5 G38 6 24 16384 5 y14 (λ x. x) (Reads'.as-is 𝓤 H A (Rows.arrF q5 16384 0)) (Reads'.room-gone 𝓤 H A y14) Path'.refl (λ b o. tt) (Dec'.lit< tt, Dec'.lit< tt)) d77
 
-          d79 : Typed.Typed 𝓤 H A 𝓣 E G28 b61 Δ0 (at79 bs)
-          d79 = Typed.s-seq 𝓤 H A W 𝓣 E G28 G29 b15 b60 Δ0 (Typed.ask (s27 bs)) (at78 bs) (Relend.t-sl-aggregate 𝓤 H A W E q4 𝓣 (Relend.asMut q4) G28 17 18 2 y7 y8 (λ x. x) (Scalar.oBig Syntax.w64 5001) (Reads'.as-is 𝓤 H A (Relend.msptr q4 y7 2)) (Reads'.room-gone 𝓤 H A y9) record { lower = record { fits = Dec'.lit< tt } } Path'.refl Path'.refl λ b o k. tt) d78
+          d79 : Typed.Typed 𝓤 H A 𝓣 E G37 b61 Δ0 (at79 bs)
+          d79 = Typed.g-pre 𝓤 H A W 𝓣 E G37 G38 b61 Δ0 (λ Ψ. Ψ) (at78 bs) (Lifetime.g-begin 𝓤 H A W E G37 5 (tt, (tt, (tt, (tt, (tt, (tt, (tt, (tt, (tt, (tt, (tt, (tt, (tt, (tt, (tt, (tt, (tt, (tt, (tt, (tt, (tt, (tt, (tt, (tt, (tt, (tt, (tt, (tt, (tt, (tt, (tt, (tt, (tt, (tt, (tt, (tt, (tt, (tt, (tt, (tt, (tt, (tt, tt))))))))))))))))))))))))))))))))))))))))))) d78
 
-          d80 : Typed.Typed 𝓤 H A 𝓣 E G27 b62 Δ0 (at80 bs)
-          d80 = Typed.s-seq 𝓤 H A W 𝓣 E G27 G28 b14 b61 Δ0 (Typed.give (s26 bs)) (at79 bs) (Borrow.t-arr-borrow 𝓤 H A W E 𝓣 q4 G27 3 17 5001 2 y7 (λ x. x) (Reads'.as-is 𝓤 H A (Rows.arrF q4 5001 0)) (Reads'.room-gone 𝓤 H A y7) Path'.refl (λ b o. tt) (Dec'.lit< tt, Dec'.lit< tt)) d79
+          d80 : Typed.Typed 𝓤 H A 𝓣 E G36 b62 Δ0 (at80 bs)
+          d80 = Typed.s-seq 𝓤 H A W 𝓣 E G36 G37 b20 b61 Δ0 (Typed.ask (s35 bs)) (at79 bs) (Relend.t-sl-aggregate 𝓤 H A W E q1 𝓣 (Relend.asMut q1) G36 22 23 4 y11 y12 (λ x. x) (Scalar.oBig Syntax.w64 5000) (Reads'.as-is 𝓤 H A (Relend.msptr q1 y11 4)) (Reads'.room-gone 𝓤 H A y13) record { lower = record { fits = Dec'.lit< tt } } Path'.refl Path'.refl λ b o k. tt) d79
 
-          d81 : Typed.Typed 𝓤 H A 𝓣 E G26 b62 Δ0 (at81 bs)
-          d81 = Typed.g-pre 𝓤 H A W 𝓣 E G26 G27 b62 Δ0 (λ Ψ. Ψ) (at80 bs) (Lifetime.g-begin 𝓤 H A W E G26 2 (tt, (tt, (tt, (tt, (tt, (tt, (tt, (tt, (tt, (tt, (tt, (tt, (tt, (tt, (tt, (tt, (tt, (tt, (tt, (tt, (tt, (tt, (tt, (tt, (tt, (tt, (tt, (tt, (tt, (tt, (tt, (tt, (tt, (tt, (tt, (tt, (tt, (tt, (tt, tt)))))))))))))))))))))))))))))))))))))))) d80
+          d81 : Typed.Typed 𝓤 H A 𝓣 E G35 b63 Δ0 (at81 bs)
+          d81 = Typed.s-seq 𝓤 H A W 𝓣 E G35 G36 b19 b62 Δ0 (Typed.give (s34 bs)) (at80 bs) (Borrow.t-arr-borrow 𝓤 H A W E 𝓣 q1 G35 5 22 5000 4 y11 (λ x. x) (Reads'.as-is 𝓤 H A (Rows.arrF q1 5000 0)) (Reads'.room-gone 𝓤 H A y11) Path'.refl (λ b o. tt) (Dec'.lit< tt, Dec'.lit< tt)) d80
 
-          d82 : Typed.Typed 𝓤 H A 𝓣 E G25 b63 Δ0 (at82 bs)
-          d82 = Typed.s-seq 𝓤 H A W 𝓣 E G25 G26 b13 b62 Δ0 (Typed.both (s24 bs)) (at81 bs) (Plain.t-call-plain 𝓤 H A W 𝓣 0 ps·2 r·2 (claims· .4) (claims· .5) "longdust::LongdustOptions::default" (known .2) E (λ pos β. β) G25 tt 16 List.[] (Call.sub-id 𝓤 H A W (G25 .slots)) tt (Reads'.room-gone 𝓤 H A y6) tt Path'.refl) d81
+          d82 : Typed.Typed 𝓤 H A 𝓣 E G34 b63 Δ0 (at82 bs)
+          d82 = Typed.g-pre 𝓤 H A W 𝓣 E G34 G35 b63 Δ0 (λ Ψ. Ψ) (at81 bs) (Lifetime.g-begin 𝓤 H A W E G34 4 (tt, (tt, (tt, (tt, (tt, (tt, (tt, (tt, (tt, (tt, (tt, (tt, (tt, (tt, (tt, (tt, (tt, (tt, (tt, (tt, (tt, (tt, (tt, (tt, (tt, (tt, (tt, (tt, (tt, (tt, (tt, (tt, (tt, (tt, (tt, (tt, (tt, (tt, (tt, (tt, (tt, (tt, tt))))))))))))))))))))))))))))))))))))))))))) d81
 
-          d83 : Typed.Typed 𝓤 H A 𝓣 E G24 b63 Δ0 (at83 bs)
-          d83 = Typed.g-pre 𝓤 H A W 𝓣 E G24 G25 b63 Δ0 (Typed.pass T24 T25 (s23 bs)) (at82 bs) (Scalar.g-room 𝓤 H A W E G24 15 (Syntax.tyArray (Syntax.tyArray y1 2) 4096) (Init.room-arr 𝓤 H A W (Array'.Array q1 2) 4096 0 4096 Path'.refl)) d82
+          d83 : Typed.Typed 𝓤 H A 𝓣 E G33 b64 Δ0 (at83 bs)
+          d83 = Typed.s-seq 𝓤 H A W 𝓣 E G33 G34 b18 b63 Δ0 (Typed.ask (s32 bs)) (at82 bs) (Relend.t-sl-aggregate 𝓤 H A W E q4 𝓣 (Relend.asMut q4) G33 20 21 3 y10 y8 (λ x. x) (Scalar.oBig Syntax.w64 5002) (Reads'.as-is 𝓤 H A (Relend.msptr q4 y10 3)) (Reads'.room-gone 𝓤 H A y9) record { lower = record { fits = Dec'.lit< tt } } Path'.refl Path'.refl λ b o k. tt) d82
 
-          d84 : Typed.Typed 𝓤 H A 𝓣 E G23 b64 Δ0 (at84 bs)
-          d84 = Typed.s-seq 𝓤 H A W 𝓣 E G23 G24 b12 b63 Δ0 (Typed.pass T23 T24 (s22 bs)) (at83 bs) (LocalCopy.t-val-copy 𝓤 H A W E 𝓣 (λ ρ. Unit) G23 15 12 (Array'.Array (Array'.Array q1 2) 4096) (Syntax.tyArray (Syntax.tyArray y1 2) 4096) (Syntax.tyArray (Syntax.tyArray y1 2) 4096) (Rows.arrF (Array'.Array q1 2) 4096 0) (Rows.arrF (Array'.Array q1 2) 4096 0) (λ x. x) (λ x. x) (λ x. x) Path'.refl (Own.told-none 𝓤 H A (G23 .slots)) (Yields.yields-copy 𝓤 H A W (λ ρ. Unit) (Array'.Array (Array'.Array q1 2) 4096) Path'.refl (Copies.cArr (Array'.Array q1 2) (Copies.cArr q1 (Copies.cRf (Referent.fInt Syntax.w32)) 2) 4096 .copy 𝓤 H A W) (Rows.arrF (Array'.Array q1 2) 4096 0) (λ x. x) (λ x. x) (λ ρ told. Whole.mem-arr 𝓤 H A W (Array'.Array q1 2) 4096 ρ) λ ρ told. Whole.arr-mem 𝓤 H A W (Array'.Array q1 2) 4096 tt ρ) (Reads'.room-gone 𝓤 H A (Syntax.tyArray (Syntax.tyArray y1 2) 4096)) (Yields.makes-mem 𝓤 H A W (λ ρ. Unit) (Array'.Array (Array'.Array q1 2) 4096) Path'.refl (Rows.arrF (Array'.Array q1 2) 4096 0) (λ x. x) λ ρ told. Whole.arr-mem 𝓤 H A W (Array'.Array q1 2) 4096 tt ρ) Path'.refl Path'.refl) d83
+          d84 : Typed.Typed 𝓤 H A 𝓣 E G32 b65 Δ0 (at84 bs)
+          d84 = Typed.s-seq 𝓤 H A W 𝓣 E G32 G33 b17 b64 Δ0 (Typed.give (s31 bs)) (at83 bs) (Borrow.t-arr-borrow 𝓤 H A W E 𝓣 q4 G32 4 20 5002 3 y10 (λ x. x) (Reads'.as-is 𝓤 H A (Rows.arrF q4 5002 0)) (Reads'.room-gone 𝓤 H A y10) Path'.refl (λ b o. tt) (Dec'.lit< tt, Dec'.lit< tt)) d83
 
-          d85 : Typed.Typed 𝓤 H A 𝓣 E G22 b65 Δ0 (at85 bs)
-          d85 = Typed.s-seq 𝓤 H A W 𝓣 E G22 G23 b11 b64 Δ0 (Typed.both (s21 bs)) (at84 bs) (Plain.t-call-plain 𝓤 H A W 𝓣 0 ps·1 r·1 (claims· .2) (claims· .3) "contig::no_intervals" (known .1) E (λ pos β. β) G22 tt 15 List.[] (Call.sub-id 𝓤 H A W (G22 .slots)) tt (Reads'.room-gone 𝓤 H A (Syntax.tyArray (Syntax.tyArray y1 2) 4096)) tt Path'.refl) d84
+          d85 : Typed.Typed 𝓤 H A 𝓣 E G31 b65 Δ0 (at85 bs)
+          d85 = Typed.g-pre 𝓤 H A W 𝓣 E G31 G32 b65 Δ0 (λ Ψ. Ψ) (at84 bs) (Lifetime.g-begin 𝓤 H A W E G31 3 (tt, (tt, (tt, (tt, (tt, (tt, (tt, (tt, (tt, (tt, (tt, (tt, (tt, (tt, (tt, (tt, (tt, (tt, (tt, (tt, (tt, (tt, (tt, (tt, (tt, (tt, (tt, (tt, (tt, (tt, (tt, (tt, (tt, (tt, (tt, (tt, (tt, (tt, (tt, (tt, (tt, (tt, tt))))))))))))))))))))))))))))))))))))))))))) d84
 
-          d86 : Typed.Typed 𝓤 H A 𝓣 E G21 b65 Δ0 (at86 bs)
-          d86 = Typed.g-pre 𝓤 H A W 𝓣 E G21 G22 b65 Δ0 (Typed.pass T21 T22 (s20 bs)) (at85 bs) (Scalar.g-room 𝓤 H A W E G21 15 (Syntax.tyArray (Syntax.tyArray y1 2) 4096) (Init.room-arr 𝓤 H A W (Array'.Array q1 2) 4096 0 4096 Path'.refl)) d85
+          d86 : Typed.Typed 𝓤 H A 𝓣 E G30 b66 Δ0 (at86 bs)
+          d86 = Typed.s-seq 𝓤 H A W 𝓣 E G30 G31 b16 b65 Δ0 (Typed.ask (s29 bs)) (at85 bs) (Relend.t-sl-aggregate 𝓤 H A W E q4 𝓣 (Relend.asMut q4) G30 18 19 2 y7 y8 (λ x. x) (Scalar.oBig Syntax.w64 5001) (Reads'.as-is 𝓤 H A (Relend.msptr q4 y7 2)) (Reads'.room-gone 𝓤 H A y9) record { lower = record { fits = Dec'.lit< tt } } Path'.refl Path'.refl λ b o k. tt) d85
 
-          d87 : Typed.Typed 𝓤 H A 𝓣 E G20 b66 Δ0 (at87 bs)
-          d87 = Typed.s-seq 𝓤 H A W 𝓣 E G20 G21 b10 b65 Δ0 (Typed.pass T20 T21 (s19 bs)) (at86 bs) (LocalCopy.t-val-copy 𝓤 H A W E 𝓣 (λ ρ. Unit) G20 15 11 (Array'.Array (Array'.Array q1 2) 4096) (Syntax.tyArray (Syntax.tyArray y1 2) 4096) (Syntax.tyArray (Syntax.tyArray y1 2) 4096) (Rows.arrF (Array'.Array q1 2) 4096 0) (Rows.arrF (Array'.Array q1 2) 4096 0) (λ x. x) (λ x. x) (λ x. x) Path'.refl (Own.told-none 𝓤 H A (G20 .slots)) (Yields.yields-copy 𝓤 H A W (λ ρ. Unit) (Array'.Array (Array'.Array q1 2) 4096) Path'.refl (Copies.cArr (Array'.Array q1 2) (Copies.cArr q1 (Copies.cRf (Referent.fInt Syntax.w32)) 2) 4096 .copy 𝓤 H A W) (Rows.arrF (Array'.Array q1 2) 4096 0) (λ x. x) (λ x. x) (λ ρ told. Whole.mem-arr 𝓤 H A W (Array'.Array q1 2) 4096 ρ) λ ρ told. Whole.arr-mem 𝓤 H A W (Array'.Array q1 2) 4096 tt ρ) (Reads'.room-gone 𝓤 H A (Syntax.tyArray (Syntax.tyArray y1 2) 4096)) (Yields.makes-mem 𝓤 H A W (λ ρ. Unit) (Array'.Array (Array'.Array q1 2) 4096) Path'.refl (Rows.arrF (Array'.Array q1 2) 4096 0) (λ x. x) λ ρ told. Whole.arr-mem 𝓤 H A W (Array'.Array q1 2) 4096 tt ρ) Path'.refl Path'.refl) d86
+          d87 : Typed.Typed 𝓤 H A 𝓣 E G29 b67 Δ0 (at87 bs)
+          d87 = Typed.s-seq 𝓤 H A W 𝓣 E G29 G30 b15 b66 Δ0 (Typed.give (s28 bs)) (at86 bs) (Borrow.t-arr-borrow 𝓤 H A W E 𝓣 q4 G29 3 18 5001 2 y7 (λ x. x) (Reads'.as-is 𝓤 H A (Rows.arrF q4 5001 0)) (Reads'.room-gone 𝓤 H A y7) Path'.refl (λ b o. tt) (Dec'.lit< tt, Dec'.lit< tt)) d86
 
-          d88 : Typed.Typed 𝓤 H A 𝓣 E G19 b67 Δ0 (at88 bs)
-          d88 = Typed.s-seq 𝓤 H A W 𝓣 E G19 G20 b9 b66 Δ0 (Typed.both (s18 bs)) (at87 bs) (Plain.t-call-plain 𝓤 H A W 𝓣 0 ps·1 r·1 (claims· .2) (claims· .3) "contig::no_intervals" (known .1) E (λ pos β. β) G19 tt 15 List.[] (Call.sub-id 𝓤 H A W (G19 .slots)) tt (Reads'.room-gone 𝓤 H A (Syntax.tyArray (Syntax.tyArray y1 2) 4096)) tt Path'.refl) d87
+          d88 : Typed.Typed 𝓤 H A 𝓣 E G28 b67 Δ0 (at88 bs)
+          d88 = Typed.g-pre 𝓤 H A W 𝓣 E G28 G29 b67 Δ0 (λ Ψ. Ψ) (at87 bs) (Lifetime.g-begin 𝓤 H A W E G28 2 (tt, (tt, (tt, (tt, (tt, (tt, (tt, (tt, (tt, (tt, (tt, (tt, (tt, (tt, (tt, (tt, (tt, (tt, (tt, (tt, (tt, (tt, (tt, (tt, (tt, (tt, (tt, (tt, (tt, (tt, (tt, (tt, (tt, (tt, (tt, (tt, (tt, (tt, (tt, (tt, (tt, (tt, tt))))))))))))))))))))))))))))))))))))))))))) d87
 
-          d89 : Typed.Typed 𝓤 H A 𝓣 E G18 b67 Δ0 (at89 bs)
-          d89 = Typed.g-pre 𝓤 H A W 𝓣 E G18 G19 b67 Δ0 (Typed.pass T18 T19 (s17 bs)) (at88 bs) (AtSlots.g-as-by 𝓤 H A W E (λ ρ. Unit) G18 10 (Rows.arrF q0 32768 0) (λ x. x) (Own.told-none 𝓤 H A (G18 .slots)) λ ρ told. Repeat.whole-arr 𝓤 H A W q0 32768 tt ρ) d88
+          d89 : Typed.Typed 𝓤 H A 𝓣 E G27 b68 Δ0 (at89 bs)
+          d89 = Typed.s-seq 𝓤 H A W 𝓣 E G27 G28 b14 b67 Δ0 (Typed.both (s26 bs)) (at88 bs) (Plain.t-call-plain 𝓤 H A W 𝓣 0 ps·2 r·2 (claims· .4) (claims· .5) "longdust::LongdustOptions::default" (known .2) E (λ pos β. β) G27 tt 17 List.[] (Call.sub-id 𝓤 H A W (G27 .slots)) tt (Reads'.room-gone 𝓤 H A y6) tt Path'.refl) d88
 
-          d90 : Typed.Typed 𝓤 H A 𝓣 E G17 b68 Δ0 (at90 bs)
-          d90 = Typed.s-seq 𝓤 H A W 𝓣 E G17 G18 b8 b67 Δ0 (Typed.pass T17 T18 (s16 bs)) (at89 bs) (Repeat.t-repeat 𝓤 H A W E 𝓣 q0 (Plain'.uint-lawful 𝓤 H A W Syntax.w8) (Copies.cRf (Referent.fInt Syntax.w8) .copy 𝓤 H A W) (Plain'.uint-makes 𝓤 H A W Syntax.w8) 32768 G17 10 (Scalar.oInt Syntax.w8 0) (λ m. 0) (Reads'.room-gone 𝓤 H A (Syntax.tyArray y3 32768)) tt Path'.refl λ m wa. (Path'.refl, Dec'.lit< tt)) d89
+          d90 : Typed.Typed 𝓤 H A 𝓣 E G26 b68 Δ0 (at90 bs)
+          d90 = Typed.g-pre 𝓤 H A W 𝓣 E G26 G27 b68 Δ0 (Typed.pass T26 T27 (s25 bs)) (at89 bs) (AtSlots.g-as-by 𝓤 H A W E (λ ρ. Unit) G26 13 (Rows.arrF q0 4096 0) (λ x. x) (Own.told-none 𝓤 H A (G26 .slots)) λ ρ told. Repeat.whole-arr 𝓤 H A W q0 4096 tt ρ) d89
 
-          d91 : Typed.Typed 𝓤 H A 𝓣 E G16 b68 Δ0 (at91 bs)
-          d91 = Typed.g-pre 𝓤 H A W 𝓣 E G16 G17 b68 Δ0 (Typed.pass T16 T17 (s15 bs)) (at90 bs) (AtSlots.g-as-by 𝓤 H A W E (λ ρ. Unit) G16 9 (Rows.arrF q0 32768 0) (λ x. x) (Own.told-none 𝓤 H A (G16 .slots)) λ ρ told. Repeat.whole-arr 𝓤 H A W q0 32768 tt ρ) d90
+          d91 : Typed.Typed 𝓤 H A 𝓣 E G25 b69 Δ0 (at91 bs)
+          d91 = Typed.s-seq 𝓤 H A W 𝓣 E G25 G26 b13 b68 Δ0 (Typed.pass T25 T26 (s24 bs)) (at90 bs) (Repeat.t-repeat 𝓤 H A W E 𝓣 q0 (Plain'.uint-lawful 𝓤 H A W Syntax.w8) (Copies.cRf (Referent.fInt Syntax.w8) .copy 𝓤 H A W) (Plain'.uint-makes 𝓤 H A W Syntax.w8) 4096 G25 13 (Scalar.oInt Syntax.w8 0) (λ m. 0) (Reads'.room-gone 𝓤 H A (Syntax.tyArray y3 4096)) tt Path'.refl λ m wa. (Path'.refl, Dec'.lit< tt)) d90
 
-          d92 : Typed.Typed 𝓤 H A 𝓣 E G15 b69 Δ0 (at92 bs)
-          d92 = Typed.s-seq 𝓤 H A W 𝓣 E G15 G16 b7 b68 Δ0 (Typed.pass T15 T16 (s14 bs)) (at91 bs) (Repeat.t-repeat 𝓤 H A W E 𝓣 q0 (Plain'.uint-lawful 𝓤 H A W Syntax.w8) (Copies.cRf (Referent.fInt Syntax.w8) .copy 𝓤 H A W) (Plain'.uint-makes 𝓤 H A W Syntax.w8) 32768 G15 9 (Scalar.oInt Syntax.w8 0) (λ m. 0) (Reads'.room-gone 𝓤 H A (Syntax.tyArray y3 32768)) tt Path'.refl λ m wa. (Path'.refl, Dec'.lit< tt)) d91
+          d92 : Typed.Typed 𝓤 H A 𝓣 E G24 b69 Δ0 (at92 bs)
+          d92 = Typed.g-pre 𝓤 H A W 𝓣 E G24 G25 b69 Δ0 (Typed.pass T24 T25 (s23 bs)) (at91 bs) (Scalar.g-room 𝓤 H A W E G24 16 (Syntax.tyArray (Syntax.tyArray y1 2) 4096) (Init.room-arr 𝓤 H A W (Array'.Array q1 2) 4096 0 4096 Path'.refl)) d91
 
-          d93 : Typed.Typed 𝓤 H A 𝓣 E G14 b69 Δ0 (at93 bs)
-          d93 = Typed.g-pre 𝓤 H A W 𝓣 E G14 G15 b69 Δ0 (Typed.pass T14 T15 (s13 bs)) (at92 bs) (Scalar.g-room 𝓤 H A W E G14 14 (Syntax.tyArray Rec·laws.mir 5000) (Init.room-arr 𝓤 H A W Rec·type.the-row 5000 0 5000 Path'.refl)) d92
+          d93 : Typed.Typed 𝓤 H A 𝓣 E G23 b70 Δ0 (at93 bs)
+          d93 = Typed.s-seq 𝓤 H A W 𝓣 E G23 G24 b12 b69 Δ0 (Typed.pass T23 T24 (s22 bs)) (at92 bs) (LocalCopy.t-val-copy 𝓤 H A W E 𝓣 (λ ρ. Unit) G23 16 12 (Array'.Array (Array'.Array q1 2) 4096) (Syntax.tyArray (Syntax.tyArray y1 2) 4096) (Syntax.tyArray (Syntax.tyArray y1 2) 4096) (Rows.arrF (Array'.Array q1 2) 4096 0) (Rows.arrF (Array'.Array q1 2) 4096 0) (λ x. x) (λ x. x) (λ x. x) Path'.refl (Own.told-none 𝓤 H A (G23 .slots)) (Yields.yields-copy 𝓤 H A W (λ ρ. Unit) (Array'.Array (Array'.Array q1 2) 4096) Path'.refl (Copies.cArr (Array'.Array q1 2) (Copies.cArr q1 (Copies.cRf (Referent.fInt Syntax.w32)) 2) 4096 .copy 𝓤 H A W) (Rows.arrF (Array'.Array q1 2) 4096 0) (λ x. x) (λ x. x) (λ ρ told. Whole.mem-arr 𝓤 H A W (Array'.Array q1 2) 4096 ρ) λ ρ told. Whole.arr-mem 𝓤 H A W (Array'.Array q1 2) 4096 tt ρ) (Reads'.room-gone 𝓤 H A (Syntax.tyArray (Syntax.tyArray y1 2) 4096)) (Yields.makes-mem 𝓤 H A W (λ ρ. Unit) (Array'.Array (Array'.Array q1 2) 4096) Path'.refl (Rows.arrF (Array'.Array q1 2) 4096 0) (λ x. x) λ ρ told. Whole.arr-mem 𝓤 H A W (Array'.Array q1 2) 4096 tt ρ) Path'.refl Path'.refl) d92
 
-          d94 : Typed.Typed 𝓤 H A 𝓣 E G13 b70 Δ0 (at94 bs)
-          d94 = Typed.s-seq 𝓤 H A W 𝓣 E G13 G14 b6 b69 Δ0 (Typed.pass T13 T14 (s12 bs)) (at93 bs) (LocalCopy.t-val-copy 𝓤 H A W E 𝓣 (λ ρ. Unit) G13 14 8 (Array'.Array Rec·type.the-row 5000) (Syntax.tyArray Rec·laws.mir 5000) (Syntax.tyArray Rec·laws.mir 5000) (Rows.arrF Rec·type.the-row 5000 0) (Rows.arrF Rec·type.the-row 5000 0) (λ x. x) (λ x. x) (λ x. x) Path'.refl (Own.told-none 𝓤 H A (G13 .slots)) (Yields.yields-copy 𝓤 H A W (λ ρ. Unit) (Array'.Array Rec·type.the-row 5000) Path'.refl (Copies.cArr Rec·type.the-row (Copies.cStruct Rec·type.the-type Rec·laws.the-laws Rec·laws.the-copy) 5000 .copy 𝓤 H A W) (Rows.arrF Rec·type.the-row 5000 0) (λ x. x) (λ x. x) (λ ρ told. Whole.mem-arr 𝓤 H A W Rec·type.the-row 5000 ρ) λ ρ told. Whole.arr-mem 𝓤 H A W Rec·type.the-row 5000 tt ρ) (Reads'.room-gone 𝓤 H A (Syntax.tyArray Rec·laws.mir 5000)) (Yields.makes-mem 𝓤 H A W (λ ρ. Unit) (Array'.Array Rec·type.the-row 5000) Path'.refl (Rows.arrF Rec·type.the-row 5000 0) (λ x. x) λ ρ told. Whole.arr-mem 𝓤 H A W Rec·type.the-row 5000 tt ρ) Path'.refl Path'.refl) d93
+          d94 : Typed.Typed 𝓤 H A 𝓣 E G22 b71 Δ0 (at94 bs)
+          d94 = Typed.s-seq 𝓤 H A W 𝓣 E G22 G23 b11 b70 Δ0 (Typed.both (s21 bs)) (at93 bs) (Plain.t-call-plain 𝓤 H A W 𝓣 0 ps·1 r·1 (claims· .2) (claims· .3) "contig::no_intervals" (known .1) E (λ pos β. β) G22 tt 16 List.[] (Call.sub-id 𝓤 H A W (G22 .slots)) tt (Reads'.room-gone 𝓤 H A (Syntax.tyArray (Syntax.tyArray y1 2) 4096)) tt Path'.refl) d93
 
-          d95 : Typed.Typed 𝓤 H A 𝓣 E G12 b71 Δ0 (at95 bs)
-          d95 = Typed.s-seq 𝓤 H A W 𝓣 E G12 G13 b5 b70 Δ0 (Typed.both (s11 bs)) (at94 bs) (Plain.t-call-plain 𝓤 H A W 𝓣 0 ps·0 r·0 (claims· .0) (claims· .1) "contig::no_candidates" (known .0) E (λ pos β. β) G12 tt 14 List.[] (Call.sub-id 𝓤 H A W (G12 .slots)) tt (Reads'.room-gone 𝓤 H A (Syntax.tyArray Rec·laws.mir 5000)) tt Path'.refl) d94
+          d95 : Typed.Typed 𝓤 H A 𝓣 E G21 b71 Δ0 (at95 bs)
+          d95 = Typed.g-pre 𝓤 H A W 𝓣 E G21 G22 b71 Δ0 (Typed.pass T21 T22 (s20 bs)) (at94 bs) (Scalar.g-room 𝓤 H A W E G21 16 (Syntax.tyArray (Syntax.tyArray y1 2) 4096) (Init.room-arr 𝓤 H A W (Array'.Array q1 2) 4096 0 4096 Path'.refl)) d94
 
-          d96 : Typed.Typed 𝓤 H A 𝓣 E G11 b71 Δ0 (at96 bs)
-          d96 = Typed.g-pre 𝓤 H A W 𝓣 E G11 G12 b71 Δ0 (Typed.pass T11 T12 (s10 bs)) (at95 bs) (AtSlots.g-as-by 𝓤 H A W E (λ ρ. Unit) G11 7 (Rows.arrF q5 16384 0) (λ x. x) (Own.told-none 𝓤 H A (G11 .slots)) λ ρ told. Repeat.whole-arr 𝓤 H A W q5 16384 tt ρ) d95
+          d96 : Typed.Typed 𝓤 H A 𝓣 E G20 b72 Δ0 (at96 bs)
+          d96 = Typed.s-seq 𝓤 H A W 𝓣 E G20 G21 b10 b71 Δ0 (Typed.pass T20 T21 (s19 bs)) (at95 bs) (LocalCopy.t-val-copy 𝓤 H A W E 𝓣 (λ ρ. Unit) G20 16 11 (Array'.Array (Array'.Array q1 2) 4096) (Syntax.tyArray (Syntax.tyArray y1 2) 4096) (Syntax.tyArray (Syntax.tyArray y1 2) 4096) (Rows.arrF (Array'.Array q1 2) 4096 0) (Rows.arrF (Array'.Array q1 2) 4096 0) (λ x. x) (λ x. x) (λ x. x) Path'.refl (Own.told-none 𝓤 H A (G20 .slots)) (Yields.yields-copy 𝓤 H A W (λ ρ. Unit) (Array'.Array (Array'.Array q1 2) 4096) Path'.refl (Copies.cArr (Array'.Array q1 2) (Copies.cArr q1 (Copies.cRf (Referent.fInt Syntax.w32)) 2) 4096 .copy 𝓤 H A W) (Rows.arrF (Array'.Array q1 2) 4096 0) (λ x. x) (λ x. x) (λ ρ told. Whole.mem-arr 𝓤 H A W (Array'.Array q1 2) 4096 ρ) λ ρ told. Whole.arr-mem 𝓤 H A W (Array'.Array q1 2) 4096 tt ρ) (Reads'.room-gone 𝓤 H A (Syntax.tyArray (Syntax.tyArray y1 2) 4096)) (Yields.makes-mem 𝓤 H A W (λ ρ. Unit) (Array'.Array (Array'.Array q1 2) 4096) Path'.refl (Rows.arrF (Array'.Array q1 2) 4096 0) (λ x. x) λ ρ told. Whole.arr-mem 𝓤 H A W (Array'.Array q1 2) 4096 tt ρ) Path'.refl Path'.refl) d95
 
-          d97 : Typed.Typed 𝓤 H A 𝓣 E G10 b72 Δ0 (at97 bs)
-          d97 = Typed.s-seq 𝓤 H A W 𝓣 E G10 G11 b4 b71 Δ0 (Typed.pass T10 T11 (s9 bs)) (at96 bs) (Repeat.t-repeat 𝓤 H A W E 𝓣 q5 (Plain'.uint-lawful 𝓤 H A W Syntax.w16) (Copies.cRf (Referent.fInt Syntax.w16) .copy 𝓤 H A W) (Plain'.uint-makes 𝓤 H A W Syntax.w16) 16384 G10 7 (Scalar.oInt Syntax.w16 0) (λ m. 0) (Reads'.room-gone 𝓤 H A (Syntax.tyArray y2 16384)) tt Path'.refl λ m wa. (Path'.refl, Dec'.lit< tt)) d96
+          d97 : Typed.Typed 𝓤 H A 𝓣 E G19 b73 Δ0 (at97 bs)
+          d97 = Typed.s-seq 𝓤 H A W 𝓣 E G19 G20 b9 b72 Δ0 (Typed.both (s18 bs)) (at96 bs) (Plain.t-call-plain 𝓤 H A W 𝓣 0 ps·1 r·1 (claims· .2) (claims· .3) "contig::no_intervals" (known .1) E (λ pos β. β) G19 tt 16 List.[] (Call.sub-id 𝓤 H A W (G19 .slots)) tt (Reads'.room-gone 𝓤 H A (Syntax.tyArray (Syntax.tyArray y1 2) 4096)) tt Path'.refl) d96
 
-          d98 : Typed.Typed 𝓤 H A 𝓣 E G9 b72 Δ0 (at98 bs)
-          d98 = Typed.g-pre 𝓤 H A W 𝓣 E G9 G10 b72 Δ0 (Typed.pass T9 T10 (s8 bs)) (at97 bs) (AtSlots.g-as-by 𝓤 H A W E (λ ρ. Unit) G9 6 (Rows.arrF q5 16384 0) (λ x. x) (Own.told-none 𝓤 H A (G9 .slots)) λ ρ told. Repeat.whole-arr 𝓤 H A W q5 16384 tt ρ) d97
+          d98 : Typed.Typed 𝓤 H A 𝓣 E G18 b73 Δ0 (at98 bs)
+          d98 = Typed.g-pre 𝓤 H A W 𝓣 E G18 G19 b73 Δ0 (Typed.pass T18 T19 (s17 bs)) (at97 bs) (AtSlots.g-as-by 𝓤 H A W E (λ ρ. Unit) G18 10 (Rows.arrF q0 32768 0) (λ x. x) (Own.told-none 𝓤 H A (G18 .slots)) λ ρ told. Repeat.whole-arr 𝓤 H A W q0 32768 tt ρ) d97
 
-          d99 : Typed.Typed 𝓤 H A 𝓣 E G8 b73 Δ0 (at99 bs)
-          d99 = Typed.s-seq 𝓤 H A W 𝓣 E G8 G9 b3 b72 Δ0 (Typed.pass T8 T9 (s7 bs)) (at98 bs) (Repeat.t-repeat 𝓤 H A W E 𝓣 q5 (Plain'.uint-lawful 𝓤 H A W Syntax.w16) (Copies.cRf (Referent.fInt Syntax.w16) .copy 𝓤 H A W) (Plain'.uint-makes 𝓤 H A W Syntax.w16) 16384 G8 6 (Scalar.oInt Syntax.w16 0) (λ m. 0) (Reads'.room-gone 𝓤 H A (Syntax.tyArray y2 16384)) tt Path'.refl λ m wa. (Path'.refl, Dec'.lit< tt)) d98
+          d99 : Typed.Typed 𝓤 H A 𝓣 E G17 b74 Δ0 (at99 bs)
+          d99 = Typed.s-seq 𝓤 H A W 𝓣 E G17 G18 b8 b73 Δ0 (Typed.pass T17 T18 (s16 bs)) (at98 bs) (Repeat.t-repeat 𝓤 H A W E 𝓣 q0 (Plain'.uint-lawful 𝓤 H A W Syntax.w8) (Copies.cRf (Referent.fInt Syntax.w8) .copy 𝓤 H A W) (Plain'.uint-makes 𝓤 H A W Syntax.w8) 32768 G17 10 (Scalar.oInt Syntax.w8 0) (λ m. 0) (Reads'.room-gone 𝓤 H A (Syntax.tyArray y3 32768)) tt Path'.refl λ m wa. (Path'.refl, Dec'.lit< tt)) d98
 
-          d100 : Typed.Typed 𝓤 H A 𝓣 E G7 b73 Δ0 (at100 bs)
-          d100 = Typed.g-pre 𝓤 H A W 𝓣 E G7 G8 b73 Δ0 (Typed.pass T7 T8 (s6 bs)) (at99 bs) (AtSlots.g-as-by 𝓤 H A W E (λ ρ. Unit) G7 5 (Rows.arrF q1 5000 0) (λ x. x) (Own.told-none 𝓤 H A (G7 .slots)) λ ρ told. Repeat.whole-arr 𝓤 H A W q1 5000 tt ρ) d99
+          d100 : Typed.Typed 𝓤 H A 𝓣 E G16 b74 Δ0 (at100 bs)
+          d100 = Typed.g-pre 𝓤 H A W 𝓣 E G16 G17 b74 Δ0 (Typed.pass T16 T17 (s15 bs)) (at99 bs) (AtSlots.g-as-by 𝓤 H A W E (λ ρ. Unit) G16 9 (Rows.arrF q0 32768 0) (λ x. x) (Own.told-none 𝓤 H A (G16 .slots)) λ ρ told. Repeat.whole-arr 𝓤 H A W q0 32768 tt ρ) d99
 
-          d101 : Typed.Typed 𝓤 H A 𝓣 E G6 b74 Δ0 (at101 bs)
-          d101 = Typed.s-seq 𝓤 H A W 𝓣 E G6 G7 b2 b73 Δ0 (Typed.pass T6 T7 (s5 bs)) (at100 bs) (Repeat.t-repeat 𝓤 H A W E 𝓣 q1 (Plain'.uint-lawful 𝓤 H A W Syntax.w32) (Copies.cRf (Referent.fInt Syntax.w32) .copy 𝓤 H A W) (Plain'.uint-makes 𝓤 H A W Syntax.w32) 5000 G6 5 (Scalar.oInt Syntax.w32 0) (λ m. 0) (Reads'.room-gone 𝓤 H A (Syntax.tyArray y1 5000)) tt Path'.refl λ m wa. (Path'.refl, Dec'.lit< tt)) d100
+          d101 : Typed.Typed 𝓤 H A 𝓣 E G15 b75 Δ0 (at101 bs)
+          d101 = Typed.s-seq 𝓤 H A W 𝓣 E G15 G16 b7 b74 Δ0 (Typed.pass T15 T16 (s14 bs)) (at100 bs) (Repeat.t-repeat 𝓤 H A W E 𝓣 q0 (Plain'.uint-lawful 𝓤 H A W Syntax.w8) (Copies.cRf (Referent.fInt Syntax.w8) .copy 𝓤 H A W) (Plain'.uint-makes 𝓤 H A W Syntax.w8) 32768 G15 9 (Scalar.oInt Syntax.w8 0) (λ m. 0) (Reads'.room-gone 𝓤 H A (Syntax.tyArray y3 32768)) tt Path'.refl λ m wa. (Path'.refl, Dec'.lit< tt)) d100
 
-          d102 : Typed.Typed 𝓤 H A 𝓣 E G5 b74 Δ0 (at102 bs)
-          d102 = Typed.g-pre 𝓤 H A W 𝓣 E G5 G6 b74 Δ0 (Typed.pass T5 T6 (s4 bs)) (at101 bs) (AtSlots.g-as-by 𝓤 H A W E (λ ρ. Unit) G5 4 (Rows.arrF q4 5002 0) (λ x. x) (Own.told-none 𝓤 H A (G5 .slots)) λ ρ told. Repeat.whole-arr 𝓤 H A W q4 5002 tt ρ) d101
+          d102 : Typed.Typed 𝓤 H A 𝓣 E G14 b75 Δ0 (at102 bs)
+          d102 = Typed.g-pre 𝓤 H A W 𝓣 E G14 G15 b75 Δ0 (Typed.pass T14 T15 (s13 bs)) (at101 bs) (Scalar.g-room 𝓤 H A W E G14 15 (Syntax.tyArray Rec·laws.mir 5000) (Init.room-arr 𝓤 H A W Rec·type.the-row 5000 0 5000 Path'.refl)) d101
 
-          d103 : Typed.Typed 𝓤 H A 𝓣 E G4 b75 Δ0 (at103 bs)
-          d103 = Typed.s-seq 𝓤 H A W 𝓣 E G4 G5 b1 b74 Δ0 (Typed.pass T4 T5 (s3 bs)) (at102 bs) (Repeat.t-repeat 𝓤 H A W E 𝓣 q4 (Floats.float-lawful 𝓤 H A W Ieee.binary64) (Copies.cRf (Referent.fFloat Ieee.binary64) .copy 𝓤 H A W) (Floats.float-makes 𝓤 H A W Ieee.binary64) 5002 G4 4 (Scalar.oFloat Ieee.binary64 0) (λ m. Ieee.ofBits Ieee.binary64 0) (Reads'.room-gone 𝓤 H A (Syntax.tyArray y0 5002)) tt Path'.refl λ m wa. RepeatOf.float-of-wt Ieee.binary64 (Ieee.ofBits Ieee.binary64 0) wa) d102
+          d103 : Typed.Typed 𝓤 H A 𝓣 E G13 b76 Δ0 (at103 bs)
+          d103 = Typed.s-seq 𝓤 H A W 𝓣 E G13 G14 b6 b75 Δ0 (Typed.pass T13 T14 (s12 bs)) (at102 bs) (LocalCopy.t-val-copy 𝓤 H A W E 𝓣 (λ ρ. Unit) G13 15 8 (Array'.Array Rec·type.the-row 5000) (Syntax.tyArray Rec·laws.mir 5000) (Syntax.tyArray Rec·laws.mir 5000) (Rows.arrF Rec·type.the-row 5000 0) (Rows.arrF Rec·type.the-row 5000 0) (λ x. x) (λ x. x) (λ x. x) Path'.refl (Own.told-none 𝓤 H A (G13 .slots)) (Yields.yields-copy 𝓤 H A W (λ ρ. Unit) (Array'.Array Rec·type.the-row 5000) Path'.refl (Copies.cArr Rec·type.the-row (Copies.cStruct Rec·type.the-type Rec·laws.the-laws Rec·laws.the-copy) 5000 .copy 𝓤 H A W) (Rows.arrF Rec·type.the-row 5000 0) (λ x. x) (λ x. x) (λ ρ told. Whole.mem-arr 𝓤 H A W Rec·type.the-row 5000 ρ) λ ρ told. Whole.arr-mem 𝓤 H A W Rec·type.the-row 5000 tt ρ) (Reads'.room-gone 𝓤 H A (Syntax.tyArray Rec·laws.mir 5000)) (Yields.makes-mem 𝓤 H A W (λ ρ. Unit) (Array'.Array Rec·type.the-row 5000) Path'.refl (Rows.arrF Rec·type.the-row 5000 0) (λ x. x) λ ρ told. Whole.arr-mem 𝓤 H A W Rec·type.the-row 5000 tt ρ) Path'.refl Path'.refl) d102
 
-          d104 : Typed.Typed 𝓤 H A 𝓣 E G3 b75 Δ0 (at104 bs)
-          d104 = Typed.g-pre 𝓤 H A W 𝓣 E G3 G4 b75 Δ0 (Typed.pass T3 T4 (s2 bs)) (at103 bs) (AtSlots.g-as-by 𝓤 H A W E (λ ρ. Unit) G3 3 (Rows.arrF q4 5001 0) (λ x. x) (Own.told-none 𝓤 H A (G3 .slots)) λ ρ told. Repeat.whole-arr 𝓤 H A W q4 5001 tt ρ) d103
+          d104 : Typed.Typed 𝓤 H A 𝓣 E G12 b77 Δ0 (at104 bs)
+          d104 = Typed.s-seq 𝓤 H A W 𝓣 E G12 G13 b5 b76 Δ0 (Typed.both (s11 bs)) (at103 bs) (Plain.t-call-plain 𝓤 H A W 𝓣 0 ps·0 r·0 (claims· .0) (claims· .1) "contig::no_candidates" (known .0) E (λ pos β. β) G12 tt 15 List.[] (Call.sub-id 𝓤 H A W (G12 .slots)) tt (Reads'.room-gone 𝓤 H A (Syntax.tyArray Rec·laws.mir 5000)) tt Path'.refl) d103
 
-          d105 : Typed.Typed 𝓤 H A 𝓣 E G2 b76 Δ0 (at105 bs)
-          d105 = Typed.s-seq 𝓤 H A W 𝓣 E G2 G3 b0 b75 Δ0 (Typed.pass T2 T3 (s1 bs)) (at104 bs) (Repeat.t-repeat 𝓤 H A W E 𝓣 q4 (Floats.float-lawful 𝓤 H A W Ieee.binary64) (Copies.cRf (Referent.fFloat Ieee.binary64) .copy 𝓤 H A W) (Floats.float-makes 𝓤 H A W Ieee.binary64) 5001 G2 3 (Scalar.oFloat Ieee.binary64 0) (λ m. Ieee.ofBits Ieee.binary64 0) (Reads'.room-gone 𝓤 H A (Syntax.tyArray y0 5001)) tt Path'.refl λ m wa. RepeatOf.float-of-wt Ieee.binary64 (Ieee.ofBits Ieee.binary64 0) wa) d104
+          d105 : Typed.Typed 𝓤 H A 𝓣 E G11 b77 Δ0 (at105 bs)
+          d105 = Typed.g-pre 𝓤 H A W 𝓣 E G11 G12 b77 Δ0 (Typed.pass T11 T12 (s10 bs)) (at104 bs) (AtSlots.g-as-by 𝓤 H A W E (λ ρ. Unit) G11 7 (Rows.arrF q5 16384 0) (λ x. x) (Own.told-none 𝓤 H A (G11 .slots)) λ ρ told. Repeat.whole-arr 𝓤 H A W q5 16384 tt ρ) d104
 
-          d106 : Typed.Typed 𝓤 H A 𝓣 E G0 b76 Δ0 (at106 bs)
-          d106 = Typed.g-pre 𝓤 H A W 𝓣 E G0 G2 b76 Δ0 (Typed.give (s0 bs)) (at105 bs) (Know.g-shs-known 𝓤 H A W (Referent.fInt Syntax.w8) E G0 1 0 y27 li1 0 (λ x. x) record { fits = Dec'.lit< tt } (Reads'.as-is 𝓤 H A (Rows'.sslice q0 y27 0)) Path'.refl tt) d105
+          d106 : Typed.Typed 𝓤 H A 𝓣 E G10 b78 Δ0 (at106 bs)
+          d106 = Typed.s-seq 𝓤 H A W 𝓣 E G10 G11 b4 b77 Δ0 (Typed.pass T10 T11 (s9 bs)) (at105 bs) (Repeat.t-repeat 𝓤 H A W E 𝓣 q5 (Plain'.uint-lawful 𝓤 H A W Syntax.w16) (Copies.cRf (Referent.fInt Syntax.w16) .copy 𝓤 H A W) (Plain'.uint-makes 𝓤 H A W Syntax.w16) 16384 G10 7 (Scalar.oInt Syntax.w16 0) (λ m. 0) (Reads'.room-gone 𝓤 H A (Syntax.tyArray y2 16384)) tt Path'.refl λ m wa. (Path'.refl, Dec'.lit< tt)) d105
+
+          d107 : Typed.Typed 𝓤 H A 𝓣 E G9 b78 Δ0 (at107 bs)
+          d107 = Typed.g-pre 𝓤 H A W 𝓣 E G9 G10 b78 Δ0 (Typed.pass T9 T10 (s8 bs)) (at106 bs) (AtSlots.g-as-by 𝓤 H A W E (λ ρ. Unit) G9 6 (Rows.arrF q5 16384 0) (λ x. x) (Own.told-none 𝓤 H A (G9 .slots)) λ ρ told. Repeat.whole-arr 𝓤 H A W q5 16384 tt ρ) d106
+
+          d108 : Typed.Typed 𝓤 H A 𝓣 E G8 b79 Δ0 (at108 bs)
+          d108 = Typed.s-seq 𝓤 H A W 𝓣 E G8 G9 b3 b78 Δ0 (Typed.pass T8 T9 (s7 bs)) (at107 bs) (Repeat.t-repeat 𝓤 H A W E 𝓣 q5 (Plain'.uint-lawful 𝓤 H A W Syntax.w16) (Copies.cRf (Referent.fInt Syntax.w16) .copy 𝓤 H A W) (Plain'.uint-makes 𝓤 H A W Syntax.w16) 16384 G8 6 (Scalar.oInt Syntax.w16 0) (λ m. 0) (Reads'.room-gone 𝓤 H A (Syntax.tyArray y2 16384)) tt Path'.refl λ m wa. (Path'.refl, Dec'.lit< tt)) d107
+
+          d109 : Typed.Typed 𝓤 H A 𝓣 E G7 b79 Δ0 (at109 bs)
+          d109 = Typed.g-pre 𝓤 H A W 𝓣 E G7 G8 b79 Δ0 (Typed.pass T7 T8 (s6 bs)) (at108 bs) (AtSlots.g-as-by 𝓤 H A W E (λ ρ. Unit) G7 5 (Rows.arrF q1 5000 0) (λ x. x) (Own.told-none 𝓤 H A (G7 .slots)) λ ρ told. Repeat.whole-arr 𝓤 H A W q1 5000 tt ρ) d108
+
+          d110 : Typed.Typed 𝓤 H A 𝓣 E G6 b80 Δ0 (at110 bs)
+          d110 = Typed.s-seq 𝓤 H A W 𝓣 E G6 G7 b2 b79 Δ0 (Typed.pass T6 T7 (s5 bs)) (at109 bs) (Repeat.t-repeat 𝓤 H A W E 𝓣 q1 (Plain'.uint-lawful 𝓤 H A W Syntax.w32) (Copies.cRf (Referent.fInt Syntax.w32) .copy 𝓤 H A W) (Plain'.uint-makes 𝓤 H A W Syntax.w32) 5000 G6 5 (Scalar.oInt Syntax.w32 0) (λ m. 0) (Reads'.room-gone 𝓤 H A (Syntax.tyArray y1 5000)) tt Path'.refl λ m wa. (Path'.refl, Dec'.lit< tt)) d109
+
+          d111 : Typed.Typed 𝓤 H A 𝓣 E G5 b80 Δ0 (at111 bs)
+          d111 = Typed.g-pre 𝓤 H A W 𝓣 E G5 G6 b80 Δ0 (Typed.pass T5 T6 (s4 bs)) (at110 bs) (AtSlots.g-as-by 𝓤 H A W E (λ ρ. Unit) G5 4 (Rows.arrF q4 5002 0) (λ x. x) (Own.told-none 𝓤 H A (G5 .slots)) λ ρ told. Repeat.whole-arr 𝓤 H A W q4 5002 tt ρ) d110
+
+          d112 : Typed.Typed 𝓤 H A 𝓣 E G4 b81 Δ0 (at112 bs)
+          d112 = Typed.s-seq 𝓤 H A W 𝓣 E G4 G5 b1 b80 Δ0 (Typed.pass T4 T5 (s3 bs)) (at111 bs) (Repeat.t-repeat 𝓤 H A W E 𝓣 q4 (Floats.float-lawful 𝓤 H A W Ieee.binary64) (Copies.cRf (Referent.fFloat Ieee.binary64) .copy 𝓤 H A W) (Floats.float-makes 𝓤 H A W Ieee.binary64) 5002 G4 4 (Scalar.oFloat Ieee.binary64 0) (λ m. Ieee.ofBits Ieee.binary64 0) (Reads'.room-gone 𝓤 H A (Syntax.tyArray y0 5002)) tt Path'.refl λ m wa. RepeatOf.float-of-wt Ieee.binary64 (Ieee.ofBits Ieee.binary64 0) wa) d111
+
+          d113 : Typed.Typed 𝓤 H A 𝓣 E G3 b81 Δ0 (at113 bs)
+          d113 = Typed.g-pre 𝓤 H A W 𝓣 E G3 G4 b81 Δ0 (Typed.pass T3 T4 (s2 bs)) (at112 bs) (AtSlots.g-as-by 𝓤 H A W E (λ ρ. Unit) G3 3 (Rows.arrF q4 5001 0) (λ x. x) (Own.told-none 𝓤 H A (G3 .slots)) λ ρ told. Repeat.whole-arr 𝓤 H A W q4 5001 tt ρ) d112
+
+          d114 : Typed.Typed 𝓤 H A 𝓣 E G2 b82 Δ0 (at114 bs)
+          d114 = Typed.s-seq 𝓤 H A W 𝓣 E G2 G3 b0 b81 Δ0 (Typed.pass T2 T3 (s1 bs)) (at113 bs) (Repeat.t-repeat 𝓤 H A W E 𝓣 q4 (Floats.float-lawful 𝓤 H A W Ieee.binary64) (Copies.cRf (Referent.fFloat Ieee.binary64) .copy 𝓤 H A W) (Floats.float-makes 𝓤 H A W Ieee.binary64) 5001 G2 3 (Scalar.oFloat Ieee.binary64 0) (λ m. Ieee.ofBits Ieee.binary64 0) (Reads'.room-gone 𝓤 H A (Syntax.tyArray y0 5001)) tt Path'.refl λ m wa. RepeatOf.float-of-wt Ieee.binary64 (Ieee.ofBits Ieee.binary64 0) wa) d113
+
+          d115 : Typed.Typed 𝓤 H A 𝓣 E G0 b82 Δ0 (at115 bs)
+          d115 = Typed.g-pre 𝓤 H A W 𝓣 E G0 G2 b82 Δ0 (Typed.give (s0 bs)) (at114 bs) (Know.g-shs-known 𝓤 H A W (Referent.fInt Syntax.w8) E G0 1 0 y28 li1 0 (λ x. x) record { fits = Dec'.lit< tt } (Reads'.as-is 𝓤 H A (Rows'.sslice q0 y28 0)) Path'.refl tt) d114
 
           pub typed :
               Typed.Typed
@@ -3010,10 +3226,10 @@ module _ (claims· : Claims) where
               𝓣
               E
               (Function.Γin 2 ps r xs m κs qs)
-              b76
+              b82
               (Function.Δret 2 ps r xs m κs qs)
               (Φ bs)
-          typed = d106
+          typed = d115
 
       module _ (κs : Lifetimes.Lfts 2) where
         pub record Args : Type 0 where
@@ -3276,20 +3492,36 @@ module _ (claims· : Claims) where
           Typed.Mo T25
       m24 = λ before given. s23 (before .before .before .before .blocks) (m23 before given)
 
-      abbrev pub Need-default-requires : Type 0
-      Need-default-requires = (c : After-no-intervals2) → s24 (c .before .before .before .before .blocks) .asks (m24 (c .before) (After-no-intervals2·gave c))
-
       abbrev pub m25 :
-          (before : After-no-intervals2) →
-          (given : s24
-          (before .before .before .before .before .blocks) .gives
-          (m24 (before .before) (After-no-intervals2·gave before))) →
+          (before : After-no-intervals) →
+          (given : s21
+          (before .before .before .before .blocks) .gives
+          (m21 (before .before) (After-no-intervals·gave before))) →
           Typed.Mo T26
-      m25 = λ before given. s24 (before .before .before .before .before .blocks) .next (m24 (before .before) (After-no-intervals2·gave before)) given
+      m25 = λ before given. s24 (before .before .before .before .blocks) (m24 before given)
+
+      abbrev pub m26 :
+          (before : After-no-intervals) →
+          (given : s21
+          (before .before .before .before .blocks) .gives
+          (m21 (before .before) (After-no-intervals·gave before))) →
+          Typed.Mo T27
+      m26 = λ before given. s25 (before .before .before .before .blocks) (m25 before given)
+
+      abbrev pub Need-default-requires : Type 0
+      Need-default-requires = (c : After-no-intervals2) → s26 (c .before .before .before .before .blocks) .asks (m26 (c .before) (After-no-intervals2·gave c))
+
+      abbrev pub m27 :
+          (before : After-no-intervals2) →
+          (given : s26
+          (before .before .before .before .before .blocks) .gives
+          (m26 (before .before) (After-no-intervals2·gave before))) →
+          Typed.Mo T28
+      m27 = λ before given. s26 (before .before .before .before .before .blocks) .next (m26 (before .before) (After-no-intervals2·gave before)) given
 
       module _ (before· : After-no-intervals2) where
         abbrev pub After-default·own : Type 0
-        After-default·own = Called.Called ps·2 r·2 (claims· .5) T25 tt (m24 (before· .before) (After-no-intervals2·gave before·))
+        After-default·own = Called.Called ps·2 r·2 (claims· .5) T27 tt (m26 (before· .before) (After-no-intervals2·gave before·))
 
       pub record After-default : Type 0 where
         pub before : After-no-intervals2
@@ -3297,667 +3529,728 @@ module _ (claims· : Claims) where
 
       abbrev pub After-default·gave :
           (c : After-default) →
-          s24
+          s26
           (c .before .before .before .before .before .blocks) .gives
-          (m24 (c .before .before) (After-no-intervals2·gave (c .before)))
-      After-default·gave = λ c. Called.given ps·2 r·2 (claims· .5) T25 tt (m24 (c .before .before) (After-no-intervals2·gave (c .before))) (c .default)
+          (m26 (c .before .before) (After-no-intervals2·gave (c .before)))
+      After-default·gave = λ c. Called.given ps·2 r·2 (claims· .5) T27 tt (m26 (c .before .before) (After-no-intervals2·gave (c .before))) (c .default)
 
-      abbrev pub m26 :
+      abbrev pub m28 :
           (before : After-default) →
-          (given : s26
+          (given : s28
           (before .before .before .before .before .before .blocks) .gives
-          (m25 (before .before) (After-default·gave before))) →
-          Typed.Mo T28
-      m26 = λ before given. s26 (before .before .before .before .before .before .blocks) .next (m25 (before .before) (After-default·gave before)) given
+          (m27 (before .before) (After-default·gave before))) →
+          Typed.Mo T30
+      m28 = λ before given. s28 (before .before .before .before .before .before .blocks) .next (m27 (before .before) (After-default·gave before)) given
 
       module _ (before· : After-default) where
         pub record After-ln·own : Type 0 where
-          pub given : s26
+          pub given : s28
               (before· .before .before .before .before .before .blocks) .gives
-              (m25 (before· .before) (After-default·gave before·))
+              (m27 (before· .before) (After-default·gave before·))
 
       pub record After-ln : Type 0 where
         pub before : After-default
         pub ln : After-ln·own before
 
       abbrev pub Need-slice-aggregate-process : Type 0
-      Need-slice-aggregate-process = (c : After-ln) → Relend.CountIs T28 17 18 (λ x. x) (λ u. 5001) (m26 (c .before) (c .ln .given))
+      Need-slice-aggregate-process = (c : After-ln) → Relend.CountIs T30 18 19 (λ x. x) (λ u. 5001) (m28 (c .before) (c .ln .given))
 
-      abbrev pub m27 :
+      abbrev pub m29 :
           (before : After-default) →
-          (given : s26
+          (given : s28
           (before .before .before .before .before .before .blocks) .gives
-          (m25 (before .before) (After-default·gave before))) →
-          Typed.Mo T29
-      m27 = λ before given. s27 (before .before .before .before .before .before .blocks) .next (m26 before given)
-
-      abbrev pub m28 :
-          (before : After-ln) →
-          (given : s29
-          (before .before .before .before .before .before .before .blocks) .gives
-          (m27 (before .before) (before .ln .given))) →
+          (m27 (before .before) (After-default·gave before))) →
           Typed.Mo T31
-      m28 = λ before given. s29 (before .before .before .before .before .before .before .blocks) .next (m27 (before .before) (before .ln .given)) given
+      m29 = λ before given. s29 (before .before .before .before .before .before .blocks) .next (m28 before given)
+
+      abbrev pub m30 :
+          (before : After-ln) →
+          (given : s31
+          (before .before .before .before .before .before .before .blocks) .gives
+          (m29 (before .before) (before .ln .given))) →
+          Typed.Mo T33
+      m30 = λ before given. s31 (before .before .before .before .before .before .before .blocks) .next (m29 (before .before) (before .ln .given)) given
 
       module _ (before· : After-ln) where
         pub record After-f·own : Type 0 where
-          pub given : s29
+          pub given : s31
               (before· .before .before .before .before .before .before .blocks) .gives
-              (m27 (before· .before) (before· .ln .given))
+              (m29 (before· .before) (before· .ln .given))
 
       pub record After-f : Type 0 where
         pub before : After-ln
         pub f : After-f·own before
 
       abbrev pub Need-slice-aggregate-process-2 : Type 0
-      Need-slice-aggregate-process-2 = (c : After-f) → Relend.CountIs T31 19 20 (λ x. x) (λ u. 5002) (m28 (c .before) (c .f .given))
+      Need-slice-aggregate-process-2 = (c : After-f) → Relend.CountIs T33 20 21 (λ x. x) (λ u. 5002) (m30 (c .before) (c .f .given))
 
-      abbrev pub m29 :
+      abbrev pub m31 :
           (before : After-ln) →
-          (given : s29
+          (given : s31
           (before .before .before .before .before .before .before .blocks) .gives
-          (m27 (before .before) (before .ln .given))) →
-          Typed.Mo T32
-      m29 = λ before given. s30 (before .before .before .before .before .before .before .blocks) .next (m28 before given)
-
-      abbrev pub m30 :
-          (before : After-f) →
-          (given : s32
-          (before .before .before .before .before .before .before .before .blocks) .gives
-          (m29 (before .before) (before .f .given))) →
+          (m29 (before .before) (before .ln .given))) →
           Typed.Mo T34
-      m30 = λ before given. s32 (before .before .before .before .before .before .before .before .blocks) .next (m29 (before .before) (before .f .given)) given
+      m31 = λ before given. s32 (before .before .before .before .before .before .before .blocks) .next (m30 before given)
+
+      abbrev pub m32 :
+          (before : After-f) →
+          (given : s34
+          (before .before .before .before .before .before .before .before .blocks) .gives
+          (m31 (before .before) (before .f .given))) →
+          Typed.Mo T36
+      m32 = λ before given. s34 (before .before .before .before .before .before .before .before .blocks) .next (m31 (before .before) (before .f .given)) given
 
       module _ (before· : After-f) where
         pub record After-queue·own : Type 0 where
-          pub given : s32
+          pub given : s34
               (before· .before .before .before .before .before .before .before .blocks) .gives
-              (m29 (before· .before) (before· .f .given))
+              (m31 (before· .before) (before· .f .given))
 
       pub record After-queue : Type 0 where
         pub before : After-f
         pub queue : After-queue·own before
 
       abbrev pub Need-slice-aggregate-process-3 : Type 0
-      Need-slice-aggregate-process-3 = (c : After-queue) → Relend.CountIs T34 21 22 (λ x. x) (λ u. 5000) (m30 (c .before) (c .queue .given))
+      Need-slice-aggregate-process-3 = (c : After-queue) → Relend.CountIs T36 22 23 (λ x. x) (λ u. 5000) (m32 (c .before) (c .queue .given))
 
-      abbrev pub m31 :
+      abbrev pub m33 :
           (before : After-f) →
-          (given : s32
+          (given : s34
           (before .before .before .before .before .before .before .before .blocks) .gives
-          (m29 (before .before) (before .f .given))) →
-          Typed.Mo T35
-      m31 = λ before given. s33 (before .before .before .before .before .before .before .before .blocks) .next (m30 before given)
-
-      abbrev pub m32 :
-          (before : After-queue) →
-          (given : s35
-          (before .before .before .before .before .before .before .before .before .blocks) .gives
-          (m31 (before .before) (before .queue .given))) →
+          (m31 (before .before) (before .f .given))) →
           Typed.Mo T37
-      m32 = λ before given. s35 (before .before .before .before .before .before .before .before .before .blocks) .next (m31 (before .before) (before .queue .given)) given
+      m33 = λ before given. s35 (before .before .before .before .before .before .before .before .blocks) .next (m32 before given)
+
+      abbrev pub m34 :
+          (before : After-queue) →
+          (given : s37
+          (before .before .before .before .before .before .before .before .before .blocks) .gives
+          (m33 (before .before) (before .queue .given))) →
+          Typed.Mo T39
+      m34 = λ before given. s37 (before .before .before .before .before .before .before .before .before .blocks) .next (m33 (before .before) (before .queue .given)) given
 
       module _ (before· : After-queue) where
         pub record After-window-counts·own : Type 0 where
-          pub given : s35
+          pub given : s37
               (before· .before .before .before .before .before .before .before .before .blocks)
               .gives
-              (m31 (before· .before) (before· .queue .given))
+              (m33 (before· .before) (before· .queue .given))
 
       pub record After-window-counts : Type 0 where
         pub before : After-queue
         pub window-counts : After-window-counts·own before
 
       abbrev pub Need-slice-aggregate-process-4 : Type 0
-      Need-slice-aggregate-process-4 = (c : After-window-counts) → Relend.CountIs T37 23 24 (λ x. x) (λ u. 16384) (m32 (c .before) (c .window-counts .given))
+      Need-slice-aggregate-process-4 = (c : After-window-counts) → Relend.CountIs T39 24 25 (λ x. x) (λ u. 16384) (m34 (c .before) (c .window-counts .given))
 
-      abbrev pub m33 :
+      abbrev pub m35 :
           (before : After-queue) →
-          (given : s35
+          (given : s37
           (before .before .before .before .before .before .before .before .before .blocks) .gives
-          (m31 (before .before) (before .queue .given))) →
-          Typed.Mo T38
-      m33 = λ before given. s36 (before .before .before .before .before .before .before .before .before .blocks) .next (m32 before given)
+          (m33 (before .before) (before .queue .given))) →
+          Typed.Mo T40
+      m35 = λ before given. s38 (before .before .before .before .before .before .before .before .before .blocks) .next (m34 before given)
 
-      abbrev pub m34 :
-          (before : After-window-counts) → (given : s38
+      abbrev pub m36 :
+          (before : After-window-counts) → (given : s40
           (before .before .before .before .before .before .before .before .before .before .blocks)
-          .gives (m33 (before .before) (before .window-counts .given))) → Typed.Mo T40
-      m34 = λ before given. s38 (before .before .before .before .before .before .before .before .before .before .blocks) .next (m33 (before .before) (before .window-counts .given)) given
+          .gives (m35 (before .before) (before .window-counts .given))) → Typed.Mo T42
+      m36 = λ before given. s40 (before .before .before .before .before .before .before .before .before .before .blocks) .next (m35 (before .before) (before .window-counts .given)) given
 
       module _ (before· : After-window-counts) where
         pub record After-scan-counts·own : Type 0 where
-          pub given : s38
+          pub given : s40
               (before· .before .before .before .before .before .before .before .before .before
               .blocks) .gives
-              (m33 (before· .before) (before· .window-counts .given))
+              (m35 (before· .before) (before· .window-counts .given))
 
       pub record After-scan-counts : Type 0 where
         pub before : After-window-counts
         pub scan-counts : After-scan-counts·own before
 
       abbrev pub Need-slice-aggregate-process-5 : Type 0
-      Need-slice-aggregate-process-5 = (c : After-scan-counts) → Relend.CountIs T40 25 26 (λ x. x) (λ u. 16384) (m34 (c .before) (c .scan-counts .given))
+      Need-slice-aggregate-process-5 = (c : After-scan-counts) → Relend.CountIs T42 26 27 (λ x. x) (λ u. 16384) (m36 (c .before) (c .scan-counts .given))
 
-      abbrev pub m35 :
-          (before : After-window-counts) → (given : s38
+      abbrev pub m37 :
+          (before : After-window-counts) → (given : s40
           (before .before .before .before .before .before .before .before .before .before .blocks)
-          .gives (m33 (before .before) (before .window-counts .given))) → Typed.Mo T41
-      m35 = λ before given. s39 (before .before .before .before .before .before .before .before .before .before .blocks) .next (m34 before given)
+          .gives (m35 (before .before) (before .window-counts .given))) → Typed.Mo T43
+      m37 = λ before given. s41 (before .before .before .before .before .before .before .before .before .before .blocks) .next (m36 before given)
 
-      abbrev pub m36 :
-          (before : After-scan-counts) → (given : s41
+      abbrev pub m38 :
+          (before : After-scan-counts) → (given : s43
           (before .before .before .before .before .before .before .before .before .before .before
-          .blocks) .gives (m35 (before .before) (before .scan-counts .given))) → Typed.Mo T43
-      m36 = λ before given. s41 (before .before .before .before .before .before .before .before .before .before .before .blocks) .next (m35 (before .before) (before .scan-counts .given)) given
+          .blocks) .gives (m37 (before .before) (before .scan-counts .given))) → Typed.Mo T45
+      m38 = λ before given. s43 (before .before .before .before .before .before .before .before .before .before .before .blocks) .next (m37 (before .before) (before .scan-counts .given)) given
 
       module _ (before· : After-scan-counts) where
         pub record After-candidates·own : Type 0 where
-          pub given : s41
+          pub given : s43
               (before· .before .before .before .before .before .before .before .before .before
               .before .blocks) .gives
-              (m35 (before· .before) (before· .scan-counts .given))
+              (m37 (before· .before) (before· .scan-counts .given))
 
       pub record After-candidates : Type 0 where
         pub before : After-scan-counts
         pub candidates : After-candidates·own before
 
       abbrev pub Need-slice-aggregate-process-6 : Type 0
-      Need-slice-aggregate-process-6 = (c : After-candidates) → Relend.CountIs T43 27 28 (λ x. x) (λ u. 5000) (m36 (c .before) (c .candidates .given))
+      Need-slice-aggregate-process-6 = (c : After-candidates) → Relend.CountIs T45 28 29 (λ x. x) (λ u. 5000) (m38 (c .before) (c .candidates .given))
 
-      abbrev pub m37 :
-          (before : After-scan-counts) → (given : s41
+      abbrev pub m39 :
+          (before : After-scan-counts) → (given : s43
           (before .before .before .before .before .before .before .before .before .before .before
-          .blocks) .gives (m35 (before .before) (before .scan-counts .given))) → Typed.Mo T44
-      m37 = λ before given. s42 (before .before .before .before .before .before .before .before .before .before .before .blocks) .next (m36 before given)
+          .blocks) .gives (m37 (before .before) (before .scan-counts .given))) → Typed.Mo T46
+      m39 = λ before given. s44 (before .before .before .before .before .before .before .before .before .before .before .blocks) .next (m38 before given)
 
-      abbrev pub m38 :
-          (before : After-candidates) → (given : s44
+      abbrev pub m40 :
+          (before : After-candidates) → (given : s46
           (before .before .before .before .before .before .before .before .before .before .before
-          .before .blocks) .gives (m37 (before .before) (before .candidates .given))) → Typed.Mo
-          T46
-      m38 = λ before given. s44 (before .before .before .before .before .before .before .before .before .before .before .before .blocks) .next (m37 (before .before) (before .candidates .given)) given
+          .before .blocks) .gives (m39 (before .before) (before .candidates .given))) → Typed.Mo
+          T48
+      m40 = λ before given. s46 (before .before .before .before .before .before .before .before .before .before .before .before .blocks) .next (m39 (before .before) (before .candidates .given)) given
 
       module _ (before· : After-candidates) where
         pub record After-codes·own : Type 0 where
-          pub given : s44
+          pub given : s46
               (before· .before .before .before .before .before .before .before .before .before
               .before .before .blocks) .gives
-              (m37 (before· .before) (before· .candidates .given))
+              (m39 (before· .before) (before· .candidates .given))
 
       pub record After-codes : Type 0 where
         pub before : After-candidates
         pub codes : After-codes·own before
 
       abbrev pub Need-slice-aggregate-process-7 : Type 0
-      Need-slice-aggregate-process-7 = (c : After-codes) → Relend.CountIs T46 29 30 (λ x. x) (λ u. 32768) (m38 (c .before) (c .codes .given))
+      Need-slice-aggregate-process-7 = (c : After-codes) → Relend.CountIs T48 30 31 (λ x. x) (λ u. 32768) (m40 (c .before) (c .codes .given))
 
-      abbrev pub m39 :
-          (before : After-candidates) → (given : s44
+      abbrev pub m41 :
+          (before : After-candidates) → (given : s46
           (before .before .before .before .before .before .before .before .before .before .before
-          .before .blocks) .gives (m37 (before .before) (before .candidates .given))) → Typed.Mo
-          T47
-      m39 = λ before given. s45 (before .before .before .before .before .before .before .before .before .before .before .before .blocks) .next (m38 before given)
-
-      abbrev pub m40 :
-          (before : After-codes) → (given : s47
-          (before .before .before .before .before .before .before .before .before .before .before
-          .before .before .blocks) .gives (m39 (before .before) (before .codes .given))) → Typed.Mo
+          .before .blocks) .gives (m39 (before .before) (before .candidates .given))) → Typed.Mo
           T49
-      m40 = λ before given. s47 (before .before .before .before .before .before .before .before .before .before .before .before .before .blocks) .next (m39 (before .before) (before .codes .given)) given
+      m41 = λ before given. s47 (before .before .before .before .before .before .before .before .before .before .before .before .blocks) .next (m40 before given)
+
+      abbrev pub m42 :
+          (before : After-codes) → (given : s49
+          (before .before .before .before .before .before .before .before .before .before .before
+          .before .before .blocks) .gives (m41 (before .before) (before .codes .given))) → Typed.Mo
+          T51
+      m42 = λ before given. s49 (before .before .before .before .before .before .before .before .before .before .before .before .before .blocks) .next (m41 (before .before) (before .codes .given)) given
 
       module _ (before· : After-codes) where
         pub record After-reverse-codes·own : Type 0 where
-          pub given : s47
+          pub given : s49
               (before· .before .before .before .before .before .before .before .before .before
               .before .before .before .blocks) .gives
-              (m39 (before· .before) (before· .codes .given))
+              (m41 (before· .before) (before· .codes .given))
 
       pub record After-reverse-codes : Type 0 where
         pub before : After-codes
         pub reverse-codes : After-reverse-codes·own before
 
       abbrev pub Need-slice-aggregate-process-8 : Type 0
-      Need-slice-aggregate-process-8 = (c : After-reverse-codes) → Relend.CountIs T49 31 32 (λ x. x) (λ u. 32768) (m40 (c .before) (c .reverse-codes .given))
+      Need-slice-aggregate-process-8 = (c : After-reverse-codes) → Relend.CountIs T51 32 33 (λ x. x) (λ u. 32768) (m42 (c .before) (c .reverse-codes .given))
 
-      abbrev pub m41 :
-          (before : After-codes) → (given : s47
+      abbrev pub m43 :
+          (before : After-codes) → (given : s49
           (before .before .before .before .before .before .before .before .before .before .before
-          .before .before .blocks) .gives (m39 (before .before) (before .codes .given))) → Typed.Mo
-          T50
-      m41 = λ before given. s48 (before .before .before .before .before .before .before .before .before .before .before .before .before .blocks) .next (m40 before given)
+          .before .before .blocks) .gives (m41 (before .before) (before .codes .given))) → Typed.Mo
+          T52
+      m43 = λ before given. s50 (before .before .before .before .before .before .before .before .before .before .before .before .before .blocks) .next (m42 before given)
 
-      abbrev pub m42 :
-          (before : After-reverse-codes) → (given : s50
+      abbrev pub m44 :
+          (before : After-reverse-codes) → (given : s52
           (before .before .before .before .before .before .before .before .before .before .before
-          .before .before .before .blocks) .gives (m41 (before .before)
-          (before .reverse-codes .given))) → Typed.Mo T52
-      m42 = λ before given. s50 (before .before .before .before .before .before .before .before .before .before .before .before .before .before .blocks) .next (m41 (before .before) (before .reverse-codes .given)) given
+          .before .before .before .blocks) .gives (m43 (before .before)
+          (before .reverse-codes .given))) → Typed.Mo T54
+      m44 = λ before given. s52 (before .before .before .before .before .before .before .before .before .before .before .before .before .before .blocks) .next (m43 (before .before) (before .reverse-codes .given)) given
 
       module _ (before· : After-reverse-codes) where
         pub record After-forward-list·own : Type 0 where
-          pub given : s50
+          pub given : s52
               (before· .before .before .before .before .before .before .before .before .before
               .before .before .before .before .blocks) .gives
-              (m41 (before· .before) (before· .reverse-codes .given))
+              (m43 (before· .before) (before· .reverse-codes .given))
 
       pub record After-forward-list : Type 0 where
         pub before : After-reverse-codes
         pub forward-list : After-forward-list·own before
 
       abbrev pub Need-slice-aggregate-process-9 : Type 0
-      Need-slice-aggregate-process-9 = (c : After-forward-list) → Relend.CountIs T52 33 34 (λ x. x) (λ u. 4096) (m42 (c .before) (c .forward-list .given))
+      Need-slice-aggregate-process-9 = (c : After-forward-list) → Relend.CountIs T54 34 35 (λ x. x) (λ u. 4096) (m44 (c .before) (c .forward-list .given))
 
-      abbrev pub m43 :
-          (before : After-reverse-codes) → (given : s50
+      abbrev pub m45 :
+          (before : After-reverse-codes) → (given : s52
           (before .before .before .before .before .before .before .before .before .before .before
-          .before .before .before .blocks) .gives (m41 (before .before)
-          (before .reverse-codes .given))) → Typed.Mo T53
-      m43 = λ before given. s51 (before .before .before .before .before .before .before .before .before .before .before .before .before .before .blocks) .next (m42 before given)
+          .before .before .before .blocks) .gives (m43 (before .before)
+          (before .reverse-codes .given))) → Typed.Mo T55
+      m45 = λ before given. s53 (before .before .before .before .before .before .before .before .before .before .before .before .before .before .blocks) .next (m44 before given)
 
-      abbrev pub m44 :
-          (before : After-forward-list) → (given : s53
+      abbrev pub m46 :
+          (before : After-forward-list) → (given : s55
           (before .before .before .before .before .before .before .before .before .before .before
-          .before .before .before .before .blocks) .gives (m43 (before .before)
-          (before .forward-list .given))) → Typed.Mo T55
-      m44 = λ before given. s53 (before .before .before .before .before .before .before .before .before .before .before .before .before .before .before .blocks) .next (m43 (before .before) (before .forward-list .given)) given
+          .before .before .before .before .blocks) .gives (m45 (before .before)
+          (before .forward-list .given))) → Typed.Mo T57
+      m46 = λ before given. s55 (before .before .before .before .before .before .before .before .before .before .before .before .before .before .before .blocks) .next (m45 (before .before) (before .forward-list .given)) given
 
       module _ (before· : After-forward-list) where
         pub record After-reverse-list·own : Type 0 where
-          pub given : s53
+          pub given : s55
               (before· .before .before .before .before .before .before .before .before .before
               .before .before .before .before .before .blocks) .gives
-              (m43 (before· .before) (before· .forward-list .given))
+              (m45 (before· .before) (before· .forward-list .given))
 
       pub record After-reverse-list : Type 0 where
         pub before : After-forward-list
         pub reverse-list : After-reverse-list·own before
 
       abbrev pub Need-slice-aggregate-process-10 : Type 0
-      Need-slice-aggregate-process-10 = (c : After-reverse-list) → Relend.CountIs T55 35 36 (λ x. x) (λ u. 4096) (m44 (c .before) (c .reverse-list .given))
+      Need-slice-aggregate-process-10 = (c : After-reverse-list) → Relend.CountIs T57 36 37 (λ x. x) (λ u. 4096) (m46 (c .before) (c .reverse-list .given))
 
-      abbrev pub m45 :
-          (before : After-forward-list) → (given : s53
+      abbrev pub m47 :
+          (before : After-forward-list) → (given : s55
           (before .before .before .before .before .before .before .before .before .before .before
-          .before .before .before .before .blocks) .gives (m43 (before .before)
-          (before .forward-list .given))) → Typed.Mo T56
-      m45 = λ before given. s54 (before .before .before .before .before .before .before .before .before .before .before .before .before .before .before .blocks) .next (m44 before given)
+          .before .before .before .before .blocks) .gives (m45 (before .before)
+          (before .forward-list .given))) → Typed.Mo T58
+      m47 = λ before given. s56 (before .before .before .before .before .before .before .before .before .before .before .before .before .before .before .blocks) .next (m46 before given)
 
-      abbrev pub m46 :
-          (before : After-reverse-list) → (given : s56
+      abbrev pub m48 :
+          (before : After-reverse-list) → (given : s58
           (before .before .before .before .before .before .before .before .before .before .before
-          .before .before .before .before .before .blocks) .gives (m45 (before .before)
-          (before .reverse-list .given))) → Typed.Mo T58
-      m46 = λ before given. s56 (before .before .before .before .before .before .before .before .before .before .before .before .before .before .before .before .blocks) .next (m45 (before .before) (before .reverse-list .given)) given
+          .before .before .before .before .before .blocks) .gives (m47 (before .before)
+          (before .reverse-list .given))) → Typed.Mo T60
+      m48 = λ before given. s58 (before .before .before .before .before .before .before .before .before .before .before .before .before .before .before .before .blocks) .next (m47 (before .before) (before .reverse-list .given)) given
 
       module _ (before· : After-reverse-list) where
         pub record After-process-arg·own : Type 0 where
-          pub given : s56
+          pub given : s58
               (before· .before .before .before .before .before .before .before .before .before
               .before .before .before .before .before .before .blocks) .gives
-              (m45 (before· .before) (before· .reverse-list .given))
+              (m47 (before· .before) (before· .reverse-list .given))
 
       pub record After-process-arg : Type 0 where
         pub before : After-reverse-list
         pub process-arg : After-process-arg·own before
 
-      abbrev pub m47 :
-          (before : After-reverse-list) → (given : s56
+      abbrev pub m49 :
+          (before : After-reverse-list) → (given : s58
           (before .before .before .before .before .before .before .before .before .before .before
-          .before .before .before .before .before .blocks) .gives (m45 (before .before)
-          (before .reverse-list .given))) → Typed.Mo T59
-      m47 = λ before given. s57 (before .before .before .before .before .before .before .before .before .before .before .before .before .before .before .before .blocks) .next (m46 before given)
+          .before .before .before .before .before .blocks) .gives (m47 (before .before)
+          (before .reverse-list .given))) → Typed.Mo T61
+      m49 = λ before given. s59 (before .before .before .before .before .before .before .before .before .before .before .before .before .before .before .before .blocks) .next (m48 before given)
 
-      abbrev pub Need-process-requires : Type 0
-      Need-process-requires = (c : After-process-arg) → s58 (c .before .before .before .before .before .before .before .before .before .before .before .before .before .before .before .before .blocks) .asks (m47 (c .before) (c .process-arg .given))
-
-      abbrev pub m48 :
-          (before : After-process-arg) → (given : s58
+      abbrev pub m50 :
+          (before : After-process-arg) → (given : s61
           (before .before .before .before .before .before .before .before .before .before .before
-          .before .before .before .before .before .before .blocks) .gives (m47 (before .before)
-          (before .process-arg .given))) → Typed.Mo T60
-      m48 = λ before given. s58 (before .before .before .before .before .before .before .before .before .before .before .before .before .before .before .before .before .blocks) .next (m47 (before .before) (before .process-arg .given)) given
+          .before .before .before .before .before .before .blocks) .gives (m49 (before .before)
+          (before .process-arg .given))) → Typed.Mo T63
+      m50 = λ before given. s61 (before .before .before .before .before .before .before .before .before .before .before .before .before .before .before .before .before .blocks) .next (m49 (before .before) (before .process-arg .given)) given
 
       module _ (before· : After-process-arg) where
+        pub record After-marks·own : Type 0 where
+          pub given : s61
+              (before· .before .before .before .before .before .before .before .before .before
+              .before .before .before .before .before .before .before .blocks) .gives
+              (m49 (before· .before) (before· .process-arg .given))
+
+      pub record After-marks : Type 0 where
+        pub before : After-process-arg
+        pub marks : After-marks·own before
+
+      abbrev pub Need-slice-aggregate-process-11 : Type 0
+      Need-slice-aggregate-process-11 = (c : After-marks) → Relend.CountIs T63 40 41 (λ x. x) (λ u. 4096) (m50 (c .before) (c .marks .given))
+
+      abbrev pub m51 :
+          (before : After-process-arg) → (given : s61
+          (before .before .before .before .before .before .before .before .before .before .before
+          .before .before .before .before .before .before .blocks) .gives (m49 (before .before)
+          (before .process-arg .given))) → Typed.Mo T64
+      m51 = λ before given. s62 (before .before .before .before .before .before .before .before .before .before .before .before .before .before .before .before .before .blocks) .next (m50 before given)
+
+      abbrev pub Need-process-requires : Type 0
+      Need-process-requires = (c : After-marks) → s63 (c .before .before .before .before .before .before .before .before .before .before .before .before .before .before .before .before .before .blocks) .asks (m51 (c .before) (c .marks .given))
+
+      abbrev pub m52 :
+          (before : After-marks) → (given : s63
+          (before .before .before .before .before .before .before .before .before .before .before
+          .before .before .before .before .before .before .before .blocks) .gives (m51
+          (before .before) (before .marks .given))) → Typed.Mo T65
+      m52 = λ before given. s63 (before .before .before .before .before .before .before .before .before .before .before .before .before .before .before .before .before .before .blocks) .next (m51 (before .before) (before .marks .given)) given
+
+      module _ (before· : After-marks) where
         abbrev pub After-process·own : Type 0
-        After-process·own = Called.Called ps·3 r·3 (claims· .7) T59 (record { pos = 1; ty = y27; ref = λ x. x }, (record { pos = 16; st = List.[]; d = 0; at = λ x. x }, (record { pos = 18; ty = y8; ref = λ x. x }, (record { pos = 20; ty = y8; ref = λ x. x }, (record { pos = 22; ty = y12; ref = λ x. x }, (record { pos = 24; ty = y15; ref = λ x. x }, (record { pos = 26; ty = y15; ref = λ x. x }, (record { pos = 28; ty = y18; ref = λ x. x }, (record { pos = 30; ty = y21; ref = λ x. x }, (record { pos = 32; ty = y21; ref = λ x. x }, (record { pos = 34; ty = y24; ref = λ x. x }, (record { pos = 36; ty = y24; ref = λ x. x }, (record { pos = 38; ty = y24; ref = λ x. x }, tt))))))))))))) (m47 (before· .before) (before· .process-arg .given))
+        After-process·own = Called.Called ps·3 r·3 (claims· .7) T64 (record { pos = 1; ty = y28; ref = λ x. x }, (record { pos = 17; st = List.[]; d = 0; at = λ x. x }, (record { pos = 19; ty = y8; ref = λ x. x }, (record { pos = 21; ty = y8; ref = λ x. x }, (record { pos = 23; ty = y12; ref = λ x. x }, (record { pos = 25; ty = y15; ref = λ x. x }, (record { pos = 27; ty = y15; ref = λ x. x }, (record { pos = 29; ty = y18; ref = λ x. x }, (record { pos = 31; ty = y21; ref = λ x. x }, (record { pos = 33; ty = y21; ref = λ x. x }, (record { pos = 35; ty = y24; ref = λ x. x }, (record { pos = 37; ty = y24; ref = λ x. x }, (record { pos = 39; ty = y24; ref = λ x. x }, (record { pos = 41; ty = y21; ref = λ x. x }, tt)))))))))))))) (m51 (before· .before) (before· .marks .given))
 
       pub record After-process : Type 0 where
-        pub before : After-process-arg
+        pub before : After-marks
         pub process : After-process·own before
 
       abbrev pub After-process·gave :
-          (c : After-process) → s58
+          (c : After-process) → s63
           (c .before .before .before .before .before .before .before .before .before .before
-          .before .before .before .before .before .before .before .blocks) .gives (m47
-          (c .before .before) (c .before .process-arg .given))
-      After-process·gave = λ c. Called.given ps·3 r·3 (claims· .7) T59 (record { pos = 1; ty = y27; ref = λ x. x }, (record { pos = 16; st = List.[]; d = 0; at = λ x. x }, (record { pos = 18; ty = y8; ref = λ x. x }, (record { pos = 20; ty = y8; ref = λ x. x }, (record { pos = 22; ty = y12; ref = λ x. x }, (record { pos = 24; ty = y15; ref = λ x. x }, (record { pos = 26; ty = y15; ref = λ x. x }, (record { pos = 28; ty = y18; ref = λ x. x }, (record { pos = 30; ty = y21; ref = λ x. x }, (record { pos = 32; ty = y21; ref = λ x. x }, (record { pos = 34; ty = y24; ref = λ x. x }, (record { pos = 36; ty = y24; ref = λ x. x }, (record { pos = 38; ty = y24; ref = λ x. x }, tt))))))))))))) (m47 (c .before .before) (c .before .process-arg .given)) (c .process)
+          .before .before .before .before .before .before .before .before .blocks) .gives (m51
+          (c .before .before) (c .before .marks .given))
+      After-process·gave = λ c. Called.given ps·3 r·3 (claims· .7) T64 (record { pos = 1; ty = y28; ref = λ x. x }, (record { pos = 17; st = List.[]; d = 0; at = λ x. x }, (record { pos = 19; ty = y8; ref = λ x. x }, (record { pos = 21; ty = y8; ref = λ x. x }, (record { pos = 23; ty = y12; ref = λ x. x }, (record { pos = 25; ty = y15; ref = λ x. x }, (record { pos = 27; ty = y15; ref = λ x. x }, (record { pos = 29; ty = y18; ref = λ x. x }, (record { pos = 31; ty = y21; ref = λ x. x }, (record { pos = 33; ty = y21; ref = λ x. x }, (record { pos = 35; ty = y24; ref = λ x. x }, (record { pos = 37; ty = y24; ref = λ x. x }, (record { pos = 39; ty = y24; ref = λ x. x }, (record { pos = 41; ty = y21; ref = λ x. x }, tt)))))))))))))) (m51 (c .before .before) (c .before .marks .given)) (c .process)
 
-      abbrev pub m49 :
-          (before : After-process-arg) → (given : s58
+      abbrev pub m53 :
+          (before : After-marks) → (given : s63
           (before .before .before .before .before .before .before .before .before .before .before
-          .before .before .before .before .before .before .blocks) .gives (m47 (before .before)
-          (before .process-arg .given))) → Typed.Mo T61
-      m49 = λ before given. s59 (before .before .before .before .before .before .before .before .before .before .before .before .before .before .before .before .before .blocks) (m48 before given)
+          .before .before .before .before .before .before .before .blocks) .gives (m51
+          (before .before) (before .marks .given))) → Typed.Mo T66
+      m53 = λ before given. s64 (before .before .before .before .before .before .before .before .before .before .before .before .before .before .before .before .before .before .blocks) (m52 before given)
 
-      abbrev pub m50 :
-          (before : After-process) → (given : s61
+      abbrev pub m54 :
+          (before : After-process) → (given : s66
           (before .before .before .before .before .before .before .before .before .before .before
-          .before .before .before .before .before .before .before .blocks) .gives (m49
-          (before .before) (After-process·gave before))) → Typed.Mo T63
-      m50 = λ before given. s61 (before .before .before .before .before .before .before .before .before .before .before .before .before .before .before .before .before .before .blocks) .next (m49 (before .before) (After-process·gave before)) given
+          .before .before .before .before .before .before .before .before .blocks) .gives (m53
+          (before .before) (After-process·gave before))) → Typed.Mo T68
+      m54 = λ before given. s66 (before .before .before .before .before .before .before .before .before .before .before .before .before .before .before .before .before .before .before .blocks) .next (m53 (before .before) (After-process·gave before)) given
 
-      abbrev pub m51 :
-          (before : After-process) → (given : s61
+      abbrev pub m55 :
+          (before : After-process) → (given : s66
           (before .before .before .before .before .before .before .before .before .before .before
-          .before .before .before .before .before .before .before .blocks) .gives (m49
-          (before .before) (After-process·gave before))) → Typed.Mo T65
-      m51 = λ before given. s63 (before .before .before .before .before .before .before .before .before .before .before .before .before .before .before .before .before .before .blocks) (m50 before given)
+          .before .before .before .before .before .before .before .before .blocks) .gives (m53
+          (before .before) (After-process·gave before))) → Typed.Mo T70
+      m55 = λ before given. s68 (before .before .before .before .before .before .before .before .before .before .before .before .before .before .before .before .before .before .before .blocks) (m54 before given)
 
       module _ (before· : After-process) where
         pub record After-ln2·own : Type 0 where
-          pub given : s61
+          pub given : s66
               (before· .before .before .before .before .before .before .before .before .before
-              .before .before .before .before .before .before .before .before .blocks) .gives
-              (m49 (before· .before) (After-process·gave before·))
+              .before .before .before .before .before .before .before .before .before .blocks)
+              .gives
+              (m53 (before· .before) (After-process·gave before·))
 
       pub record After-ln2 : Type 0 where
         pub before : After-process
         pub ln2 : After-ln2·own before
 
-      abbrev pub m52 :
-          (before : After-ln2) → (given : s65
+      abbrev pub m56 :
+          (before : After-ln2) → (given : s70
           (before .before .before .before .before .before .before .before .before .before .before
-          .before .before .before .before .before .before .before .before .blocks) .gives (m51
-          (before .before) (before .ln2 .given))) → Typed.Mo T67
-      m52 = λ before given. s65 (before .before .before .before .before .before .before .before .before .before .before .before .before .before .before .before .before .before .before .blocks) .next (m51 (before .before) (before .ln2 .given)) given
+          .before .before .before .before .before .before .before .before .before .blocks) .gives
+          (m55 (before .before) (before .ln2 .given))) → Typed.Mo T72
+      m56 = λ before given. s70 (before .before .before .before .before .before .before .before .before .before .before .before .before .before .before .before .before .before .before .before .blocks) .next (m55 (before .before) (before .ln2 .given)) given
 
-      abbrev pub m53 :
-          (before : After-ln2) → (given : s65
+      abbrev pub m57 :
+          (before : After-ln2) → (given : s70
           (before .before .before .before .before .before .before .before .before .before .before
-          .before .before .before .before .before .before .before .before .blocks) .gives (m51
-          (before .before) (before .ln2 .given))) → Typed.Mo T69
-      m53 = λ before given. s67 (before .before .before .before .before .before .before .before .before .before .before .before .before .before .before .before .before .before .before .blocks) (m52 before given)
+          .before .before .before .before .before .before .before .before .before .blocks) .gives
+          (m55 (before .before) (before .ln2 .given))) → Typed.Mo T74
+      m57 = λ before given. s72 (before .before .before .before .before .before .before .before .before .before .before .before .before .before .before .before .before .before .before .before .blocks) (m56 before given)
 
       module _ (before· : After-ln2) where
         pub record After-f2·own : Type 0 where
-          pub given : s65
+          pub given : s70
               (before· .before .before .before .before .before .before .before .before .before
-              .before .before .before .before .before .before .before .before .before .blocks)
-              .gives
-              (m51 (before· .before) (before· .ln2 .given))
+              .before .before .before .before .before .before .before .before .before .before
+              .blocks) .gives
+              (m55 (before· .before) (before· .ln2 .given))
 
       pub record After-f2 : Type 0 where
         pub before : After-ln2
         pub f2 : After-f2·own before
 
-      abbrev pub m54 :
-          (before : After-f2) → (given : s69
+      abbrev pub m58 :
+          (before : After-f2) → (given : s74
           (before .before .before .before .before .before .before .before .before .before .before
-          .before .before .before .before .before .before .before .before .before .blocks) .gives
-          (m53 (before .before) (before .f2 .given))) → Typed.Mo T71
-      m54 = λ before given. s69 (before .before .before .before .before .before .before .before .before .before .before .before .before .before .before .before .before .before .before .before .blocks) .next (m53 (before .before) (before .f2 .given)) given
+          .before .before .before .before .before .before .before .before .before .before .blocks)
+          .gives (m57 (before .before) (before .f2 .given))) → Typed.Mo T76
+      m58 = λ before given. s74 (before .before .before .before .before .before .before .before .before .before .before .before .before .before .before .before .before .before .before .before .before .blocks) .next (m57 (before .before) (before .f2 .given)) given
 
-      abbrev pub m55 :
-          (before : After-f2) → (given : s69
+      abbrev pub m59 :
+          (before : After-f2) → (given : s74
           (before .before .before .before .before .before .before .before .before .before .before
-          .before .before .before .before .before .before .before .before .before .blocks) .gives
-          (m53 (before .before) (before .f2 .given))) → Typed.Mo T73
-      m55 = λ before given. s71 (before .before .before .before .before .before .before .before .before .before .before .before .before .before .before .before .before .before .before .before .blocks) (m54 before given)
+          .before .before .before .before .before .before .before .before .before .before .blocks)
+          .gives (m57 (before .before) (before .f2 .given))) → Typed.Mo T78
+      m59 = λ before given. s76 (before .before .before .before .before .before .before .before .before .before .before .before .before .before .before .before .before .before .before .before .before .blocks) (m58 before given)
 
       module _ (before· : After-f2) where
         pub record After-queue2·own : Type 0 where
-          pub given : s69
+          pub given : s74
               (before· .before .before .before .before .before .before .before .before .before
               .before .before .before .before .before .before .before .before .before .before
-              .blocks) .gives
-              (m53 (before· .before) (before· .f2 .given))
+              .before .blocks) .gives
+              (m57 (before· .before) (before· .f2 .given))
 
       pub record After-queue2 : Type 0 where
         pub before : After-f2
         pub queue2 : After-queue2·own before
 
-      abbrev pub m56 :
-          (before : After-queue2) → (given : s73
+      abbrev pub m60 :
+          (before : After-queue2) → (given : s78
           (before .before .before .before .before .before .before .before .before .before .before
-          .before .before .before .before .before .before .before .before .before .before .blocks)
-          .gives (m55 (before .before) (before .queue2 .given))) → Typed.Mo T75
-      m56 = λ before given. s73 (before .before .before .before .before .before .before .before .before .before .before .before .before .before .before .before .before .before .before .before .before .blocks) .next (m55 (before .before) (before .queue2 .given)) given
+          .before .before .before .before .before .before .before .before .before .before .before
+          .blocks) .gives (m59 (before .before) (before .queue2 .given))) → Typed.Mo T80
+      m60 = λ before given. s78 (before .before .before .before .before .before .before .before .before .before .before .before .before .before .before .before .before .before .before .before .before .before .blocks) .next (m59 (before .before) (before .queue2 .given)) given
 
-      abbrev pub m57 :
-          (before : After-queue2) → (given : s73
+      abbrev pub m61 :
+          (before : After-queue2) → (given : s78
           (before .before .before .before .before .before .before .before .before .before .before
-          .before .before .before .before .before .before .before .before .before .before .blocks)
-          .gives (m55 (before .before) (before .queue2 .given))) → Typed.Mo T77
-      m57 = λ before given. s75 (before .before .before .before .before .before .before .before .before .before .before .before .before .before .before .before .before .before .before .before .before .blocks) (m56 before given)
+          .before .before .before .before .before .before .before .before .before .before .before
+          .blocks) .gives (m59 (before .before) (before .queue2 .given))) → Typed.Mo T82
+      m61 = λ before given. s80 (before .before .before .before .before .before .before .before .before .before .before .before .before .before .before .before .before .before .before .before .before .before .blocks) (m60 before given)
 
       module _ (before· : After-queue2) where
         pub record After-window-counts2·own : Type 0 where
-          pub given : s73
+          pub given : s78
               (before· .before .before .before .before .before .before .before .before .before
               .before .before .before .before .before .before .before .before .before .before
-              .before .blocks) .gives
-              (m55 (before· .before) (before· .queue2 .given))
+              .before .before .blocks) .gives
+              (m59 (before· .before) (before· .queue2 .given))
 
       pub record After-window-counts2 : Type 0 where
         pub before : After-queue2
         pub window-counts2 : After-window-counts2·own before
 
-      abbrev pub m58 :
-          (before : After-window-counts2) → (given : s77
+      abbrev pub m62 :
+          (before : After-window-counts2) → (given : s82
           (before .before .before .before .before .before .before .before .before .before .before
           .before .before .before .before .before .before .before .before .before .before .before
-          .blocks) .gives (m57 (before .before) (before .window-counts2 .given))) → Typed.Mo T79
-      m58 = λ before given. s77 (before .before .before .before .before .before .before .before .before .before .before .before .before .before .before .before .before .before .before .before .before .before .blocks) .next (m57 (before .before) (before .window-counts2 .given)) given
+          .before .blocks) .gives (m61 (before .before) (before .window-counts2 .given))) →
+          Typed.Mo T84
+      m62 = λ before given. s82 (before .before .before .before .before .before .before .before .before .before .before .before .before .before .before .before .before .before .before .before .before .before .before .blocks) .next (m61 (before .before) (before .window-counts2 .given)) given
 
-      abbrev pub m59 :
-          (before : After-window-counts2) → (given : s77
+      abbrev pub m63 :
+          (before : After-window-counts2) → (given : s82
           (before .before .before .before .before .before .before .before .before .before .before
           .before .before .before .before .before .before .before .before .before .before .before
-          .blocks) .gives (m57 (before .before) (before .window-counts2 .given))) → Typed.Mo T81
-      m59 = λ before given. s79 (before .before .before .before .before .before .before .before .before .before .before .before .before .before .before .before .before .before .before .before .before .before .blocks) (m58 before given)
+          .before .blocks) .gives (m61 (before .before) (before .window-counts2 .given))) →
+          Typed.Mo T86
+      m63 = λ before given. s84 (before .before .before .before .before .before .before .before .before .before .before .before .before .before .before .before .before .before .before .before .before .before .before .blocks) (m62 before given)
 
       module _ (before· : After-window-counts2) where
         pub record After-scan-counts2·own : Type 0 where
-          pub given : s77
+          pub given : s82
               (before· .before .before .before .before .before .before .before .before .before
               .before .before .before .before .before .before .before .before .before .before
-              .before .before .blocks) .gives
-              (m57 (before· .before) (before· .window-counts2 .given))
+              .before .before .before .blocks) .gives
+              (m61 (before· .before) (before· .window-counts2 .given))
 
       pub record After-scan-counts2 : Type 0 where
         pub before : After-window-counts2
         pub scan-counts2 : After-scan-counts2·own before
 
-      abbrev pub m60 :
-          (before : After-scan-counts2) → (given : s81
+      abbrev pub m64 :
+          (before : After-scan-counts2) → (given : s86
           (before .before .before .before .before .before .before .before .before .before .before
           .before .before .before .before .before .before .before .before .before .before .before
-          .before .blocks) .gives (m59 (before .before) (before .scan-counts2 .given))) → Typed.Mo
-          T83
-      m60 = λ before given. s81 (before .before .before .before .before .before .before .before .before .before .before .before .before .before .before .before .before .before .before .before .before .before .before .blocks) .next (m59 (before .before) (before .scan-counts2 .given)) given
+          .before .before .blocks) .gives (m63 (before .before) (before .scan-counts2 .given))) →
+          Typed.Mo T88
+      m64 = λ before given. s86 (before .before .before .before .before .before .before .before .before .before .before .before .before .before .before .before .before .before .before .before .before .before .before .before .blocks) .next (m63 (before .before) (before .scan-counts2 .given)) given
 
-      abbrev pub m61 :
-          (before : After-scan-counts2) → (given : s81
+      abbrev pub m65 :
+          (before : After-scan-counts2) → (given : s86
           (before .before .before .before .before .before .before .before .before .before .before
           .before .before .before .before .before .before .before .before .before .before .before
-          .before .blocks) .gives (m59 (before .before) (before .scan-counts2 .given))) → Typed.Mo
-          T85
-      m61 = λ before given. s83 (before .before .before .before .before .before .before .before .before .before .before .before .before .before .before .before .before .before .before .before .before .before .before .blocks) (m60 before given)
+          .before .before .blocks) .gives (m63 (before .before) (before .scan-counts2 .given))) →
+          Typed.Mo T90
+      m65 = λ before given. s88 (before .before .before .before .before .before .before .before .before .before .before .before .before .before .before .before .before .before .before .before .before .before .before .before .blocks) (m64 before given)
 
       module _ (before· : After-scan-counts2) where
         pub record After-candidates2·own : Type 0 where
-          pub given : s81
+          pub given : s86
               (before· .before .before .before .before .before .before .before .before .before
               .before .before .before .before .before .before .before .before .before .before
-              .before .before .before .blocks) .gives
-              (m59 (before· .before) (before· .scan-counts2 .given))
+              .before .before .before .before .blocks) .gives
+              (m63 (before· .before) (before· .scan-counts2 .given))
 
       pub record After-candidates2 : Type 0 where
         pub before : After-scan-counts2
         pub candidates2 : After-candidates2·own before
 
-      abbrev pub m62 :
-          (before : After-candidates2) → (given : s85
+      abbrev pub m66 :
+          (before : After-candidates2) → (given : s90
           (before .before .before .before .before .before .before .before .before .before .before
           .before .before .before .before .before .before .before .before .before .before .before
-          .before .before .blocks) .gives (m61 (before .before) (before .candidates2 .given))) →
-          Typed.Mo T87
-      m62 = λ before given. s85 (before .before .before .before .before .before .before .before .before .before .before .before .before .before .before .before .before .before .before .before .before .before .before .before .blocks) .next (m61 (before .before) (before .candidates2 .given)) given
+          .before .before .before .blocks) .gives (m65 (before .before)
+          (before .candidates2 .given))) → Typed.Mo T92
+      m66 = λ before given. s90 (before .before .before .before .before .before .before .before .before .before .before .before .before .before .before .before .before .before .before .before .before .before .before .before .before .blocks) .next (m65 (before .before) (before .candidates2 .given)) given
 
-      abbrev pub m63 :
-          (before : After-candidates2) → (given : s85
+      abbrev pub m67 :
+          (before : After-candidates2) → (given : s90
           (before .before .before .before .before .before .before .before .before .before .before
           .before .before .before .before .before .before .before .before .before .before .before
-          .before .before .blocks) .gives (m61 (before .before) (before .candidates2 .given))) →
-          Typed.Mo T89
-      m63 = λ before given. s87 (before .before .before .before .before .before .before .before .before .before .before .before .before .before .before .before .before .before .before .before .before .before .before .before .blocks) (m62 before given)
+          .before .before .before .blocks) .gives (m65 (before .before)
+          (before .candidates2 .given))) → Typed.Mo T94
+      m67 = λ before given. s92 (before .before .before .before .before .before .before .before .before .before .before .before .before .before .before .before .before .before .before .before .before .before .before .before .before .blocks) (m66 before given)
 
       module _ (before· : After-candidates2) where
         pub record After-codes2·own : Type 0 where
-          pub given : s85
+          pub given : s90
               (before· .before .before .before .before .before .before .before .before .before
               .before .before .before .before .before .before .before .before .before .before
-              .before .before .before .before .blocks) .gives
-              (m61 (before· .before) (before· .candidates2 .given))
+              .before .before .before .before .before .blocks) .gives
+              (m65 (before· .before) (before· .candidates2 .given))
 
       pub record After-codes2 : Type 0 where
         pub before : After-candidates2
         pub codes2 : After-codes2·own before
 
-      abbrev pub m64 :
-          (before : After-codes2) → (given : s89
+      abbrev pub m68 :
+          (before : After-codes2) → (given : s94
           (before .before .before .before .before .before .before .before .before .before .before
           .before .before .before .before .before .before .before .before .before .before .before
-          .before .before .before .blocks) .gives (m63 (before .before) (before .codes2 .given))) →
-          Typed.Mo T91
-      m64 = λ before given. s89 (before .before .before .before .before .before .before .before .before .before .before .before .before .before .before .before .before .before .before .before .before .before .before .before .before .blocks) .next (m63 (before .before) (before .codes2 .given)) given
+          .before .before .before .before .blocks) .gives (m67 (before .before)
+          (before .codes2 .given))) → Typed.Mo T96
+      m68 = λ before given. s94 (before .before .before .before .before .before .before .before .before .before .before .before .before .before .before .before .before .before .before .before .before .before .before .before .before .before .blocks) .next (m67 (before .before) (before .codes2 .given)) given
 
       module _ (before· : After-codes2) where
         pub record After-reverse-codes2·own : Type 0 where
-          pub given : s89
+          pub given : s94
               (before· .before .before .before .before .before .before .before .before .before
               .before .before .before .before .before .before .before .before .before .before
-              .before .before .before .before .before .blocks) .gives
-              (m63 (before· .before) (before· .codes2 .given))
+              .before .before .before .before .before .before .blocks) .gives
+              (m67 (before· .before) (before· .codes2 .given))
 
       pub record After-reverse-codes2 : Type 0 where
         pub before : After-codes2
         pub reverse-codes2 : After-reverse-codes2·own before
 
-      abbrev pub m65 :
-          (before : After-codes2) → (given : s89
+      abbrev pub m69 :
+          (before : After-codes2) → (given : s94
           (before .before .before .before .before .before .before .before .before .before .before
           .before .before .before .before .before .before .before .before .before .before .before
-          .before .before .before .blocks) .gives (m63 (before .before) (before .codes2 .given))) →
-          Typed.Mo T93
-      m65 = λ before given. s91 (before .before .before .before .before .before .before .before .before .before .before .before .before .before .before .before .before .before .before .before .before .before .before .before .before .blocks) (m64 before given)
+          .before .before .before .before .blocks) .gives (m67 (before .before)
+          (before .codes2 .given))) → Typed.Mo T98
+      m69 = λ before given. s96 (before .before .before .before .before .before .before .before .before .before .before .before .before .before .before .before .before .before .before .before .before .before .before .before .before .before .blocks) (m68 before given)
 
-      abbrev pub m66 :
-          (before : After-reverse-codes2) → (given : s93
+      abbrev pub m70 :
+          (before : After-reverse-codes2) → (given : s98
           (before .before .before .before .before .before .before .before .before .before .before
           .before .before .before .before .before .before .before .before .before .before .before
-          .before .before .before .before .blocks) .gives (m65 (before .before)
-          (before .reverse-codes2 .given))) → Typed.Mo T95
-      m66 = λ before given. s93 (before .before .before .before .before .before .before .before .before .before .before .before .before .before .before .before .before .before .before .before .before .before .before .before .before .before .blocks) .next (m65 (before .before) (before .reverse-codes2 .given)) given
+          .before .before .before .before .before .blocks) .gives (m69 (before .before)
+          (before .reverse-codes2 .given))) → Typed.Mo T100
+      m70 = λ before given. s98 (before .before .before .before .before .before .before .before .before .before .before .before .before .before .before .before .before .before .before .before .before .before .before .before .before .before .before .blocks) .next (m69 (before .before) (before .reverse-codes2 .given)) given
 
-      abbrev pub m67 :
-          (before : After-reverse-codes2) → (given : s93
+      abbrev pub m71 :
+          (before : After-reverse-codes2) → (given : s98
           (before .before .before .before .before .before .before .before .before .before .before
           .before .before .before .before .before .before .before .before .before .before .before
-          .before .before .before .before .blocks) .gives (m65 (before .before)
-          (before .reverse-codes2 .given))) → Typed.Mo T97
-      m67 = λ before given. s95 (before .before .before .before .before .before .before .before .before .before .before .before .before .before .before .before .before .before .before .before .before .before .before .before .before .before .blocks) (m66 before given)
+          .before .before .before .before .before .blocks) .gives (m69 (before .before)
+          (before .reverse-codes2 .given))) → Typed.Mo T102
+      m71 = λ before given. s100 (before .before .before .before .before .before .before .before .before .before .before .before .before .before .before .before .before .before .before .before .before .before .before .before .before .before .before .blocks) (m70 before given)
 
       module _ (before· : After-reverse-codes2) where
         pub record After-forward-list2·own : Type 0 where
-          pub given : s93
+          pub given : s98
               (before· .before .before .before .before .before .before .before .before .before
               .before .before .before .before .before .before .before .before .before .before
-              .before .before .before .before .before .before .blocks) .gives
-              (m65 (before· .before) (before· .reverse-codes2 .given))
+              .before .before .before .before .before .before .before .blocks) .gives
+              (m69 (before· .before) (before· .reverse-codes2 .given))
 
       pub record After-forward-list2 : Type 0 where
         pub before : After-reverse-codes2
         pub forward-list2 : After-forward-list2·own before
 
-      abbrev pub m68 :
-          (before : After-forward-list2) → (given : s97
+      abbrev pub m72 :
+          (before : After-forward-list2) → (given : s102
           (before .before .before .before .before .before .before .before .before .before .before
           .before .before .before .before .before .before .before .before .before .before .before
-          .before .before .before .before .before .blocks) .gives (m67 (before .before)
-          (before .forward-list2 .given))) → Typed.Mo T99
-      m68 = λ before given. s97 (before .before .before .before .before .before .before .before .before .before .before .before .before .before .before .before .before .before .before .before .before .before .before .before .before .before .before .blocks) .next (m67 (before .before) (before .forward-list2 .given)) given
+          .before .before .before .before .before .before .blocks) .gives (m71 (before .before)
+          (before .forward-list2 .given))) → Typed.Mo T104
+      m72 = λ before given. s102 (before .before .before .before .before .before .before .before .before .before .before .before .before .before .before .before .before .before .before .before .before .before .before .before .before .before .before .before .blocks) .next (m71 (before .before) (before .forward-list2 .given)) given
 
-      abbrev pub m69 :
-          (before : After-forward-list2) → (given : s97
+      abbrev pub m73 :
+          (before : After-forward-list2) → (given : s102
           (before .before .before .before .before .before .before .before .before .before .before
           .before .before .before .before .before .before .before .before .before .before .before
-          .before .before .before .before .before .blocks) .gives (m67 (before .before)
-          (before .forward-list2 .given))) → Typed.Mo T101
-      m69 = λ before given. s99 (before .before .before .before .before .before .before .before .before .before .before .before .before .before .before .before .before .before .before .before .before .before .before .before .before .before .before .blocks) (m68 before given)
+          .before .before .before .before .before .before .blocks) .gives (m71 (before .before)
+          (before .forward-list2 .given))) → Typed.Mo T106
+      m73 = λ before given. s104 (before .before .before .before .before .before .before .before .before .before .before .before .before .before .before .before .before .before .before .before .before .before .before .before .before .before .before .before .blocks) (m72 before given)
 
       module _ (before· : After-forward-list2) where
         pub record After-reverse-list2·own : Type 0 where
-          pub given : s97
+          pub given : s102
               (before· .before .before .before .before .before .before .before .before .before
               .before .before .before .before .before .before .before .before .before .before
-              .before .before .before .before .before .before .before .blocks) .gives
-              (m67 (before· .before) (before· .forward-list2 .given))
+              .before .before .before .before .before .before .before .before .blocks) .gives
+              (m71 (before· .before) (before· .forward-list2 .given))
 
       pub record After-reverse-list2 : Type 0 where
         pub before : After-forward-list2
         pub reverse-list2 : After-reverse-list2·own before
 
-      abbrev pub m70 :
-          (before : After-reverse-list2) → (given : s101
+      abbrev pub m74 :
+          (before : After-reverse-list2) → (given : s106
           (before .before .before .before .before .before .before .before .before .before .before
           .before .before .before .before .before .before .before .before .before .before .before
-          .before .before .before .before .before .before .blocks) .gives (m69 (before .before)
-          (before .reverse-list2 .given))) → Typed.Mo T103
-      m70 = λ before given. s101 (before .before .before .before .before .before .before .before .before .before .before .before .before .before .before .before .before .before .before .before .before .before .before .before .before .before .before .before .blocks) .next (m69 (before .before) (before .reverse-list2 .given)) given
-
-      abbrev pub m71 :
-          (before : After-reverse-list2) → (given : s101
-          (before .before .before .before .before .before .before .before .before .before .before
-          .before .before .before .before .before .before .before .before .before .before .before
-          .before .before .before .before .before .before .blocks) .gives (m69 (before .before)
-          (before .reverse-list2 .given))) → Typed.Mo T105
-      m71 = λ before given. s103 (before .before .before .before .before .before .before .before .before .before .before .before .before .before .before .before .before .before .before .before .before .before .before .before .before .before .before .before .blocks) (m70 before given)
-
-      abbrev pub m72 :
-          (before : After-reverse-list2) → (given : s101
-          (before .before .before .before .before .before .before .before .before .before .before
-          .before .before .before .before .before .before .before .before .before .before .before
-          .before .before .before .before .before .before .blocks) .gives (m69 (before .before)
-          (before .reverse-list2 .given))) → Typed.Mo T106
-      m72 = λ before given. s104 (before .before .before .before .before .before .before .before .before .before .before .before .before .before .before .before .before .before .before .before .before .before .before .before .before .before .before .before .blocks) (m71 before given)
-
-      abbrev pub m73 :
-          (before : After-reverse-list2) → (given : s101
-          (before .before .before .before .before .before .before .before .before .before .before
-          .before .before .before .before .before .before .before .before .before .before .before
-          .before .before .before .before .before .before .blocks) .gives (m69 (before .before)
-          (before .reverse-list2 .given))) → Typed.Mo T107
-      m73 = λ before given. s105 (before .before .before .before .before .before .before .before .before .before .before .before .before .before .before .before .before .before .before .before .before .before .before .before .before .before .before .before .blocks) (m72 before given)
+          .before .before .before .before .before .before .before .blocks) .gives (m73
+          (before .before) (before .reverse-list2 .given))) → Typed.Mo T108
+      m74 = λ before given. s106 (before .before .before .before .before .before .before .before .before .before .before .before .before .before .before .before .before .before .before .before .before .before .before .before .before .before .before .before .before .blocks) .next (m73 (before .before) (before .reverse-list2 .given)) given
 
       module _ (before· : After-reverse-list2) where
         pub record After-list·own : Type 0 where
-          pub given : s101
+          pub given : s106
               (before· .before .before .before .before .before .before .before .before .before
               .before .before .before .before .before .before .before .before .before .before
-              .before .before .before .before .before .before .before .before .blocks) .gives
-              (m69 (before· .before) (before· .reverse-list2 .given))
+              .before .before .before .before .before .before .before .before .before .blocks)
+              .gives
+              (m73 (before· .before) (before· .reverse-list2 .given))
 
       pub record After-list : Type 0 where
         pub before : After-reverse-list2
         pub list : After-list·own before
 
+      abbrev pub m75 :
+          (before : After-list) → (given : s109
+          (before .before .before .before .before .before .before .before .before .before .before
+          .before .before .before .before .before .before .before .before .before .before .before
+          .before .before .before .before .before .before .before .before .blocks) .gives (m74
+          (before .before) (before .list .given))) → Typed.Mo T111
+      m75 = λ before given. s109 (before .before .before .before .before .before .before .before .before .before .before .before .before .before .before .before .before .before .before .before .before .before .before .before .before .before .before .before .before .before .blocks) .next (m74 (before .before) (before .list .given)) given
+
+      abbrev pub m76 :
+          (before : After-list) → (given : s109
+          (before .before .before .before .before .before .before .before .before .before .before
+          .before .before .before .before .before .before .before .before .before .before .before
+          .before .before .before .before .before .before .before .before .blocks) .gives (m74
+          (before .before) (before .list .given))) → Typed.Mo T113
+      m76 = λ before given. s111 (before .before .before .before .before .before .before .before .before .before .before .before .before .before .before .before .before .before .before .before .before .before .before .before .before .before .before .before .before .before .blocks) (m75 before given)
+
+      abbrev pub m77 :
+          (before : After-list) → (given : s109
+          (before .before .before .before .before .before .before .before .before .before .before
+          .before .before .before .before .before .before .before .before .before .before .before
+          .before .before .before .before .before .before .before .before .blocks) .gives (m74
+          (before .before) (before .list .given))) → Typed.Mo T114
+      m77 = λ before given. s112 (before .before .before .before .before .before .before .before .before .before .before .before .before .before .before .before .before .before .before .before .before .before .before .before .before .before .before .before .before .before .blocks) (m76 before given)
+
+      abbrev pub m78 :
+          (before : After-list) → (given : s109
+          (before .before .before .before .before .before .before .before .before .before .before
+          .before .before .before .before .before .before .before .before .before .before .before
+          .before .before .before .before .before .before .before .before .blocks) .gives (m74
+          (before .before) (before .list .given))) → Typed.Mo T115
+      m78 = λ before given. s113 (before .before .before .before .before .before .before .before .before .before .before .before .before .before .before .before .before .before .before .before .before .before .before .before .before .before .before .before .before .before .blocks) (m77 before given)
+
+      abbrev pub m79 :
+          (before : After-list) → (given : s109
+          (before .before .before .before .before .before .before .before .before .before .before
+          .before .before .before .before .before .before .before .before .before .before .before
+          .before .before .before .before .before .before .before .before .blocks) .gives (m74
+          (before .before) (before .list .given))) → Typed.Mo T116
+      m79 = λ before given. s114 (before .before .before .before .before .before .before .before .before .before .before .before .before .before .before .before .before .before .before .before .before .before .before .before .before .before .before .before .before .before .blocks) (m78 before given)
+
+      module _ (before· : After-list) where
+        pub record After-marks2·own : Type 0 where
+          pub given : s109
+              (before· .before .before .before .before .before .before .before .before .before
+              .before .before .before .before .before .before .before .before .before .before
+              .before .before .before .before .before .before .before .before .before .before
+              .blocks) .gives
+              (m74 (before· .before) (before· .list .given))
+
+      pub record After-marks2 : Type 0 where
+        pub before : After-list
+        pub marks2 : After-marks2·own before
+
       abbrev pub Need-same-length : Type 0
-      Need-same-length = (c : After-list) → MutSlice.SameLen (Row.get 2 (T107 .locals) (m73 (c .before) (c .list .given))) (dens (c .before .before .before .before .before .before .before .before .before .before .before .before .before .before .before .before .before .before .before .before .before .before .before .before .before .before .before .before .κs) (c .before .before .before .before .before .before .before .before .before .before .before .before .before .before .before .before .before .before .before .before .before .before .before .before .before .before .before .before .args) .1 .0)
+      Need-same-length = (c : After-marks2) → MutSlice.SameLen (Row.get 2 (T116 .locals) (m79 (c .before) (c .marks2 .given))) (dens (c .before .before .before .before .before .before .before .before .before .before .before .before .before .before .before .before .before .before .before .before .before .before .before .before .before .before .before .before .before .before .κs) (c .before .before .before .before .before .before .before .before .before .before .before .before .before .before .before .before .before .before .before .before .before .before .before .before .before .before .before .before .before .before .args) .1 .0)
 
       abbrev pub Need-returns : Type 0
-      Need-returns = (c : After-list) → Post· (c .before .before .before .before .before .before .before .before .before .before .before .before .before .before .before .before .before .before .before .before .before .before .before .before .before .before .before .before .κs) (dens (c .before .before .before .before .before .before .before .before .before .before .before .before .before .before .before .before .before .before .before .before .before .before .before .before .before .before .before .before .κs) (c .before .before .before .before .before .before .before .before .before .before .before .before .before .before .before .before .before .before .before .before .before .before .before .before .before .before .before .before .args)) (Function.resV r (c .before .before .before .before .before .before .before .before .before .before .before .before .before .before .before .before .before .before .before .before .before .before .before .before .before .before .before .before .κs) (m73 (c .before) (c .list .given) .0)) (Clauses.atExit (Kinds.endedOf 2 ps r) (c .before .before .before .before .before .before .before .before .before .before .before .before .before .before .before .before .before .before .before .before .before .before .before .before .before .before .before .before .κs) (dens (c .before .before .before .before .before .before .before .before .before .before .before .before .before .before .before .before .before .before .before .before .before .before .before .before .before .before .before .before .κs) (c .before .before .before .before .before .before .before .before .before .before .before .before .before .before .before .before .before .before .before .before .before .before .before .before .before .before .before .before .args)) (Enter.lastsP (c .before .before .before .before .before .before .before .before .before .before .before .before .before .before .before .before .before .before .before .before .before .before .before .before .before .before .before .before .κs) 1 ps xs (dens (c .before .before .before .before .before .before .before .before .before .before .before .before .before .before .before .before .before .before .before .before .before .before .before .before .before .before .before .before .κs) (c .before .before .before .before .before .before .before .before .before .before .before .before .before .before .before .before .before .before .before .before .before .before .before .before .before .before .before .before .args)) (m73 (c .before) (c .list .given) .1)))
+      Need-returns = (c : After-marks2) → Post· (c .before .before .before .before .before .before .before .before .before .before .before .before .before .before .before .before .before .before .before .before .before .before .before .before .before .before .before .before .before .before .κs) (dens (c .before .before .before .before .before .before .before .before .before .before .before .before .before .before .before .before .before .before .before .before .before .before .before .before .before .before .before .before .before .before .κs) (c .before .before .before .before .before .before .before .before .before .before .before .before .before .before .before .before .before .before .before .before .before .before .before .before .before .before .before .before .before .before .args)) (Function.resV r (c .before .before .before .before .before .before .before .before .before .before .before .before .before .before .before .before .before .before .before .before .before .before .before .before .before .before .before .before .before .before .κs) (m79 (c .before) (c .marks2 .given) .0)) (Clauses.atExit (Kinds.endedOf 2 ps r) (c .before .before .before .before .before .before .before .before .before .before .before .before .before .before .before .before .before .before .before .before .before .before .before .before .before .before .before .before .before .before .κs) (dens (c .before .before .before .before .before .before .before .before .before .before .before .before .before .before .before .before .before .before .before .before .before .before .before .before .before .before .before .before .before .before .κs) (c .before .before .before .before .before .before .before .before .before .before .before .before .before .before .before .before .before .before .before .before .before .before .before .before .before .before .before .before .before .before .args)) (Enter.lastsP (c .before .before .before .before .before .before .before .before .before .before .before .before .before .before .before .before .before .before .before .before .before .before .before .before .before .before .before .before .before .before .κs) 1 ps xs (dens (c .before .before .before .before .before .before .before .before .before .before .before .before .before .before .before .before .before .before .before .before .before .before .before .before .before .before .before .before .before .before .κs) (c .before .before .before .before .before .before .before .before .before .before .before .before .before .before .before .before .before .before .before .before .before .before .before .before .before .before .before .before .before .before .args)) (m79 (c .before) (c .marks2 .given) .1)))
 
       module _ (no-candidates-requires : Need-no-candidates-requires)
           (no-intervals-requires : Need-no-intervals-requires)
@@ -3973,39 +4266,41 @@ module _ (claims· : Claims) where
           (slice-aggregate-process-8 : Need-slice-aggregate-process-8)
           (slice-aggregate-process-9 : Need-slice-aggregate-process-9)
           (slice-aggregate-process-10 : Need-slice-aggregate-process-10)
+          (slice-aggregate-process-11 : Need-slice-aggregate-process-11)
           (process-requires : Need-process-requires) (same-length : Need-same-length)
           (returns : Need-returns) where
         lay7 :
-            (c : After-reverse-codes2) → at15
+            (c : After-reverse-codes2) → at19
             (c .before .before .before .before .before .before .before .before .before .before
             .before .before .before .before .before .before .before .before .before .before .before
-            .before .before .before .before .blocks) (W0
+            .before .before .before .before .before .blocks) (W0
             (c .before .before .before .before .before .before .before .before .before .before
             .before .before .before .before .before .before .before .before .before .before .before
-            .before .before .before .before .κs)
+            .before .before .before .before .before .κs)
             (c .before .before .before .before .before .before .before .before .before .before
             .before .before .before .before .before .before .before .before .before .before .before
-            .before .before .before .before .args)
+            .before .before .before .before .before .args)
             (c .before .before .before .before .before .before .before .before .before .before
             .before .before .before .before .before .before .before .before .before .before .before
-            .before .before .before .before .blocks)) (m64 (c .before) (c .reverse-codes2 .given))
-        lay7 = λ c. (Path'.refl, λ g. (Path'.refl, λ g'. (Path'.refl, λ g''. ((Path'.refl, (MutSlice.fix-len (Row.get 2 (T107 .locals) (m73 record { before = record { before = record { before = c .before; reverse-codes2 = c .reverse-codes2 }; forward-list2 = record { given = g } }; reverse-list2 = record { given = g' } } g'') .ptr) (Row.get 2 (T107 .locals) (m73 record { before = record { before = record { before = c .before; reverse-codes2 = c .reverse-codes2 }; forward-list2 = record { given = g } }; reverse-list2 = record { given = g' } } g'') .name) (Row.get 2 (T107 .locals) (m73 record { before = record { before = record { before = c .before; reverse-codes2 = c .reverse-codes2 }; forward-list2 = record { given = g } }; reverse-list2 = record { given = g' } } g'') .now) (dens (c .before .before .before .before .before .before .before .before .before .before .before .before .before .before .before .before .before .before .before .before .before .before .before .before .before .κs) (c .before .before .before .before .before .before .before .before .before .before .before .before .before .before .before .before .before .before .before .before .before .before .before .before .before .args) .1 .0 .now) (same-length record { before = record { before = record { before = record { before = c .before; reverse-codes2 = c .reverse-codes2 }; forward-list2 = record { given = g } }; reverse-list2 = record { given = g' } }; list = record { given = g'' } }), tt)), returns record { before = record { before = record { before = record { before = c .before; reverse-codes2 = c .reverse-codes2 }; forward-list2 = record { given = g } }; reverse-list2 = record { given = g' } }; list = record { given = g'' } }))))
+            .before .before .before .before .before .blocks)) (m68 (c .before)
+            (c .reverse-codes2 .given))
+        lay7 = λ c. (Path'.refl, λ g. (Path'.refl, λ g'. (Path'.refl, λ g''. (Path'.refl, λ g'3. ((Path'.refl, (MutSlice.fix-len (Row.get 2 (T116 .locals) (m79 record { before = record { before = record { before = record { before = c .before; reverse-codes2 = c .reverse-codes2 }; forward-list2 = record { given = g } }; reverse-list2 = record { given = g' } }; list = record { given = g'' } } g'3) .ptr) (Row.get 2 (T116 .locals) (m79 record { before = record { before = record { before = record { before = c .before; reverse-codes2 = c .reverse-codes2 }; forward-list2 = record { given = g } }; reverse-list2 = record { given = g' } }; list = record { given = g'' } } g'3) .name) (Row.get 2 (T116 .locals) (m79 record { before = record { before = record { before = record { before = c .before; reverse-codes2 = c .reverse-codes2 }; forward-list2 = record { given = g } }; reverse-list2 = record { given = g' } }; list = record { given = g'' } } g'3) .now) (dens (c .before .before .before .before .before .before .before .before .before .before .before .before .before .before .before .before .before .before .before .before .before .before .before .before .before .before .κs) (c .before .before .before .before .before .before .before .before .before .before .before .before .before .before .before .before .before .before .before .before .before .before .before .before .before .before .args) .1 .0 .now) (same-length record { before = record { before = record { before = record { before = record { before = c .before; reverse-codes2 = c .reverse-codes2 }; forward-list2 = record { given = g } }; reverse-list2 = record { given = g' } }; list = record { given = g'' } }; marks2 = record { given = g'3 } }), tt)), returns record { before = record { before = record { before = record { before = record { before = c .before; reverse-codes2 = c .reverse-codes2 }; forward-list2 = record { given = g } }; reverse-list2 = record { given = g' } }; list = record { given = g'' } }; marks2 = record { given = g'3 } })))))
 
         lay6 :
-            (c : After-process) → at47
+            (c : After-process) → at51
             (c .before .before .before .before .before .before .before .before .before .before
-            .before .before .before .before .before .before .before .blocks) (W0
+            .before .before .before .before .before .before .before .before .blocks) (W0
             (c .before .before .before .before .before .before .before .before .before .before
-            .before .before .before .before .before .before .before .κs)
+            .before .before .before .before .before .before .before .before .κs)
             (c .before .before .before .before .before .before .before .before .before .before
-            .before .before .before .before .before .before .before .args)
+            .before .before .before .before .before .before .before .before .args)
             (c .before .before .before .before .before .before .before .before .before .before
-            .before .before .before .before .before .before .before .blocks)) (m48 (c .before)
-            (After-process·gave c))
+            .before .before .before .before .before .before .before .before .blocks)) (m52
+            (c .before) (After-process·gave c))
         lay6 = λ c. (Path'.refl, λ g. (Path'.refl, λ g'. (Path'.refl, λ g''. (Path'.refl, λ g'3. (Path'.refl, λ g'4. (Path'.refl, λ g'5. (Path'.refl, λ g'6. (Path'.refl, λ g'7. lay7 record { before = record { before = record { before = record { before = record { before = record { before = record { before = record { before = record { before = c .before; process = c .process }; ln2 = record { given = g } }; f2 = record { given = g' } }; queue2 = record { given = g'' } }; window-counts2 = record { given = g'3 } }; scan-counts2 = record { given = g'4 } }; candidates2 = record { given = g'5 } }; codes2 = record { given = g'6 } }; reverse-codes2 = record { given = g'7 } }))))))))
 
         lay5 :
-            (c : After-process-arg) → at49
+            (c : After-process-arg) → at56
             (c .before .before .before .before .before .before .before .before .before .before
             .before .before .before .before .before .before .blocks) (W0
             (c .before .before .before .before .before .before .before .before .before .before
@@ -4013,35 +4308,35 @@ module _ (claims· : Claims) where
             (c .before .before .before .before .before .before .before .before .before .before
             .before .before .before .before .before .before .args)
             (c .before .before .before .before .before .before .before .before .before .before
-            .before .before .before .before .before .before .blocks)) (m46 (c .before)
+            .before .before .before .before .before .before .blocks)) (m48 (c .before)
             (c .process-arg .given))
-        lay5 = λ c. (Path'.refl, (process-requires record { before = c .before; process-arg = c .process-arg }, λ g. lay6 record { before = record { before = c .before; process-arg = c .process-arg }; process = Called.called ps·3 r·3 (claims· .7) T59 (record { pos = 1; ty = y27; ref = λ x. x }, (record { pos = 16; st = List.[]; d = 0; at = λ x. x }, (record { pos = 18; ty = y8; ref = λ x. x }, (record { pos = 20; ty = y8; ref = λ x. x }, (record { pos = 22; ty = y12; ref = λ x. x }, (record { pos = 24; ty = y15; ref = λ x. x }, (record { pos = 26; ty = y15; ref = λ x. x }, (record { pos = 28; ty = y18; ref = λ x. x }, (record { pos = 30; ty = y21; ref = λ x. x }, (record { pos = 32; ty = y21; ref = λ x. x }, (record { pos = 34; ty = y24; ref = λ x. x }, (record { pos = 36; ty = y24; ref = λ x. x }, (record { pos = 38; ty = y24; ref = λ x. x }, tt))))))))))))) (m47 (c .before) (c .process-arg .given)) g }))
+        lay5 = λ c. (Path'.refl, λ g. (Relend.count-is T63 40 41 (λ x. x) (λ u. 4096) (m50 record { before = c .before; process-arg = c .process-arg } g) (slice-aggregate-process-11 record { before = record { before = c .before; process-arg = c .process-arg }; marks = record { given = g } }), (process-requires record { before = record { before = c .before; process-arg = c .process-arg }; marks = record { given = g } }, λ g'. lay6 record { before = record { before = record { before = c .before; process-arg = c .process-arg }; marks = record { given = g } }; process = Called.called ps·3 r·3 (claims· .7) T64 (record { pos = 1; ty = y28; ref = λ x. x }, (record { pos = 17; st = List.[]; d = 0; at = λ x. x }, (record { pos = 19; ty = y8; ref = λ x. x }, (record { pos = 21; ty = y8; ref = λ x. x }, (record { pos = 23; ty = y12; ref = λ x. x }, (record { pos = 25; ty = y15; ref = λ x. x }, (record { pos = 27; ty = y15; ref = λ x. x }, (record { pos = 29; ty = y18; ref = λ x. x }, (record { pos = 31; ty = y21; ref = λ x. x }, (record { pos = 33; ty = y21; ref = λ x. x }, (record { pos = 35; ty = y24; ref = λ x. x }, (record { pos = 37; ty = y24; ref = λ x. x }, (record { pos = 39; ty = y24; ref = λ x. x }, (record { pos = 41; ty = y21; ref = λ x. x }, tt)))))))))))))) (m51 record { before = c .before; process-arg = c .process-arg } g) g' })))
 
         lay4 :
             (c : After-default) →
-            at81
+            at88
             (c .before .before .before .before .before .blocks)
             (W0
             (c .before .before .before .before .before .κs)
             (c .before .before .before .before .before .args)
             (c .before .before .before .before .before .blocks))
-            (m25 (c .before) (After-default·gave c))
-        lay4 = λ c. λ g. (Relend.count-is T28 17 18 (λ x. x) (λ u. 5001) (m26 record { before = c .before; default = c .default } g) (slice-aggregate-process record { before = record { before = c .before; default = c .default }; ln = record { given = g } }), λ g'. (Relend.count-is T31 19 20 (λ x. x) (λ u. 5002) (m28 record { before = record { before = c .before; default = c .default }; ln = record { given = g } } g') (slice-aggregate-process-2 record { before = record { before = record { before = c .before; default = c .default }; ln = record { given = g } }; f = record { given = g' } }), λ g''. (Relend.count-is T34 21 22 (λ x. x) (λ u. 5000) (m30 record { before = record { before = record { before = c .before; default = c .default }; ln = record { given = g } }; f = record { given = g' } } g'') (slice-aggregate-process-3 record { before = record { before = record { before = record { before = c .before; default = c .default }; ln = record { given = g } }; f = record { given = g' } }; queue = record { given = g'' } }), λ g'3. (Relend.count-is T37 23 24 (λ x. x) (λ u. 16384) (m32 record { before = record { before = record { before = record { before = c .before; default = c .default }; ln = record { given = g } }; f = record { given = g' } }; queue = record { given = g'' } } g'3) (slice-aggregate-process-4 record { before = record { before = record { before = record { before = record { before = c .before; default = c .default }; ln = record { given = g } }; f = record { given = g' } }; queue = record { given = g'' } }; window-counts = record { given = g'3 } }), λ g'4. (Relend.count-is T40 25 26 (λ x. x) (λ u. 16384) (m34 record { before = record { before = record { before = record { before = record { before = c .before; default = c .default }; ln = record { given = g } }; f = record { given = g' } }; queue = record { given = g'' } }; window-counts = record { given = g'3 } } g'4) (slice-aggregate-process-5 record { before = record { before = record { before = record { before = record { before = record { before = c .before; default = c .default }; ln = record { given = g } }; f = record { given = g' } }; queue = record { given = g'' } }; window-counts = record { given = g'3 } }; scan-counts = record { given = g'4 } }), λ g'5. (Relend.count-is T43 27 28 (λ x. x) (λ u. 5000) (m36 record { before = record { before = record { before = record { before = record { before = record { before = c .before; default = c .default }; ln = record { given = g } }; f = record { given = g' } }; queue = record { given = g'' } }; window-counts = record { given = g'3 } }; scan-counts = record { given = g'4 } } g'5) (slice-aggregate-process-6 record { before = record { before = record { before = record { before = record { before = record { before = record { before = c .before; default = c .default }; ln = record { given = g } }; f = record { given = g' } }; queue = record { given = g'' } }; window-counts = record { given = g'3 } }; scan-counts = record { given = g'4 } }; candidates = record { given = g'5 } }), λ g'6. (Relend.count-is T46 29 30 (λ x. x) (λ u. 32768) (m38 record { before = record { before = record { before = record { before = record { before = record { before = record { before = c .before; default = c .default }; ln = record { given = g } }; f = record { given = g' } }; queue = record { given = g'' } }; window-counts = record { given = g'3 } }; scan-counts = record { given = g'4 } }; candidates = record { given = g'5 } } g'6) (slice-aggregate-process-7 record { before = record { before = record { before = record { before = record { before = record { before = record { before = record { before = c .before; default = c .default }; ln = record { given = g } }; f = record { given = g' } }; queue = record { given = g'' } }; window-counts = record { given = g'3 } }; scan-counts = record { given = g'4 } }; candidates = record { given = g'5 } }; codes = record { given = g'6 } }), λ g'7. (Relend.count-is T49 31 32 (λ x. x) (λ u. 32768) (m40 record { before = record { before = record { before = record { before = record { before = record { before = record { before = record { before = c .before; default = c .default }; ln = record { given = g } }; f = record { given = g' } }; queue = record { given = g'' } }; window-counts = record { given = g'3 } }; scan-counts = record { given = g'4 } }; candidates = record { given = g'5 } }; codes = record { given = g'6 } } g'7) (slice-aggregate-process-8 record { before = record { before = record { before = record { before = record { before = record { before = record { before = record { before = record { before = c .before; default = c .default }; ln = record { given = g } }; f = record { given = g' } }; queue = record { given = g'' } }; window-counts = record { given = g'3 } }; scan-counts = record { given = g'4 } }; candidates = record { given = g'5 } }; codes = record { given = g'6 } }; reverse-codes = record { given = g'7 } }), λ g'8. (Relend.count-is T52 33 34 (λ x. x) (λ u. 4096) (m42 record { before = record { before = record { before = record { before = record { before = record { before = record { before = record { before = record { before = c .before; default = c .default }; ln = record { given = g } }; f = record { given = g' } }; queue = record { given = g'' } }; window-counts = record { given = g'3 } }; scan-counts = record { given = g'4 } }; candidates = record { given = g'5 } }; codes = record { given = g'6 } }; reverse-codes = record { given = g'7 } } g'8) (slice-aggregate-process-9 record { before = record { before = record { before = record { before = record { before = record { before = record { before = record { before = record { before = record { before = c .before; default = c .default }; ln = record { given = g } }; f = record { given = g' } }; queue = record { given = g'' } }; window-counts = record { given = g'3 } }; scan-counts = record { given = g'4 } }; candidates = record { given = g'5 } }; codes = record { given = g'6 } }; reverse-codes = record { given = g'7 } }; forward-list = record { given = g'8 } }), λ g'9. (Relend.count-is T55 35 36 (λ x. x) (λ u. 4096) (m44 record { before = record { before = record { before = record { before = record { before = record { before = record { before = record { before = record { before = record { before = c .before; default = c .default }; ln = record { given = g } }; f = record { given = g' } }; queue = record { given = g'' } }; window-counts = record { given = g'3 } }; scan-counts = record { given = g'4 } }; candidates = record { given = g'5 } }; codes = record { given = g'6 } }; reverse-codes = record { given = g'7 } }; forward-list = record { given = g'8 } } g'9) (slice-aggregate-process-10 record { before = record { before = record { before = record { before = record { before = record { before = record { before = record { before = record { before = record { before = record { before = c .before; default = c .default }; ln = record { given = g } }; f = record { given = g' } }; queue = record { given = g'' } }; window-counts = record { given = g'3 } }; scan-counts = record { given = g'4 } }; candidates = record { given = g'5 } }; codes = record { given = g'6 } }; reverse-codes = record { given = g'7 } }; forward-list = record { given = g'8 } }; reverse-list = record { given = g'9 } }), λ g'10. lay5 record { before = record { before = record { before = record { before = record { before = record { before = record { before = record { before = record { before = record { before = record { before = record { before = c .before; default = c .default }; ln = record { given = g } }; f = record { given = g' } }; queue = record { given = g'' } }; window-counts = record { given = g'3 } }; scan-counts = record { given = g'4 } }; candidates = record { given = g'5 } }; codes = record { given = g'6 } }; reverse-codes = record { given = g'7 } }; forward-list = record { given = g'8 } }; reverse-list = record { given = g'9 } }; process-arg = record { given = g'10 } }))))))))))
+            (m27 (c .before) (After-default·gave c))
+        lay4 = λ c. λ g. (Relend.count-is T30 18 19 (λ x. x) (λ u. 5001) (m28 record { before = c .before; default = c .default } g) (slice-aggregate-process record { before = record { before = c .before; default = c .default }; ln = record { given = g } }), λ g'. (Relend.count-is T33 20 21 (λ x. x) (λ u. 5002) (m30 record { before = record { before = c .before; default = c .default }; ln = record { given = g } } g') (slice-aggregate-process-2 record { before = record { before = record { before = c .before; default = c .default }; ln = record { given = g } }; f = record { given = g' } }), λ g''. (Relend.count-is T36 22 23 (λ x. x) (λ u. 5000) (m32 record { before = record { before = record { before = c .before; default = c .default }; ln = record { given = g } }; f = record { given = g' } } g'') (slice-aggregate-process-3 record { before = record { before = record { before = record { before = c .before; default = c .default }; ln = record { given = g } }; f = record { given = g' } }; queue = record { given = g'' } }), λ g'3. (Relend.count-is T39 24 25 (λ x. x) (λ u. 16384) (m34 record { before = record { before = record { before = record { before = c .before; default = c .default }; ln = record { given = g } }; f = record { given = g' } }; queue = record { given = g'' } } g'3) (slice-aggregate-process-4 record { before = record { before = record { before = record { before = record { before = c .before; default = c .default }; ln = record { given = g } }; f = record { given = g' } }; queue = record { given = g'' } }; window-counts = record { given = g'3 } }), λ g'4. (Relend.count-is T42 26 27 (λ x. x) (λ u. 16384) (m36 record { before = record { before = record { before = record { before = record { before = c .before; default = c .default }; ln = record { given = g } }; f = record { given = g' } }; queue = record { given = g'' } }; window-counts = record { given = g'3 } } g'4) (slice-aggregate-process-5 record { before = record { before = record { before = record { before = record { before = record { before = c .before; default = c .default }; ln = record { given = g } }; f = record { given = g' } }; queue = record { given = g'' } }; window-counts = record { given = g'3 } }; scan-counts = record { given = g'4 } }), λ g'5. (Relend.count-is T45 28 29 (λ x. x) (λ u. 5000) (m38 record { before = record { before = record { before = record { before = record { before = record { before = c .before; default = c .default }; ln = record { given = g } }; f = record { given = g' } }; queue = record { given = g'' } }; window-counts = record { given = g'3 } }; scan-counts = record { given = g'4 } } g'5) (slice-aggregate-process-6 record { before = record { before = record { before = record { before = record { before = record { before = record { before = c .before; default = c .default }; ln = record { given = g } }; f = record { given = g' } }; queue = record { given = g'' } }; window-counts = record { given = g'3 } }; scan-counts = record { given = g'4 } }; candidates = record { given = g'5 } }), λ g'6. (Relend.count-is T48 30 31 (λ x. x) (λ u. 32768) (m40 record { before = record { before = record { before = record { before = record { before = record { before = record { before = c .before; default = c .default }; ln = record { given = g } }; f = record { given = g' } }; queue = record { given = g'' } }; window-counts = record { given = g'3 } }; scan-counts = record { given = g'4 } }; candidates = record { given = g'5 } } g'6) (slice-aggregate-process-7 record { before = record { before = record { before = record { before = record { before = record { before = record { before = record { before = c .before; default = c .default }; ln = record { given = g } }; f = record { given = g' } }; queue = record { given = g'' } }; window-counts = record { given = g'3 } }; scan-counts = record { given = g'4 } }; candidates = record { given = g'5 } }; codes = record { given = g'6 } }), λ g'7. (Relend.count-is T51 32 33 (λ x. x) (λ u. 32768) (m42 record { before = record { before = record { before = record { before = record { before = record { before = record { before = record { before = c .before; default = c .default }; ln = record { given = g } }; f = record { given = g' } }; queue = record { given = g'' } }; window-counts = record { given = g'3 } }; scan-counts = record { given = g'4 } }; candidates = record { given = g'5 } }; codes = record { given = g'6 } } g'7) (slice-aggregate-process-8 record { before = record { before = record { before = record { before = record { before = record { before = record { before = record { before = record { before = c .before; default = c .default }; ln = record { given = g } }; f = record { given = g' } }; queue = record { given = g'' } }; window-counts = record { given = g'3 } }; scan-counts = record { given = g'4 } }; candidates = record { given = g'5 } }; codes = record { given = g'6 } }; reverse-codes = record { given = g'7 } }), λ g'8. (Relend.count-is T54 34 35 (λ x. x) (λ u. 4096) (m44 record { before = record { before = record { before = record { before = record { before = record { before = record { before = record { before = record { before = c .before; default = c .default }; ln = record { given = g } }; f = record { given = g' } }; queue = record { given = g'' } }; window-counts = record { given = g'3 } }; scan-counts = record { given = g'4 } }; candidates = record { given = g'5 } }; codes = record { given = g'6 } }; reverse-codes = record { given = g'7 } } g'8) (slice-aggregate-process-9 record { before = record { before = record { before = record { before = record { before = record { before = record { before = record { before = record { before = record { before = c .before; default = c .default }; ln = record { given = g } }; f = record { given = g' } }; queue = record { given = g'' } }; window-counts = record { given = g'3 } }; scan-counts = record { given = g'4 } }; candidates = record { given = g'5 } }; codes = record { given = g'6 } }; reverse-codes = record { given = g'7 } }; forward-list = record { given = g'8 } }), λ g'9. (Relend.count-is T57 36 37 (λ x. x) (λ u. 4096) (m46 record { before = record { before = record { before = record { before = record { before = record { before = record { before = record { before = record { before = record { before = c .before; default = c .default }; ln = record { given = g } }; f = record { given = g' } }; queue = record { given = g'' } }; window-counts = record { given = g'3 } }; scan-counts = record { given = g'4 } }; candidates = record { given = g'5 } }; codes = record { given = g'6 } }; reverse-codes = record { given = g'7 } }; forward-list = record { given = g'8 } } g'9) (slice-aggregate-process-10 record { before = record { before = record { before = record { before = record { before = record { before = record { before = record { before = record { before = record { before = record { before = c .before; default = c .default }; ln = record { given = g } }; f = record { given = g' } }; queue = record { given = g'' } }; window-counts = record { given = g'3 } }; scan-counts = record { given = g'4 } }; candidates = record { given = g'5 } }; codes = record { given = g'6 } }; reverse-codes = record { given = g'7 } }; forward-list = record { given = g'8 } }; reverse-list = record { given = g'9 } }), λ g'10. lay5 record { before = record { before = record { before = record { before = record { before = record { before = record { before = record { before = record { before = record { before = record { before = record { before = c .before; default = c .default }; ln = record { given = g } }; f = record { given = g' } }; queue = record { given = g'' } }; window-counts = record { given = g'3 } }; scan-counts = record { given = g'4 } }; candidates = record { given = g'5 } }; codes = record { given = g'6 } }; reverse-codes = record { given = g'7 } }; forward-list = record { given = g'8 } }; reverse-list = record { given = g'9 } }; process-arg = record { given = g'10 } }))))))))))
 
         lay3 :
             (c : After-no-intervals2) →
-            at84
+            at93
             (c .before .before .before .before .blocks)
             (W0
             (c .before .before .before .before .κs)
             (c .before .before .before .before .args)
             (c .before .before .before .before .blocks))
             (m22 (c .before) (After-no-intervals2·gave c))
-        lay3 = λ c. (default-requires record { before = c .before; no-intervals2 = c .no-intervals2 }, λ g. lay4 record { before = record { before = c .before; no-intervals2 = c .no-intervals2 }; default = Called.called ps·2 r·2 (claims· .5) T25 tt (m24 (c .before) (After-no-intervals2·gave c)) g })
+        lay3 = λ c. (default-requires record { before = c .before; no-intervals2 = c .no-intervals2 }, λ g. lay4 record { before = record { before = c .before; no-intervals2 = c .no-intervals2 }; default = Called.called ps·2 r·2 (claims· .5) T27 tt (m26 (c .before) (After-no-intervals2·gave c)) g })
 
         lay2 :
             (c : After-no-intervals) →
-            at87
+            at96
             (c .before .before .before .blocks)
             (W0
             (c .before .before .before .κs)
@@ -4052,7 +4347,7 @@ module _ (claims· : Claims) where
 
         lay1 :
             (c : After-no-candidates) →
-            at94
+            at103
             (c .before .before .blocks)
             (W0 (c .before .before .κs) (c .before .before .args) (c .before .before .blocks))
             (m12 (c .before) (After-no-candidates·gave c))
@@ -4060,7 +4355,7 @@ module _ (claims· : Claims) where
 
         pub laid :
             (c : Start) →
-            at106 (c .blocks) (W0 (c .κs) (c .args) (c .blocks)) (m0 (c .κs) (c .args) (c .blocks))
+            at115 (c .blocks) (W0 (c .κs) (c .args) (c .blocks)) (m0 (c .κs) (c .args) (c .blocks))
         laid = λ c. λ g. (no-candidates-requires record { before = c; shared-slice-known = record { given = g } }, λ g'. lay1 record { before = record { before = c; shared-slice-known = record { given = g } }; no-candidates = Called.called ps·0 r·0 (claims· .1) T12 tt (m11 c g) g' })
 
         module _ (κs : Lifetimes.Lfts 2) (qs : Lifetimes.Shares 2) where
@@ -4116,7 +4411,7 @@ module _ (claims· : Claims) where
             A
             W
             𝓣
-            12
+            13
             ps·3
             r·3
             (claims· .6)

@@ -225,6 +225,18 @@ After-process-arg = Lts.After-process-arg (
   Reads'4.Learnt,
 ) Reads.Pre Reads.Post
 
+abbrev pub After-marks : Type 0
+After-marks = Lts.After-marks (
+  Reads'.Asked,
+  Reads'.Learnt,
+  Reads''.Asked,
+  Reads''.Learnt,
+  Reads'3.Asked,
+  Reads'3.Learnt,
+  Reads'4.Asked,
+  Reads'4.Learnt,
+) Reads.Pre Reads.Post
+
 abbrev pub After-process : Type 0
 After-process = Lts.After-process (
   Reads'.Asked,
@@ -359,6 +371,18 @@ After-reverse-list2 = Lts.After-reverse-list2 (
 
 abbrev pub After-list : Type 0
 After-list = Lts.After-list (
+  Reads'.Asked,
+  Reads'.Learnt,
+  Reads''.Asked,
+  Reads''.Learnt,
+  Reads'3.Asked,
+  Reads'3.Learnt,
+  Reads'4.Asked,
+  Reads'4.Learnt,
+) Reads.Pre Reads.Post
+
+abbrev pub After-marks2 : Type 0
+After-marks2 = Lts.After-marks2 (
   Reads'.Asked,
   Reads'.Learnt,
   Reads''.Asked,
@@ -537,6 +561,18 @@ Need-slice-aggregate-process-10 = Lts.Need-slice-aggregate-process-10 (
   Reads'4.Learnt,
 ) Reads.Pre Reads.Post
 
+abbrev pub Need-slice-aggregate-process-11 : Type 0
+Need-slice-aggregate-process-11 = Lts.Need-slice-aggregate-process-11 (
+  Reads'.Asked,
+  Reads'.Learnt,
+  Reads''.Asked,
+  Reads''.Learnt,
+  Reads'3.Asked,
+  Reads'3.Learnt,
+  Reads'4.Asked,
+  Reads'4.Learnt,
+) Reads.Pre Reads.Post
+
 abbrev pub Need-process-requires : Type 0
 Need-process-requires = Lts.Need-process-requires (
   Reads'.Asked,
@@ -589,6 +625,7 @@ module _ {M : Type 1} where
       (answer : Need-slice-aggregate-process-8) →
       (answer : Need-slice-aggregate-process-9) →
       (answer : Need-slice-aggregate-process-10) →
+      (answer : Need-slice-aggregate-process-11) →
       (answer : Need-process-requires) →
       (answer : Need-same-length) →
       (answer : Need-returns) →
@@ -604,7 +641,7 @@ module _ {M : Type 1} where
       ) Reads.Pre Reads.Post M
   spec =
       λ answer answer' answer'' answer'3 answer'4 answer'5 answer'6 answer'7 answer'8 answer'9
-      answer'10 answer'11 answer'12 answer'13 answer'14 answer'15 answer'16. Lts.spec (
+      answer'10 answer'11 answer'12 answer'13 answer'14 answer'15 answer'16 answer'17. Lts.spec (
         Reads'.Asked,
         Reads'.Learnt,
         Reads''.Asked,
@@ -633,6 +670,7 @@ module _ {M : Type 1} where
       answer'14
       answer'15
       answer'16
+      answer'17
 
   pub close : Lts.Closed (
     Reads'.Asked,

@@ -12,7 +12,7 @@ mod Lts
 mod Tie
 
 abbrev start : tie.After-inner-process → tie.Start
-start c = c .before .before .before .before .before .before .before .before .before .before .before .before .before
+start c = c .before .before .before .before .before .before .before .before .before .before .before .before .before .before
 
 abbrev by : tie.Start → Setup
 by s = setupOf (s .args .p) (s .args .ln .now) (s .args .f .now)
@@ -26,8 +26,8 @@ held c =
 abbrev forward : tie.After-reverse-strand → tie.After-inner-process
 forward c = c .before .before .before .before .before .before .before .before .before .before .before .before .before .before .before
 
-abbrev other : tie.After-list → tie.After-reverse-strand
-other c = c .before .before .before .before .before .before .before .before .before .before .before .before .before .before .before
+abbrev other : tie.After-slice-known13 → tie.After-reverse-strand
+other c = c .before .before .before .before .before .before .before .before .before .before .before .before .before .before .before .before .before .before
 
 reverse-strand-requires : tie.Need-reverse-strand-requires
 reverse-strand-requires c κs =
@@ -37,24 +37,24 @@ reverse-strand-requires c κs =
 
 merge-strands-requires : tie.Need-merge-strands-requires
 merge-strands-requires c κs =
-    let r = c .before .before .before .before .before .before .before .before .before .before .before .before .before in
+    let r = c .before .before .before .before .before .before .before .before .before .before .before .before .before .before in
     let i = forward r in
     let s = start i in
-    mergeable (by s) (s .args .forward-only) (s .args .codes .now) (s .pre .forward .part .kmer-some) (held i) (r .reverse-strand .ensures) (s .args .list .now) (s .pre .list)
+    mergeable (by s) (s .args .forward-only) (s .args .codes .now) (s .pre .forward .part .kmer-some) (held i) (r .reverse-strand .ensures) (s .args .list .now) (s .args .marks .now) (s .pre .list) (s .pre .marks)
 
 returns : tie.Need-returns
 returns c =
     let r = other c in
     let i = forward r in
     let s = start i in
-    merged-wrote (by s) (s .args .forward-only) (s .args .codes .now) (s .pre .forward .part .kmer-some) (held i) (r .reverse-strand .ensures) (c .before .merge-strands .ensures)
+    merged-wrote (by s) (s .args .forward-only) (s .args .codes .now) (s .pre .forward .part .kmer-some) (held i) (r .reverse-strand .ensures) (c .before .before .before .merge-strands .ensures)
 
 pub both-strands-spec : {M : Type 1} → statement M
 both-strands-spec =
     tie.close
     (tie.spec
-    (λ c. omega (arith, c .before .before .before .before .before .before .before .pre .forward .part .letters-in))
-    (λ c κs. c .before .before .before .before .before .before .before .before .before .before .before .before .pre .forward)
+    (λ c. omega (arith, c .before .before .before .before .before .before .before .before .pre .forward .part .letters-in))
+    (λ c κs. c .before .before .before .before .before .before .before .before .before .before .before .before .before .pre .forward)
     reverse-strand-requires
     merge-strands-requires
     (λ c. other c .reverse-strand .kept .1 .1 .1 .1 .1 .0 ∙ forward (other c) .inner-process .kept .1 .1 .1 .1 .0)
@@ -64,5 +64,6 @@ both-strands-spec =
     (λ c. other c .reverse-strand .kept .1 .1 .1 .1 .1 .1 .1 .1 .1 .0)
     (λ c. forward (other c) .inner-process .kept .1 .1 .1 .1 .1 .1 .1 .1 .0)
     (λ c. other c .reverse-strand .kept .1 .1 .1 .1 .1 .1 .1 .1 .1 .1 .0)
-    (λ c. c .before .merge-strands .kept .1 .1 .1 .1 .1 .0)
+    (λ c. c .before .before .before .merge-strands .kept .1 .1 .1 .1 .1 .0)
+    (λ c. c .before .before .before .merge-strands .kept .1 .1 .1 .1 .1 .1 .0)
     returns)

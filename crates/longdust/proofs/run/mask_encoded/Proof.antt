@@ -15,7 +15,7 @@ mod Lts
 mod Tie
 
 abbrev start : tie.After-n-kmers → tie.Start
-start c = c .before .before .before .before .before .before .before .before
+start c = c .before .before .before .before .before .before .before .before .before
 
 abbrev letters : tie.Start → ℕ
 letters s = length (s .args .codes .now)
@@ -28,7 +28,7 @@ abbrev entry : tie.Start → Buffers
 entry s =
     buffers (s .args .ln .now) (s .args .f .now) (s .args .queue .now) (s .args .window-counts .now) (s .args .scan-counts .now)
     (s .args .candidates .now) (s .args .codes .now) (s .args .reverse-codes .now) (s .args .forward-list .now) (s .args .reverse-list .now)
-    (s .args .list .now)
+    (s .args .list .now) (s .args .marks .now)
 
 windows-within : (c : tie.After-n-kmers) → c .n-kmers .result ≤ length (start c .args .window-counts .now)
 windows-within c = omega (arith, c .n-kmers .ensures, start c .pre .enough .window-counts)
@@ -37,13 +37,13 @@ scans-within : (c : tie.After-n-kmers) → c .n-kmers .result ≤ length (start 
 scans-within c = omega (arith, c .n-kmers .ensures, start c .pre .enough .scan-counts)
 
 abbrev counted : tie.After-both-strands → tie.After-n-kmers
-counted c = c .before .before .before .before .before .before .before .before .before .before .before .before .before
+counted c = c .before .before .before .before .before .before .before .before .before .before .before .before .before .before
 
 abbrev left : tie.After-both-strands → Buffers
 left c =
     let a = start (counted c) .args in
     let l = c .both-strands .last .1 .1 .1 .1 .1 in
-    buffers (a .ln .now) (a .f .now) (l .0) (l .1 .0) (l .1 .1 .0) (l .1 .1 .1 .0) (a .codes .now) (l .1 .1 .1 .1 .0) (l .1 .1 .1 .1 .1 .0) (l .1 .1 .1 .1 .1 .1 .0) (l .1 .1 .1 .1 .1 .1 .1 .0)
+    buffers (a .ln .now) (a .f .now) (l .0) (l .1 .0) (l .1 .1 .0) (l .1 .1 .1 .0) (a .codes .now) (l .1 .1 .1 .1 .0) (l .1 .1 .1 .1 .1 .0) (l .1 .1 .1 .1 .1 .1 .0) (l .1 .1 .1 .1 .1 .1 .1 .0) (l .1 .1 .1 .1 .1 .1 .1 .1 .0)
 
 returned : (c : tie.After-both-strands)
     → Returned
@@ -60,6 +60,7 @@ returned c =
       forward-list = k .1 .1 .1 .1 .1 .0;
       reverse-list = k .1 .1 .1 .1 .1 .1 .0;
       list = k .1 .1 .1 .1 .1 .1 .1 .0;
+      marks = k .1 .1 .1 .1 .1 .1 .1 .1 .0;
     }
 
 freed : (c : tie.After-both-strands)
@@ -70,7 +71,7 @@ freed c =
     whole (s .args .options) (letters s) (counted c .n-kmers .result) (entry s) (s .pre) (counted c .n-kmers .ensures) (left c) (returned c)
 
 abbrev done : tie.After-accepted → tie.After-both-strands
-done c = c .before .before .before .before .before .before .before .before .before .before .before .before .before
+done c = c .before .before .before .before .before .before .before .before .before .before .before .before .before .before .before
 
 prepare-requires : tie.Need-prepare-requires
 prepare-requires c κs =
@@ -87,9 +88,9 @@ in-range-requires c κs =
 
 both-strands-requires : tie.Need-both-strands-requires
 both-strands-requires c κs =
-    let k = c .before .before .before .before .before .before .before .before .before .before .before .before in
+    let k = c .before .before .before .before .before .before .before .before .before .before .before .before .before in
     let s = start k in
-    let q = c .before .before .before .before .before .before .before .before .before .prepare in
+    let q = c .before .before .before .before .before .before .before .before .before .before .prepare in
     exact (s .args .options) (letters s) (k .n-kmers .result) (entry s) (s .pre) (k .n-kmers .ensures) (q .result) (prepared-kmer (q .ensures)) (prepared-window (q .ensures))
 
 returns : tie.Need-returns
@@ -97,8 +98,8 @@ returns c =
     let t = done c in
     let k = counted t in
     let s = start k in
-    let q = t .before .before .before .before .before .before .before .before .before .before .prepare in
-    let g = t .before .before .before .before .before .before .before .before .before .in-range in
+    let q = t .before .before .before .before .before .before .before .before .before .before .before .prepare in
+    let g = t .before .before .before .before .before .before .before .before .before .before .in-range in
     ran (s .args .options) (s .args .codes .now) (k .n-kmers .result) (entry s) (s .pre) (k .n-kmers .ensures) (left t) (returned t) (q .result) (q .ensures)
     (g .result) (g .ensures) (t .both-strands .result) (t .both-strands .ensures) (c .accepted .result) (c .accepted .ensures)
 
@@ -132,6 +133,8 @@ mask-encoded-spec =
     (λ c. sym (length-take-le _ _ (start (c .before .before .before .before .before .before .before .before .before .before .before) .pre .enough .reverse-list)))
     (λ c. start (c .before .before .before .before .before .before .before .before .before .before .before) .pre .enough .list)
     (λ c. sym (length-take-le _ _ (start (c .before .before .before .before .before .before .before .before .before .before .before .before) .pre .enough .list)))
+    (λ c. start (c .before .before .before .before .before .before .before .before .before .before .before .before) .pre .enough .marks)
+    (λ c. sym (length-take-le _ _ (start (c .before .before .before .before .before .before .before .before .before .before .before .before .before) .pre .enough .marks)))
     both-strands-requires
     (λ c κs. search needs)
     (λ c. freed (done c) .queue .long)
@@ -142,4 +145,5 @@ mask-encoded-spec =
     (λ c. freed (done c) .forward-list .long)
     (λ c. freed (done c) .reverse-list .long)
     (λ c. freed (done c) .list)
+    (λ c. freed (done c) .marks)
     returns)

@@ -13,4 +13,5 @@ merge-strands-spec =
     (λ c. simp length-take (omega arith))
     (λ c κs. search needs)
     (λ c. search needs)
+    (λ c. search needs)
     (λ c. search needs))

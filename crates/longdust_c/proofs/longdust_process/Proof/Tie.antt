@@ -129,6 +129,18 @@ After-slice-known7 = Lts.After-slice-known7 (
   Reads'.Learnt,
 ) Reads'3.Pre Reads'3.Post
 
+abbrev pub After-slice-known8 : Type 0
+After-slice-known8 = Lts.After-slice-known8 (
+  Reads'4.Asked,
+  Reads'4.Learnt,
+  Reads.Asked,
+  Reads.Learnt,
+  Reads''.Asked,
+  Reads''.Learnt,
+  Reads'.Asked,
+  Reads'.Learnt,
+) Reads'3.Pre Reads'3.Post
+
 abbrev pub After-options-of : Type 0
 After-options-of = Lts.After-options-of (
   Reads'4.Asked,
@@ -273,6 +285,18 @@ After-process-arg11 = Lts.After-process-arg11 (
   Reads'.Learnt,
 ) Reads'3.Pre Reads'3.Post
 
+abbrev pub After-process-arg12 : Type 0
+After-process-arg12 = Lts.After-process-arg12 (
+  Reads'4.Asked,
+  Reads'4.Learnt,
+  Reads.Asked,
+  Reads.Learnt,
+  Reads''.Asked,
+  Reads''.Learnt,
+  Reads'.Asked,
+  Reads'.Learnt,
+) Reads'3.Pre Reads'3.Post
+
 abbrev pub After-process : Type 0
 After-process = Lts.After-process (
   Reads'4.Asked,
@@ -297,8 +321,8 @@ After-ln = Lts.After-ln (
   Reads'.Learnt,
 ) Reads'3.Pre Reads'3.Post
 
-abbrev pub After-slice-known8 : Type 0
-After-slice-known8 = Lts.After-slice-known8 (
+abbrev pub After-slice-known9 : Type 0
+After-slice-known9 = Lts.After-slice-known9 (
   Reads'4.Asked,
   Reads'4.Learnt,
   Reads.Asked,
@@ -321,8 +345,8 @@ After-f = Lts.After-f (
   Reads'.Learnt,
 ) Reads'3.Pre Reads'3.Post
 
-abbrev pub After-slice-known9 : Type 0
-After-slice-known9 = Lts.After-slice-known9 (
+abbrev pub After-slice-known10 : Type 0
+After-slice-known10 = Lts.After-slice-known10 (
   Reads'4.Asked,
   Reads'4.Learnt,
   Reads.Asked,
@@ -345,8 +369,8 @@ After-queue = Lts.After-queue (
   Reads'.Learnt,
 ) Reads'3.Pre Reads'3.Post
 
-abbrev pub After-slice-known10 : Type 0
-After-slice-known10 = Lts.After-slice-known10 (
+abbrev pub After-slice-known11 : Type 0
+After-slice-known11 = Lts.After-slice-known11 (
   Reads'4.Asked,
   Reads'4.Learnt,
   Reads.Asked,
@@ -369,8 +393,8 @@ After-window-counts = Lts.After-window-counts (
   Reads'.Learnt,
 ) Reads'3.Pre Reads'3.Post
 
-abbrev pub After-slice-known11 : Type 0
-After-slice-known11 = Lts.After-slice-known11 (
+abbrev pub After-slice-known12 : Type 0
+After-slice-known12 = Lts.After-slice-known12 (
   Reads'4.Asked,
   Reads'4.Learnt,
   Reads.Asked,
@@ -393,8 +417,8 @@ After-scan-counts = Lts.After-scan-counts (
   Reads'.Learnt,
 ) Reads'3.Pre Reads'3.Post
 
-abbrev pub After-slice-known12 : Type 0
-After-slice-known12 = Lts.After-slice-known12 (
+abbrev pub After-slice-known13 : Type 0
+After-slice-known13 = Lts.After-slice-known13 (
   Reads'4.Asked,
   Reads'4.Learnt,
   Reads.Asked,
@@ -429,8 +453,8 @@ After-codes = Lts.After-codes (
   Reads'.Learnt,
 ) Reads'3.Pre Reads'3.Post
 
-abbrev pub After-slice-known13 : Type 0
-After-slice-known13 = Lts.After-slice-known13 (
+abbrev pub After-slice-known14 : Type 0
+After-slice-known14 = Lts.After-slice-known14 (
   Reads'4.Asked,
   Reads'4.Learnt,
   Reads.Asked,
@@ -453,8 +477,8 @@ After-reverse-codes = Lts.After-reverse-codes (
   Reads'.Learnt,
 ) Reads'3.Pre Reads'3.Post
 
-abbrev pub After-slice-known14 : Type 0
-After-slice-known14 = Lts.After-slice-known14 (
+abbrev pub After-slice-known15 : Type 0
+After-slice-known15 = Lts.After-slice-known15 (
   Reads'4.Asked,
   Reads'4.Learnt,
   Reads.Asked,
@@ -491,6 +515,30 @@ After-reverse-list = Lts.After-reverse-list (
 
 abbrev pub After-list : Type 0
 After-list = Lts.After-list (
+  Reads'4.Asked,
+  Reads'4.Learnt,
+  Reads.Asked,
+  Reads.Learnt,
+  Reads''.Asked,
+  Reads''.Learnt,
+  Reads'.Asked,
+  Reads'.Learnt,
+) Reads'3.Pre Reads'3.Post
+
+abbrev pub After-marks : Type 0
+After-marks = Lts.After-marks (
+  Reads'4.Asked,
+  Reads'4.Learnt,
+  Reads.Asked,
+  Reads.Learnt,
+  Reads''.Asked,
+  Reads''.Learnt,
+  Reads'.Asked,
+  Reads'.Learnt,
+) Reads'3.Pre Reads'3.Post
+
+abbrev pub After-slice-known16 : Type 0
+After-slice-known16 = Lts.After-slice-known16 (
   Reads'4.Asked,
   Reads'4.Learnt,
   Reads.Asked,
@@ -705,6 +753,18 @@ Need-same-length-11 = Lts.Need-same-length-11 (
   Reads'.Learnt,
 ) Reads'3.Pre Reads'3.Post
 
+abbrev pub Need-same-length-12 : Type 0
+Need-same-length-12 = Lts.Need-same-length-12 (
+  Reads'4.Asked,
+  Reads'4.Learnt,
+  Reads.Asked,
+  Reads.Learnt,
+  Reads''.Asked,
+  Reads''.Learnt,
+  Reads'.Asked,
+  Reads'.Learnt,
+) Reads'3.Pre Reads'3.Post
+
 abbrev pub Need-returns : Type 0
 Need-returns = Lts.Need-returns (
   Reads'4.Asked,
@@ -734,6 +794,7 @@ module _ {M : Type 1} where
       (answer : Need-same-length-9) →
       (answer : Need-same-length-10) →
       (answer : Need-same-length-11) →
+      (answer : Need-same-length-12) →
       (answer : Need-returns) →
       Lts.Closed (
         Reads'4.Asked,
@@ -747,7 +808,7 @@ module _ {M : Type 1} where
       ) Reads'3.Pre Reads'3.Post M
   spec =
       λ answer answer' answer'' answer'3 answer'4 answer'5 answer'6 answer'7 answer'8 answer'9
-      answer'10 answer'11 answer'12 answer'13 answer'14 answer'15. Lts.spec (
+      answer'10 answer'11 answer'12 answer'13 answer'14 answer'15 answer'16. Lts.spec (
         Reads'4.Asked,
         Reads'4.Learnt,
         Reads.Asked,
@@ -775,6 +836,7 @@ module _ {M : Type 1} where
       answer'13
       answer'14
       answer'15
+      answer'16
 
   pub close : Lts.Closed (
     Reads'4.Asked,
@@ -789,7 +851,7 @@ module _ {M : Type 1} where
   unfolding Code.routine Running.tablesOf
   close =
       λ closed 𝓤 H 𝓜 𝓖 𝓡. Written.close
-      13
+      14
       Kinds.ps
       Kinds.r
       Reads'3.Ghost

@@ -129,6 +129,18 @@ After-slice-known5 = Lts.After-slice-known5 (
   Reads'.Learnt,
 ) Reads'3.Pre Reads'3.Post
 
+abbrev pub After-slice-known6 : Type 0
+After-slice-known6 = Lts.After-slice-known6 (
+  Reads'4.Asked,
+  Reads'4.Learnt,
+  Reads.Asked,
+  Reads.Learnt,
+  Reads''.Asked,
+  Reads''.Learnt,
+  Reads'.Asked,
+  Reads'.Learnt,
+) Reads'3.Pre Reads'3.Post
+
 abbrev pub After-options-of : Type 0
 After-options-of = Lts.After-options-of (
   Reads'4.Asked,
@@ -249,6 +261,18 @@ After-process-tables-arg9 = Lts.After-process-tables-arg9 (
   Reads'.Learnt,
 ) Reads'3.Pre Reads'3.Post
 
+abbrev pub After-process-tables-arg10 : Type 0
+After-process-tables-arg10 = Lts.After-process-tables-arg10 (
+  Reads'4.Asked,
+  Reads'4.Learnt,
+  Reads.Asked,
+  Reads.Learnt,
+  Reads''.Asked,
+  Reads''.Learnt,
+  Reads'.Asked,
+  Reads'.Learnt,
+) Reads'3.Pre Reads'3.Post
+
 abbrev pub After-process-tables : Type 0
 After-process-tables = Lts.After-process-tables (
   Reads'4.Asked,
@@ -273,8 +297,8 @@ After-queue = Lts.After-queue (
   Reads'.Learnt,
 ) Reads'3.Pre Reads'3.Post
 
-abbrev pub After-slice-known6 : Type 0
-After-slice-known6 = Lts.After-slice-known6 (
+abbrev pub After-slice-known7 : Type 0
+After-slice-known7 = Lts.After-slice-known7 (
   Reads'4.Asked,
   Reads'4.Learnt,
   Reads.Asked,
@@ -297,8 +321,8 @@ After-window-counts = Lts.After-window-counts (
   Reads'.Learnt,
 ) Reads'3.Pre Reads'3.Post
 
-abbrev pub After-slice-known7 : Type 0
-After-slice-known7 = Lts.After-slice-known7 (
+abbrev pub After-slice-known8 : Type 0
+After-slice-known8 = Lts.After-slice-known8 (
   Reads'4.Asked,
   Reads'4.Learnt,
   Reads.Asked,
@@ -321,8 +345,8 @@ After-scan-counts = Lts.After-scan-counts (
   Reads'.Learnt,
 ) Reads'3.Pre Reads'3.Post
 
-abbrev pub After-slice-known8 : Type 0
-After-slice-known8 = Lts.After-slice-known8 (
+abbrev pub After-slice-known9 : Type 0
+After-slice-known9 = Lts.After-slice-known9 (
   Reads'4.Asked,
   Reads'4.Learnt,
   Reads.Asked,
@@ -357,8 +381,8 @@ After-codes = Lts.After-codes (
   Reads'.Learnt,
 ) Reads'3.Pre Reads'3.Post
 
-abbrev pub After-slice-known9 : Type 0
-After-slice-known9 = Lts.After-slice-known9 (
+abbrev pub After-slice-known10 : Type 0
+After-slice-known10 = Lts.After-slice-known10 (
   Reads'4.Asked,
   Reads'4.Learnt,
   Reads.Asked,
@@ -381,8 +405,8 @@ After-reverse-codes = Lts.After-reverse-codes (
   Reads'.Learnt,
 ) Reads'3.Pre Reads'3.Post
 
-abbrev pub After-slice-known10 : Type 0
-After-slice-known10 = Lts.After-slice-known10 (
+abbrev pub After-slice-known11 : Type 0
+After-slice-known11 = Lts.After-slice-known11 (
   Reads'4.Asked,
   Reads'4.Learnt,
   Reads.Asked,
@@ -419,6 +443,30 @@ After-reverse-list = Lts.After-reverse-list (
 
 abbrev pub After-list : Type 0
 After-list = Lts.After-list (
+  Reads'4.Asked,
+  Reads'4.Learnt,
+  Reads.Asked,
+  Reads.Learnt,
+  Reads''.Asked,
+  Reads''.Learnt,
+  Reads'.Asked,
+  Reads'.Learnt,
+) Reads'3.Pre Reads'3.Post
+
+abbrev pub After-marks : Type 0
+After-marks = Lts.After-marks (
+  Reads'4.Asked,
+  Reads'4.Learnt,
+  Reads.Asked,
+  Reads.Learnt,
+  Reads''.Asked,
+  Reads''.Learnt,
+  Reads'.Asked,
+  Reads'.Learnt,
+) Reads'3.Pre Reads'3.Post
+
+abbrev pub After-slice-known12 : Type 0
+After-slice-known12 = Lts.After-slice-known12 (
   Reads'4.Asked,
   Reads'4.Learnt,
   Reads.Asked,
@@ -609,6 +657,18 @@ Need-same-length-9 = Lts.Need-same-length-9 (
   Reads'.Learnt,
 ) Reads'3.Pre Reads'3.Post
 
+abbrev pub Need-same-length-10 : Type 0
+Need-same-length-10 = Lts.Need-same-length-10 (
+  Reads'4.Asked,
+  Reads'4.Learnt,
+  Reads.Asked,
+  Reads.Learnt,
+  Reads''.Asked,
+  Reads''.Learnt,
+  Reads'.Asked,
+  Reads'.Learnt,
+) Reads'3.Pre Reads'3.Post
+
 abbrev pub Need-returns : Type 0
 Need-returns = Lts.Need-returns (
   Reads'4.Asked,
@@ -636,6 +696,7 @@ module _ {M : Type 1} where
       (answer : Need-same-length-7) →
       (answer : Need-same-length-8) →
       (answer : Need-same-length-9) →
+      (answer : Need-same-length-10) →
       (answer : Need-returns) →
       Lts.Closed (
         Reads'4.Asked,
@@ -649,7 +710,7 @@ module _ {M : Type 1} where
       ) Reads'3.Pre Reads'3.Post M
   spec =
       λ answer answer' answer'' answer'3 answer'4 answer'5 answer'6 answer'7 answer'8 answer'9
-      answer'10 answer'11 answer'12 answer'13. Lts.spec (
+      answer'10 answer'11 answer'12 answer'13 answer'14. Lts.spec (
         Reads'4.Asked,
         Reads'4.Learnt,
         Reads.Asked,
@@ -675,6 +736,7 @@ module _ {M : Type 1} where
       answer'11
       answer'12
       answer'13
+      answer'14
 
   pub close : Lts.Closed (
     Reads'4.Asked,
@@ -689,7 +751,7 @@ module _ {M : Type 1} where
   unfolding Code.routine Running.tablesOf
   close =
       λ closed 𝓤 H 𝓜 𝓖 𝓡. Written.close
-      13
+      14
       Kinds.ps
       Kinds.r
       Reads'3.Ghost

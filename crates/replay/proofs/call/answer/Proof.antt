@@ -9,8 +9,8 @@ mod Tie
 
 returns : tie.Need-returns
 returns c =
-    let P = c .before .before .before .before .before .before .before .before .before .process-tables in
-    record { before = _; after = _; answered = P .ensures; ln-is = refl; f-is = refl; list-before = refl; list-after = refl }
+    let P = c .before .before .before .before .before .before .before .before .before .before .before .process-tables in
+    record { before = _; after = _; answered = P .ensures; ln-is = refl; f-is = refl; list-before = refl; list-after = refl; marks-before = refl; marks-after = refl }
 
 pub answer-spec : {M : Type 1} → statement M
 answer-spec =
@@ -51,5 +51,6 @@ answer-spec =
     (λ c. search needs)
     (λ c. sym (length-take-le _ _ (search needs)))
     (λ c κs. search needs)
+    (λ c. search needs)
     (λ c. search needs)
     returns)

@@ -10,19 +10,19 @@ use Rattle.replay.proofs.call.entries.Statement.{statement}
 use Rattle.replay.proofs.call.entries.Tie as tie
 
 module _ (number short listed room : ℕ) where
-  none : short ≡ 12 → 0 ≡ size number short listed room
+  none : short ≡ 13 → 0 ≡ size number short listed room
   unfolding size
-  none e = rw (eq-eqb short 12 e) (omega arith)
+  none e = rw (eq-eqb short 13 e) (omega arith)
 
-  all : short ≢ 12 → short ≢ number → min listed room ≡ size number short listed room
+  all : short ≢ 13 → short ≢ number → min listed room ≡ size number short listed room
   unfolding size
-  all e n = rw (ne-eqb short 12 e, ne-eqb short number n)
+  all e n = rw (ne-eqb short 13 e, ne-eqb short number n)
 
-  less : short ≢ 12 → short ≡ number → min (listed - 1) room ≡ size number short listed room
+  less : short ≢ 13 → short ≡ number → min (listed - 1) room ≡ size number short listed room
   unfolding size
-  less e n = rw (ne-eqb short 12 e, eq-eqb short number n)
+  less e n = rw (ne-eqb short 13 e, eq-eqb short number n)
 
-  empty : short ≢ 12 → short ≡ number → listed ≡ 0 → 0 ≡ size number short listed room
+  empty : short ≢ 13 → short ≡ number → listed ≡ 0 → 0 ≡ size number short listed room
   empty e n z = let m : 0 ≡ min (listed - 1) room = omega arith in m ∙ less e n
 
 returns-2 : tie.Need-returns-2

@@ -5,10 +5,10 @@ use Rattle.replay.proofs.recorded.intervals.Statement.{statement}
 use Rattle.replay.proofs.recorded.intervals.Tie as tie
 
 abbrev Inv-loop : tie.InvT-loop
-Inv-loop text alike list count cursor₀ same₀ i₀ cursor same i = i ≤ count
+Inv-loop text alike list marks count cursor₀ same₀ i₀ cursor same i = i ≤ count
 
 abbrev μ-loop : tie.MeasureT-loop
-μ-loop text alike list count cursor₀ same₀ i₀ cursor same i = count - i
+μ-loop text alike list marks count cursor₀ same₀ i₀ cursor same i = count - i
 
 pub intervals-spec : {M : Type 1} → statement M
 intervals-spec =
@@ -17,6 +17,8 @@ intervals-spec =
     Inv-loop
     μ-loop
     (λ c. search needs)
+    (λ c κs. search needs)
+    (λ c κs. search needs)
     (λ c κs. search needs)
     (λ c κs. search needs)
     (λ c κs. search needs)

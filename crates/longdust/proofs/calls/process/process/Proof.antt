@@ -21,7 +21,7 @@ mod Lts
 mod Tie
 
 abbrev start : tie.Else1 → tie.Start
-start c = c .before .before .before .before .before .before .before .before .before .before
+start c = c .before .before .before .before .before .before .before .before .before .before .before
 
 abbrev bytes : tie.Start → List ℕ
 bytes s = s .args .sequence .now
@@ -30,7 +30,7 @@ abbrev entry : tie.Start → Buffers
 entry s =
     buffers (s .args .ln .now) (s .args .f .now) (s .args .queue .now) (s .args .window-counts .now) (s .args .scan-counts .now)
     (s .args .candidates .now) (s .args .codes .now) (s .args .reverse-codes .now) (s .args .forward-list .now) (s .args .reverse-list .now)
-    (s .args .list .now)
+    (s .args .list .now) (s .args .marks .now)
 
 -- Past the check.
 passed : (c : tie.Else1) → refusal (start c .args .options) (bytes (start c)) (lengths (entry (start c))) ≡ 0
@@ -71,11 +71,11 @@ filled c =
           ∙ ap (λ (z : List ℕ). put (fTable (o .kmer) (o .«window_size») (density (o .kmer) (o .gc) z)) (s .args .f .now)) (codes-held e);
     }
 
-abbrev call : tie.After-list → tie.After-process-tables
-call c = c .before .before .before .before .before .before .before .before .before .before .before .before .before .before
+abbrev call : tie.After-slice-known17 → tie.After-process-tables
+call c = c .before .before .before .before .before .before .before .before .before .before .before .before .before .before .before .before
 
 abbrev at-fill : tie.After-process-tables → tie.After-fill-tables
-at-fill c = c .before .before .before .before .before .before .before .before .before .before .before .before .before .before .before .before
+at-fill c = c .before .before .before .before .before .before .before .before .before .before .before .before .before .before .before .before .before
 
 returns : tie.Need-returns
 returns c = not-accepted Filled _ _ _ _ _ (c .before .before .check .ensures) (c .before .if1 .taken) (c .refused .ensures)
@@ -118,4 +118,5 @@ process-spec =
     (λ c. call c .process-tables .kept .1 .1 .1 .1 .1 .1 .1 .1 .1 .1 .0)
     (λ c. call c .process-tables .kept .1 .1 .1 .1 .1 .1 .1 .1 .1 .1 .1 .0)
     (λ c. call c .process-tables .kept .1 .1 .1 .1 .1 .1 .1 .1 .1 .1 .1 .1 .0)
+    (λ c. call c .process-tables .kept .1 .1 .1 .1 .1 .1 .1 .1 .1 .1 .1 .1 .1 .0)
     returns-2)

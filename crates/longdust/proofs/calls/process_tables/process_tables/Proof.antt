@@ -18,7 +18,7 @@ mod Lts
 mod Tie
 
 abbrev start : tie.Else1 → tie.Start
-start c = c .before .before .before .before .before .before .before .before .before .before
+start c = c .before .before .before .before .before .before .before .before .before .before .before
 
 abbrev bytes : tie.Start → List ℕ
 bytes s = s .args .sequence .now
@@ -27,7 +27,7 @@ abbrev entry : tie.Start → Buffers
 entry s =
     buffers (s .args .ln .now) (s .args .f .now) (s .args .queue .now) (s .args .window-counts .now) (s .args .scan-counts .now)
     (s .args .candidates .now) (s .args .codes .now) (s .args .reverse-codes .now) (s .args .forward-list .now) (s .args .reverse-list .now)
-    (s .args .list .now)
+    (s .args .list .now) (s .args .marks .now)
 
 -- Past the check.
 passed : (c : tie.Else1) → refusal (start c .args .options) (bytes (start c)) (lengths (entry (start c))) ≡ 0
@@ -53,24 +53,24 @@ part-long : (c : tie.After-encode-sequence) → length (part c) ≡ length (byte
 part-long c = encoded-length _ _ _ (c .encode-sequence .ensures) (c .encode-sequence .kept .1 .0)
 
 abbrev at-encode : tie.After-mask-encoded → tie.After-encode-sequence
-at-encode c = c .before .before .before .before .before .before .before .before .before .before .before .before
+at-encode c = c .before .before .before .before .before .before .before .before .before .before .before .before .before
 
 -- The buffers as the run leaves them.
 abbrev left : tie.After-mask-encoded → Buffers
 left c =
     let s = start (at-if (at-encode c)) in
     let l = c .mask-encoded .last .1 .1 .1 .1 in
-    buffers (s .args .ln .now) (s .args .f .now) (l .0) (l .1 .0) (l .1 .1 .0) (l .1 .1 .1 .0) (part (at-encode c)) (l .1 .1 .1 .1 .0) (l .1 .1 .1 .1 .1 .0) (l .1 .1 .1 .1 .1 .1 .0) (l .1 .1 .1 .1 .1 .1 .1 .0)
+    buffers (s .args .ln .now) (s .args .f .now) (l .0) (l .1 .0) (l .1 .1 .0) (l .1 .1 .1 .0) (part (at-encode c)) (l .1 .1 .1 .1 .0) (l .1 .1 .1 .1 .1 .0) (l .1 .1 .1 .1 .1 .1 .0) (l .1 .1 .1 .1 .1 .1 .1 .0) (l .1 .1 .1 .1 .1 .1 .1 .1 .0)
 
-abbrev done : tie.After-list → tie.After-mask-encoded
-done c = c .before .before .before .before .before .before .before .before .before .before .before .before
+abbrev done : tie.After-slice-known12 → tie.After-mask-encoded
+done c = c .before .before .before .before .before .before .before .before .before .before .before .before .before .before
 
 returns : tie.Need-returns
 returns c = not-accepted Kept _ _ _ _ _ (c .before .before .check .ensures) (c .before .if1 .taken) (c .refused .ensures)
 
 mask-encoded-requires : tie.Need-mask-encoded-requires
 mask-encoded-requires c κs =
-    let e = c .before .before .before .before .before .before .before .before .before .before .before in
+    let e = c .before .before .before .before .before .before .before .before .before .before .before .before in
     let i = at-if e in
     admitted-as _ _ (entry (start i)) (admit i) (part e) (part-long e)
 
@@ -103,4 +103,5 @@ process-tables-spec =
     (λ c. done c .mask-encoded .kept .1 .1 .1 .1 .1 .1 .1 .1 .1 .0)
     (λ c. done c .mask-encoded .kept .1 .1 .1 .1 .1 .1 .1 .1 .1 .1 .0)
     (λ c. done c .mask-encoded .kept .1 .1 .1 .1 .1 .1 .1 .1 .1 .1 .1 .0)
+    (λ c. done c .mask-encoded .kept .1 .1 .1 .1 .1 .1 .1 .1 .1 .1 .1 .1 .0)
     returns-2)

@@ -98,6 +98,16 @@ After-slice-known4 = Lts.After-slice-known4 (
   Reads'.Learnt,
 ) Reads.Pre Reads.Post
 
+abbrev pub After-slice-known5 : Type 0
+After-slice-known5 = Lts.After-slice-known5 (
+  Reads'3.Asked,
+  Reads'3.Learnt,
+  Reads''.Asked,
+  Reads''.Learnt,
+  Reads'.Asked,
+  Reads'.Learnt,
+) Reads.Pre Reads.Post
+
 abbrev pub After-inner-process-arg : Type 0
 After-inner-process-arg = Lts.After-inner-process-arg (
   Reads'3.Asked,
@@ -168,8 +178,8 @@ After-queue = Lts.After-queue (
   Reads'.Learnt,
 ) Reads.Pre Reads.Post
 
-abbrev pub After-slice-known5 : Type 0
-After-slice-known5 = Lts.After-slice-known5 (
+abbrev pub After-slice-known6 : Type 0
+After-slice-known6 = Lts.After-slice-known6 (
   Reads'3.Asked,
   Reads'3.Learnt,
   Reads''.Asked,
@@ -188,8 +198,8 @@ After-window-counts = Lts.After-window-counts (
   Reads'.Learnt,
 ) Reads.Pre Reads.Post
 
-abbrev pub After-slice-known6 : Type 0
-After-slice-known6 = Lts.After-slice-known6 (
+abbrev pub After-slice-known7 : Type 0
+After-slice-known7 = Lts.After-slice-known7 (
   Reads'3.Asked,
   Reads'3.Learnt,
   Reads''.Asked,
@@ -208,8 +218,8 @@ After-scan-counts = Lts.After-scan-counts (
   Reads'.Learnt,
 ) Reads.Pre Reads.Post
 
-abbrev pub After-slice-known7 : Type 0
-After-slice-known7 = Lts.After-slice-known7 (
+abbrev pub After-slice-known8 : Type 0
+After-slice-known8 = Lts.After-slice-known8 (
   Reads'3.Asked,
   Reads'3.Learnt,
   Reads''.Asked,
@@ -318,8 +328,8 @@ After-queue2 = Lts.After-queue2 (
   Reads'.Learnt,
 ) Reads.Pre Reads.Post
 
-abbrev pub After-slice-known8 : Type 0
-After-slice-known8 = Lts.After-slice-known8 (
+abbrev pub After-slice-known9 : Type 0
+After-slice-known9 = Lts.After-slice-known9 (
   Reads'3.Asked,
   Reads'3.Learnt,
   Reads''.Asked,
@@ -338,8 +348,8 @@ After-window-counts2 = Lts.After-window-counts2 (
   Reads'.Learnt,
 ) Reads.Pre Reads.Post
 
-abbrev pub After-slice-known9 : Type 0
-After-slice-known9 = Lts.After-slice-known9 (
+abbrev pub After-slice-known10 : Type 0
+After-slice-known10 = Lts.After-slice-known10 (
   Reads'3.Asked,
   Reads'3.Learnt,
   Reads''.Asked,
@@ -358,8 +368,8 @@ After-scan-counts2 = Lts.After-scan-counts2 (
   Reads'.Learnt,
 ) Reads.Pre Reads.Post
 
-abbrev pub After-slice-known10 : Type 0
-After-slice-known10 = Lts.After-slice-known10 (
+abbrev pub After-slice-known11 : Type 0
+After-slice-known11 = Lts.After-slice-known11 (
   Reads'3.Asked,
   Reads'3.Learnt,
   Reads''.Asked,
@@ -388,8 +398,8 @@ After-reverse-codes = Lts.After-reverse-codes (
   Reads'.Learnt,
 ) Reads.Pre Reads.Post
 
-abbrev pub After-slice-known11 : Type 0
-After-slice-known11 = Lts.After-slice-known11 (
+abbrev pub After-slice-known12 : Type 0
+After-slice-known12 = Lts.After-slice-known12 (
   Reads'3.Asked,
   Reads'3.Learnt,
   Reads''.Asked,
@@ -438,6 +448,16 @@ After-merge-strands-arg3 = Lts.After-merge-strands-arg3 (
   Reads'.Learnt,
 ) Reads.Pre Reads.Post
 
+abbrev pub After-merge-strands-arg4 : Type 0
+After-merge-strands-arg4 = Lts.After-merge-strands-arg4 (
+  Reads'3.Asked,
+  Reads'3.Learnt,
+  Reads''.Asked,
+  Reads''.Learnt,
+  Reads'.Asked,
+  Reads'.Learnt,
+) Reads.Pre Reads.Post
+
 abbrev pub After-merge-strands : Type 0
 After-merge-strands = Lts.After-merge-strands (
   Reads'3.Asked,
@@ -450,6 +470,26 @@ After-merge-strands = Lts.After-merge-strands (
 
 abbrev pub After-list : Type 0
 After-list = Lts.After-list (
+  Reads'3.Asked,
+  Reads'3.Learnt,
+  Reads''.Asked,
+  Reads''.Learnt,
+  Reads'.Asked,
+  Reads'.Learnt,
+) Reads.Pre Reads.Post
+
+abbrev pub After-marks : Type 0
+After-marks = Lts.After-marks (
+  Reads'3.Asked,
+  Reads'3.Learnt,
+  Reads''.Asked,
+  Reads''.Learnt,
+  Reads'.Asked,
+  Reads'.Learnt,
+) Reads.Pre Reads.Post
+
+abbrev pub After-slice-known13 : Type 0
+After-slice-known13 = Lts.After-slice-known13 (
   Reads'3.Asked,
   Reads'3.Learnt,
   Reads''.Asked,
@@ -578,6 +618,16 @@ Need-same-length-8 = Lts.Need-same-length-8 (
   Reads'.Learnt,
 ) Reads.Pre Reads.Post
 
+abbrev pub Need-same-length-9 : Type 0
+Need-same-length-9 = Lts.Need-same-length-9 (
+  Reads'3.Asked,
+  Reads'3.Learnt,
+  Reads''.Asked,
+  Reads''.Learnt,
+  Reads'.Asked,
+  Reads'.Learnt,
+) Reads.Pre Reads.Post
+
 abbrev pub Need-returns : Type 0
 Need-returns = Lts.Need-returns (
   Reads'3.Asked,
@@ -602,6 +652,7 @@ module _ {M : Type 1} where
       (answer : Need-same-length-6) →
       (answer : Need-same-length-7) →
       (answer : Need-same-length-8) →
+      (answer : Need-same-length-9) →
       (answer : Need-returns) →
       Lts.Closed (
         Reads'3.Asked,
@@ -613,10 +664,10 @@ module _ {M : Type 1} where
       ) Reads.Pre Reads.Post M
   spec =
       λ answer answer' answer'' answer'3 answer'4 answer'5 answer'6 answer'7 answer'8 answer'9
-      answer'10 answer'11 answer'12. Lts.spec
+      answer'10 answer'11 answer'12 answer'13. Lts.spec
       (Reads'3.Asked, Reads'3.Learnt, Reads''.Asked, Reads''.Learnt, Reads'.Asked, Reads'.Learnt)
       Reads.Pre Reads.Post answer answer' answer'' answer'3 answer'4 answer'5 answer'6 answer'7
-      answer'8 answer'9 answer'10 answer'11 answer'12
+      answer'8 answer'9 answer'10 answer'11 answer'12 answer'13
 
   -- antt refused `close` as it was built: the module's report says why
   pub close : Lts.Closed (
@@ -630,7 +681,7 @@ module _ {M : Type 1} where
   unfolding Code.routine Running.tablesOf
   close =
       λ closed 𝓤 H 𝓜 𝓖 𝓡. Written.close
-      11
+      12
       Kinds.ps
       Kinds.r
       Reads.Ghost

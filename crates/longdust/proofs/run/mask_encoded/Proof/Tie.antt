@@ -136,6 +136,20 @@ After-slice-known4 = Lts.After-slice-known4 (
   Reads'.Learnt,
 ) Reads'4.Pre Reads'4.Post
 
+abbrev pub After-slice-known5 : Type 0
+After-slice-known5 = Lts.After-slice-known5 (
+  Reads.Asked,
+  Reads.Learnt,
+  Reads'5.Asked,
+  Reads'5.Learnt,
+  Reads'3.Asked,
+  Reads'3.Learnt,
+  Reads''.Asked,
+  Reads''.Learnt,
+  Reads'.Asked,
+  Reads'.Learnt,
+) Reads'4.Pre Reads'4.Post
+
 abbrev pub After-n-kmers : Type 0
 After-n-kmers = Lts.After-n-kmers (
   Reads.Asked,
@@ -318,6 +332,20 @@ After-both-strands-arg8 = Lts.After-both-strands-arg8 (
   Reads'.Learnt,
 ) Reads'4.Pre Reads'4.Post
 
+abbrev pub After-both-strands-arg9 : Type 0
+After-both-strands-arg9 = Lts.After-both-strands-arg9 (
+  Reads.Asked,
+  Reads.Learnt,
+  Reads'5.Asked,
+  Reads'5.Learnt,
+  Reads'3.Asked,
+  Reads'3.Learnt,
+  Reads''.Asked,
+  Reads''.Learnt,
+  Reads'.Asked,
+  Reads'.Learnt,
+) Reads'4.Pre Reads'4.Post
+
 abbrev pub After-both-strands : Type 0
 After-both-strands = Lts.After-both-strands (
   Reads.Asked,
@@ -346,8 +374,8 @@ After-queue = Lts.After-queue (
   Reads'.Learnt,
 ) Reads'4.Pre Reads'4.Post
 
-abbrev pub After-slice-known5 : Type 0
-After-slice-known5 = Lts.After-slice-known5 (
+abbrev pub After-slice-known6 : Type 0
+After-slice-known6 = Lts.After-slice-known6 (
   Reads.Asked,
   Reads.Learnt,
   Reads'5.Asked,
@@ -374,8 +402,8 @@ After-window-counts = Lts.After-window-counts (
   Reads'.Learnt,
 ) Reads'4.Pre Reads'4.Post
 
-abbrev pub After-slice-known6 : Type 0
-After-slice-known6 = Lts.After-slice-known6 (
+abbrev pub After-slice-known7 : Type 0
+After-slice-known7 = Lts.After-slice-known7 (
   Reads.Asked,
   Reads.Learnt,
   Reads'5.Asked,
@@ -402,8 +430,8 @@ After-scan-counts = Lts.After-scan-counts (
   Reads'.Learnt,
 ) Reads'4.Pre Reads'4.Post
 
-abbrev pub After-slice-known7 : Type 0
-After-slice-known7 = Lts.After-slice-known7 (
+abbrev pub After-slice-known8 : Type 0
+After-slice-known8 = Lts.After-slice-known8 (
   Reads.Asked,
   Reads.Learnt,
   Reads'5.Asked,
@@ -444,8 +472,8 @@ After-reverse-codes = Lts.After-reverse-codes (
   Reads'.Learnt,
 ) Reads'4.Pre Reads'4.Post
 
-abbrev pub After-slice-known8 : Type 0
-After-slice-known8 = Lts.After-slice-known8 (
+abbrev pub After-slice-known9 : Type 0
+After-slice-known9 = Lts.After-slice-known9 (
   Reads.Asked,
   Reads.Learnt,
   Reads'5.Asked,
@@ -488,6 +516,34 @@ After-reverse-list = Lts.After-reverse-list (
 
 abbrev pub After-list : Type 0
 After-list = Lts.After-list (
+  Reads.Asked,
+  Reads.Learnt,
+  Reads'5.Asked,
+  Reads'5.Learnt,
+  Reads'3.Asked,
+  Reads'3.Learnt,
+  Reads''.Asked,
+  Reads''.Learnt,
+  Reads'.Asked,
+  Reads'.Learnt,
+) Reads'4.Pre Reads'4.Post
+
+abbrev pub After-marks : Type 0
+After-marks = Lts.After-marks (
+  Reads.Asked,
+  Reads.Learnt,
+  Reads'5.Asked,
+  Reads'5.Learnt,
+  Reads'3.Asked,
+  Reads'3.Learnt,
+  Reads''.Asked,
+  Reads''.Learnt,
+  Reads'.Asked,
+  Reads'.Learnt,
+) Reads'4.Pre Reads'4.Post
+
+abbrev pub After-slice-known10 : Type 0
+After-slice-known10 = Lts.After-slice-known10 (
   Reads.Asked,
   Reads.Learnt,
   Reads'5.Asked,
@@ -878,6 +934,34 @@ Need-slice-aggregate-both-strands-8 = Lts.Need-slice-aggregate-both-strands-8 (
   Reads'.Learnt,
 ) Reads'4.Pre Reads'4.Post
 
+abbrev pub Need-slice-relend-prefix-both-strands-9 : Type 0
+Need-slice-relend-prefix-both-strands-9 = Lts.Need-slice-relend-prefix-both-strands-9 (
+  Reads.Asked,
+  Reads.Learnt,
+  Reads'5.Asked,
+  Reads'5.Learnt,
+  Reads'3.Asked,
+  Reads'3.Learnt,
+  Reads''.Asked,
+  Reads''.Learnt,
+  Reads'.Asked,
+  Reads'.Learnt,
+) Reads'4.Pre Reads'4.Post
+
+abbrev pub Need-slice-aggregate-both-strands-9 : Type 0
+Need-slice-aggregate-both-strands-9 = Lts.Need-slice-aggregate-both-strands-9 (
+  Reads.Asked,
+  Reads.Learnt,
+  Reads'5.Asked,
+  Reads'5.Learnt,
+  Reads'3.Asked,
+  Reads'3.Learnt,
+  Reads''.Asked,
+  Reads''.Learnt,
+  Reads'.Asked,
+  Reads'.Learnt,
+) Reads'4.Pre Reads'4.Post
+
 abbrev pub Need-both-strands-requires : Type 0
 Need-both-strands-requires = Lts.Need-both-strands-requires (
   Reads.Asked,
@@ -1018,6 +1102,20 @@ Need-same-length-8 = Lts.Need-same-length-8 (
   Reads'.Learnt,
 ) Reads'4.Pre Reads'4.Post
 
+abbrev pub Need-same-length-9 : Type 0
+Need-same-length-9 = Lts.Need-same-length-9 (
+  Reads.Asked,
+  Reads.Learnt,
+  Reads'5.Asked,
+  Reads'5.Learnt,
+  Reads'3.Asked,
+  Reads'3.Learnt,
+  Reads''.Asked,
+  Reads''.Learnt,
+  Reads'.Asked,
+  Reads'.Learnt,
+) Reads'4.Pre Reads'4.Post
+
 abbrev pub Need-returns : Type 0
 Need-returns = Lts.Need-returns (
   Reads.Asked,
@@ -1060,6 +1158,8 @@ module _ {M : Type 1} where
       (answer : Need-slice-aggregate-both-strands-7) →
       (answer : Need-slice-relend-prefix-both-strands-8) →
       (answer : Need-slice-aggregate-both-strands-8) →
+      (answer : Need-slice-relend-prefix-both-strands-9) →
+      (answer : Need-slice-aggregate-both-strands-9) →
       (answer : Need-both-strands-requires) →
       (answer : Need-accepted-requires) →
       (answer : Need-same-length) →
@@ -1070,6 +1170,7 @@ module _ {M : Type 1} where
       (answer : Need-same-length-6) →
       (answer : Need-same-length-7) →
       (answer : Need-same-length-8) →
+      (answer : Need-same-length-9) →
       (answer : Need-returns) →
       Lts.Closed (
         Reads.Asked,
@@ -1087,8 +1188,8 @@ module _ {M : Type 1} where
       λ answer answer' answer'' answer'3 answer'4 answer'5 answer'6 answer'7 answer'8 answer'9
       answer'10 answer'11 answer'12 answer'13 answer'14 answer'15 answer'16 answer'17 answer'18
       answer'19 answer'20 answer'21 answer'22 answer'23 answer'24 answer'25 answer'26 answer'27
-      answer'28 answer'29 answer'30 answer'31 answer'32 answer'33 answer'34 answer'35
-      answer'36. Lts.spec (
+      answer'28 answer'29 answer'30 answer'31 answer'32 answer'33 answer'34 answer'35 answer'36
+      answer'37 answer'38 answer'39. Lts.spec (
         Reads.Asked,
         Reads.Learnt,
         Reads'5.Asked,
@@ -1139,6 +1240,9 @@ module _ {M : Type 1} where
       answer'34
       answer'35
       answer'36
+      answer'37
+      answer'38
+      answer'39
 
   -- antt refused `close` as it was built: the module's report says why
   pub close : Lts.Closed (
@@ -1156,7 +1260,7 @@ module _ {M : Type 1} where
   unfolding Code.routine Running.tablesOf
   close =
       λ closed 𝓤 H 𝓜 𝓖 𝓡. Written.close
-      11
+      12
       Kinds.ps
       Kinds.r
       Reads'4.Ghost

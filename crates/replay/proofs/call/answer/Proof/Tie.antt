@@ -80,6 +80,20 @@ After-shared-slice-known3 = Lts.After-shared-slice-known3 (
   Reads.Learnt,
 ) Reads'.Pre Reads'.Post
 
+abbrev pub After-slice-known : Type 0
+After-slice-known = Lts.After-slice-known (
+  Reads'3.Asked,
+  Reads'3.Learnt,
+  Reads''.Asked,
+  Reads''.Learnt,
+  Reads'4.Asked,
+  Reads'4.Learnt,
+  Reads'5.Asked,
+  Reads'5.Learnt,
+  Reads.Asked,
+  Reads.Learnt,
+) Reads'.Pre Reads'.Post
+
 abbrev pub After-least : Type 0
 After-least = Lts.After-least (
   Reads'3.Asked,
@@ -388,6 +402,20 @@ After-process-tables-arg = Lts.After-process-tables-arg (
   Reads.Learnt,
 ) Reads'.Pre Reads'.Post
 
+abbrev pub After-process-tables-arg2 : Type 0
+After-process-tables-arg2 = Lts.After-process-tables-arg2 (
+  Reads'3.Asked,
+  Reads'3.Learnt,
+  Reads''.Asked,
+  Reads''.Learnt,
+  Reads'4.Asked,
+  Reads'4.Learnt,
+  Reads'5.Asked,
+  Reads'5.Learnt,
+  Reads.Asked,
+  Reads.Learnt,
+) Reads'.Pre Reads'.Post
+
 abbrev pub After-process-tables : Type 0
 After-process-tables = Lts.After-process-tables (
   Reads'3.Asked,
@@ -516,6 +544,34 @@ After-reverse-list2 = Lts.After-reverse-list2 (
 
 abbrev pub After-list : Type 0
 After-list = Lts.After-list (
+  Reads'3.Asked,
+  Reads'3.Learnt,
+  Reads''.Asked,
+  Reads''.Learnt,
+  Reads'4.Asked,
+  Reads'4.Learnt,
+  Reads'5.Asked,
+  Reads'5.Learnt,
+  Reads.Asked,
+  Reads.Learnt,
+) Reads'.Pre Reads'.Post
+
+abbrev pub After-marks : Type 0
+After-marks = Lts.After-marks (
+  Reads'3.Asked,
+  Reads'3.Learnt,
+  Reads''.Asked,
+  Reads''.Learnt,
+  Reads'4.Asked,
+  Reads'4.Learnt,
+  Reads'5.Asked,
+  Reads'5.Learnt,
+  Reads.Asked,
+  Reads.Learnt,
+) Reads'.Pre Reads'.Post
+
+abbrev pub After-slice-known2 : Type 0
+After-slice-known2 = Lts.After-slice-known2 (
   Reads'3.Asked,
   Reads'3.Learnt,
   Reads''.Asked,
@@ -1032,6 +1088,20 @@ Need-same-length = Lts.Need-same-length (
   Reads.Learnt,
 ) Reads'.Pre Reads'.Post
 
+abbrev pub Need-same-length-2 : Type 0
+Need-same-length-2 = Lts.Need-same-length-2 (
+  Reads'3.Asked,
+  Reads'3.Learnt,
+  Reads''.Asked,
+  Reads''.Learnt,
+  Reads'4.Asked,
+  Reads'4.Learnt,
+  Reads'5.Asked,
+  Reads'5.Learnt,
+  Reads.Asked,
+  Reads.Learnt,
+) Reads'.Pre Reads'.Post
+
 abbrev pub Need-returns : Type 0
 Need-returns = Lts.Need-returns (
   Reads'3.Asked,
@@ -1084,6 +1154,7 @@ module _ {M : Type 1} where
       (answer : Need-slice-aggregate-process-tables-8) →
       (answer : Need-process-tables-requires) →
       (answer : Need-same-length) →
+      (answer : Need-same-length-2) →
       (answer : Need-returns) →
       Lts.Closed (
         Reads'3.Asked,
@@ -1101,8 +1172,8 @@ module _ {M : Type 1} where
       λ answer answer' answer'' answer'3 answer'4 answer'5 answer'6 answer'7 answer'8 answer'9
       answer'10 answer'11 answer'12 answer'13 answer'14 answer'15 answer'16 answer'17 answer'18
       answer'19 answer'20 answer'21 answer'22 answer'23 answer'24 answer'25 answer'26 answer'27
-      answer'28 answer'29 answer'30 answer'31 answer'32 answer'33 answer'34 answer'35
-      answer'36. Lts.spec (
+      answer'28 answer'29 answer'30 answer'31 answer'32 answer'33 answer'34 answer'35 answer'36
+      answer'37. Lts.spec (
         Reads'3.Asked,
         Reads'3.Learnt,
         Reads''.Asked,
@@ -1153,6 +1224,7 @@ module _ {M : Type 1} where
       answer'34
       answer'35
       answer'36
+      answer'37
 
   pub close : Lts.Closed (
     Reads'3.Asked,
@@ -1169,7 +1241,7 @@ module _ {M : Type 1} where
   unfolding Code.routine Running.tablesOf
   close =
       λ closed 𝓤 H 𝓜 𝓖 𝓡. Written.close
-      4
+      5
       Kinds.ps
       Kinds.r
       Reads'.Ghost

@@ -150,6 +150,20 @@ After-slice-known7 = Lts.After-slice-known7 (
   Reads''.Learnt,
 ) Reads'.Pre Reads'.Post
 
+abbrev pub After-slice-known8 : Type 0
+After-slice-known8 = Lts.After-slice-known8 (
+  Reads'3.Asked,
+  Reads'3.Learnt,
+  Reads'4.Asked,
+  Reads'4.Learnt,
+  Reads.Asked,
+  Reads.Learnt,
+  Reads'5.Asked,
+  Reads'5.Learnt,
+  Reads''.Asked,
+  Reads''.Learnt,
+) Reads'.Pre Reads'.Post
+
 abbrev pub After-check : Type 0
 After-check = Lts.After-check (
   Reads'3.Asked,
@@ -248,8 +262,8 @@ After-codes = Lts.After-codes (
   Reads''.Learnt,
 ) Reads'.Pre Reads'.Post
 
-abbrev pub After-slice-known8 : Type 0
-After-slice-known8 = Lts.After-slice-known8 (
+abbrev pub After-slice-known9 : Type 0
+After-slice-known9 = Lts.After-slice-known9 (
   Reads'3.Asked,
   Reads'3.Learnt,
   Reads'4.Asked,
@@ -332,8 +346,8 @@ After-ln = Lts.After-ln (
   Reads''.Learnt,
 ) Reads'.Pre Reads'.Post
 
-abbrev pub After-slice-known9 : Type 0
-After-slice-known9 = Lts.After-slice-known9 (
+abbrev pub After-slice-known10 : Type 0
+After-slice-known10 = Lts.After-slice-known10 (
   Reads'3.Asked,
   Reads'3.Learnt,
   Reads'4.Asked,
@@ -360,8 +374,8 @@ After-f = Lts.After-f (
   Reads''.Learnt,
 ) Reads'.Pre Reads'.Post
 
-abbrev pub After-slice-known10 : Type 0
-After-slice-known10 = Lts.After-slice-known10 (
+abbrev pub After-slice-known11 : Type 0
+After-slice-known11 = Lts.After-slice-known11 (
   Reads'3.Asked,
   Reads'3.Learnt,
   Reads'4.Asked,
@@ -528,6 +542,20 @@ After-process-tables-arg11 = Lts.After-process-tables-arg11 (
   Reads''.Learnt,
 ) Reads'.Pre Reads'.Post
 
+abbrev pub After-process-tables-arg12 : Type 0
+After-process-tables-arg12 = Lts.After-process-tables-arg12 (
+  Reads'3.Asked,
+  Reads'3.Learnt,
+  Reads'4.Asked,
+  Reads'4.Learnt,
+  Reads.Asked,
+  Reads.Learnt,
+  Reads'5.Asked,
+  Reads'5.Learnt,
+  Reads''.Asked,
+  Reads''.Learnt,
+) Reads'.Pre Reads'.Post
+
 abbrev pub After-process-tables : Type 0
 After-process-tables = Lts.After-process-tables (
   Reads'3.Asked,
@@ -556,8 +584,8 @@ After-queue = Lts.After-queue (
   Reads''.Learnt,
 ) Reads'.Pre Reads'.Post
 
-abbrev pub After-slice-known11 : Type 0
-After-slice-known11 = Lts.After-slice-known11 (
+abbrev pub After-slice-known12 : Type 0
+After-slice-known12 = Lts.After-slice-known12 (
   Reads'3.Asked,
   Reads'3.Learnt,
   Reads'4.Asked,
@@ -584,8 +612,8 @@ After-window-counts = Lts.After-window-counts (
   Reads''.Learnt,
 ) Reads'.Pre Reads'.Post
 
-abbrev pub After-slice-known12 : Type 0
-After-slice-known12 = Lts.After-slice-known12 (
+abbrev pub After-slice-known13 : Type 0
+After-slice-known13 = Lts.After-slice-known13 (
   Reads'3.Asked,
   Reads'3.Learnt,
   Reads'4.Asked,
@@ -612,8 +640,8 @@ After-scan-counts = Lts.After-scan-counts (
   Reads''.Learnt,
 ) Reads'.Pre Reads'.Post
 
-abbrev pub After-slice-known13 : Type 0
-After-slice-known13 = Lts.After-slice-known13 (
+abbrev pub After-slice-known14 : Type 0
+After-slice-known14 = Lts.After-slice-known14 (
   Reads'3.Asked,
   Reads'3.Learnt,
   Reads'4.Asked,
@@ -654,8 +682,8 @@ After-codes2 = Lts.After-codes2 (
   Reads''.Learnt,
 ) Reads'.Pre Reads'.Post
 
-abbrev pub After-slice-known14 : Type 0
-After-slice-known14 = Lts.After-slice-known14 (
+abbrev pub After-slice-known15 : Type 0
+After-slice-known15 = Lts.After-slice-known15 (
   Reads'3.Asked,
   Reads'3.Learnt,
   Reads'4.Asked,
@@ -682,8 +710,8 @@ After-reverse-codes = Lts.After-reverse-codes (
   Reads''.Learnt,
 ) Reads'.Pre Reads'.Post
 
-abbrev pub After-slice-known15 : Type 0
-After-slice-known15 = Lts.After-slice-known15 (
+abbrev pub After-slice-known16 : Type 0
+After-slice-known16 = Lts.After-slice-known16 (
   Reads'3.Asked,
   Reads'3.Learnt,
   Reads'4.Asked,
@@ -726,6 +754,34 @@ After-reverse-list = Lts.After-reverse-list (
 
 abbrev pub After-list : Type 0
 After-list = Lts.After-list (
+  Reads'3.Asked,
+  Reads'3.Learnt,
+  Reads'4.Asked,
+  Reads'4.Learnt,
+  Reads.Asked,
+  Reads.Learnt,
+  Reads'5.Asked,
+  Reads'5.Learnt,
+  Reads''.Asked,
+  Reads''.Learnt,
+) Reads'.Pre Reads'.Post
+
+abbrev pub After-marks : Type 0
+After-marks = Lts.After-marks (
+  Reads'3.Asked,
+  Reads'3.Learnt,
+  Reads'4.Asked,
+  Reads'4.Learnt,
+  Reads.Asked,
+  Reads.Learnt,
+  Reads'5.Asked,
+  Reads'5.Learnt,
+  Reads''.Asked,
+  Reads''.Learnt,
+) Reads'.Pre Reads'.Post
+
+abbrev pub After-slice-known17 : Type 0
+After-slice-known17 = Lts.After-slice-known17 (
   Reads'3.Asked,
   Reads'3.Learnt,
   Reads'4.Asked,
@@ -1004,6 +1060,20 @@ Need-same-length-11 = Lts.Need-same-length-11 (
   Reads''.Learnt,
 ) Reads'.Pre Reads'.Post
 
+abbrev pub Need-same-length-12 : Type 0
+Need-same-length-12 = Lts.Need-same-length-12 (
+  Reads'3.Asked,
+  Reads'3.Learnt,
+  Reads'4.Asked,
+  Reads'4.Learnt,
+  Reads.Asked,
+  Reads.Learnt,
+  Reads'5.Asked,
+  Reads'5.Learnt,
+  Reads''.Asked,
+  Reads''.Learnt,
+) Reads'.Pre Reads'.Post
+
 abbrev pub Need-returns-2 : Type 0
 Need-returns-2 = Lts.Need-returns-2 (
   Reads'3.Asked,
@@ -1039,6 +1109,7 @@ module _ {M : Type 1} where
       (answer : Need-same-length-9) →
       (answer : Need-same-length-10) →
       (answer : Need-same-length-11) →
+      (answer : Need-same-length-12) →
       (answer : Need-returns-2) →
       Lts.Closed (
         Reads'3.Asked,
@@ -1055,7 +1126,7 @@ module _ {M : Type 1} where
   spec =
       λ answer answer' answer'' answer'3 answer'4 answer'5 answer'6 answer'7 answer'8 answer'9
       answer'10 answer'11 answer'12 answer'13 answer'14 answer'15 answer'16 answer'17 answer'18
-      answer'19. Lts.spec (
+      answer'19 answer'20. Lts.spec (
         Reads'3.Asked,
         Reads'3.Learnt,
         Reads'4.Asked,
@@ -1089,6 +1160,7 @@ module _ {M : Type 1} where
       answer'17
       answer'18
       answer'19
+      answer'20
 
   -- antt refused `close` as it was built: the module's report says why
   pub close : Lts.Closed (
@@ -1106,7 +1178,7 @@ module _ {M : Type 1} where
   unfolding Code.routine Running.tablesOf
   close =
       λ closed 𝓤 H 𝓜 𝓖 𝓡. Written.close
-      12
+      13
       Kinds.ps
       Kinds.r
       Reads'.Ghost

@@ -129,6 +129,18 @@ After-slice-known5 = Lts.After-slice-known5 (
   Reads'4.Learnt,
 ) Reads'.Pre Reads'.Post
 
+abbrev pub After-slice-known6 : Type 0
+After-slice-known6 = Lts.After-slice-known6 (
+  Reads''.Asked,
+  Reads''.Learnt,
+  Reads'3.Asked,
+  Reads'3.Learnt,
+  Reads.Asked,
+  Reads.Learnt,
+  Reads'4.Asked,
+  Reads'4.Learnt,
+) Reads'.Pre Reads'.Post
+
 abbrev pub After-check : Type 0
 After-check = Lts.After-check (
   Reads''.Asked,
@@ -213,8 +225,8 @@ After-codes = Lts.After-codes (
   Reads'4.Learnt,
 ) Reads'.Pre Reads'.Post
 
-abbrev pub After-slice-known6 : Type 0
-After-slice-known6 = Lts.After-slice-known6 (
+abbrev pub After-slice-known7 : Type 0
+After-slice-known7 = Lts.After-slice-known7 (
   Reads''.Asked,
   Reads''.Learnt,
   Reads'3.Asked,
@@ -333,6 +345,18 @@ After-mask-encoded-arg9 = Lts.After-mask-encoded-arg9 (
   Reads'4.Learnt,
 ) Reads'.Pre Reads'.Post
 
+abbrev pub After-mask-encoded-arg10 : Type 0
+After-mask-encoded-arg10 = Lts.After-mask-encoded-arg10 (
+  Reads''.Asked,
+  Reads''.Learnt,
+  Reads'3.Asked,
+  Reads'3.Learnt,
+  Reads.Asked,
+  Reads.Learnt,
+  Reads'4.Asked,
+  Reads'4.Learnt,
+) Reads'.Pre Reads'.Post
+
 abbrev pub After-mask-encoded : Type 0
 After-mask-encoded = Lts.After-mask-encoded (
   Reads''.Asked,
@@ -357,8 +381,8 @@ After-queue = Lts.After-queue (
   Reads'4.Learnt,
 ) Reads'.Pre Reads'.Post
 
-abbrev pub After-slice-known7 : Type 0
-After-slice-known7 = Lts.After-slice-known7 (
+abbrev pub After-slice-known8 : Type 0
+After-slice-known8 = Lts.After-slice-known8 (
   Reads''.Asked,
   Reads''.Learnt,
   Reads'3.Asked,
@@ -381,8 +405,8 @@ After-window-counts = Lts.After-window-counts (
   Reads'4.Learnt,
 ) Reads'.Pre Reads'.Post
 
-abbrev pub After-slice-known8 : Type 0
-After-slice-known8 = Lts.After-slice-known8 (
+abbrev pub After-slice-known9 : Type 0
+After-slice-known9 = Lts.After-slice-known9 (
   Reads''.Asked,
   Reads''.Learnt,
   Reads'3.Asked,
@@ -405,8 +429,8 @@ After-scan-counts = Lts.After-scan-counts (
   Reads'4.Learnt,
 ) Reads'.Pre Reads'.Post
 
-abbrev pub After-slice-known9 : Type 0
-After-slice-known9 = Lts.After-slice-known9 (
+abbrev pub After-slice-known10 : Type 0
+After-slice-known10 = Lts.After-slice-known10 (
   Reads''.Asked,
   Reads''.Learnt,
   Reads'3.Asked,
@@ -441,8 +465,8 @@ After-reverse-codes = Lts.After-reverse-codes (
   Reads'4.Learnt,
 ) Reads'.Pre Reads'.Post
 
-abbrev pub After-slice-known10 : Type 0
-After-slice-known10 = Lts.After-slice-known10 (
+abbrev pub After-slice-known11 : Type 0
+After-slice-known11 = Lts.After-slice-known11 (
   Reads''.Asked,
   Reads''.Learnt,
   Reads'3.Asked,
@@ -479,6 +503,30 @@ After-reverse-list = Lts.After-reverse-list (
 
 abbrev pub After-list : Type 0
 After-list = Lts.After-list (
+  Reads''.Asked,
+  Reads''.Learnt,
+  Reads'3.Asked,
+  Reads'3.Learnt,
+  Reads.Asked,
+  Reads.Learnt,
+  Reads'4.Asked,
+  Reads'4.Learnt,
+) Reads'.Pre Reads'.Post
+
+abbrev pub After-marks : Type 0
+After-marks = Lts.After-marks (
+  Reads''.Asked,
+  Reads''.Learnt,
+  Reads'3.Asked,
+  Reads'3.Learnt,
+  Reads.Asked,
+  Reads.Learnt,
+  Reads'4.Asked,
+  Reads'4.Learnt,
+) Reads'.Pre Reads'.Post
+
+abbrev pub After-slice-known12 : Type 0
+After-slice-known12 = Lts.After-slice-known12 (
   Reads''.Asked,
   Reads''.Learnt,
   Reads'3.Asked,
@@ -681,6 +729,18 @@ Need-same-length-9 = Lts.Need-same-length-9 (
   Reads'4.Learnt,
 ) Reads'.Pre Reads'.Post
 
+abbrev pub Need-same-length-10 : Type 0
+Need-same-length-10 = Lts.Need-same-length-10 (
+  Reads''.Asked,
+  Reads''.Learnt,
+  Reads'3.Asked,
+  Reads'3.Learnt,
+  Reads.Asked,
+  Reads.Learnt,
+  Reads'4.Asked,
+  Reads'4.Learnt,
+) Reads'.Pre Reads'.Post
+
 abbrev pub Need-returns-2 : Type 0
 Need-returns-2 = Lts.Need-returns-2 (
   Reads''.Asked,
@@ -711,6 +771,7 @@ module _ {M : Type 1} where
       (answer : Need-same-length-7) →
       (answer : Need-same-length-8) →
       (answer : Need-same-length-9) →
+      (answer : Need-same-length-10) →
       (answer : Need-returns-2) →
       Lts.Closed (
         Reads''.Asked,
@@ -724,7 +785,7 @@ module _ {M : Type 1} where
       ) Reads'.Pre Reads'.Post M
   spec =
       λ answer answer' answer'' answer'3 answer'4 answer'5 answer'6 answer'7 answer'8 answer'9
-      answer'10 answer'11 answer'12 answer'13 answer'14 answer'15 answer'16. Lts.spec (
+      answer'10 answer'11 answer'12 answer'13 answer'14 answer'15 answer'16 answer'17. Lts.spec (
         Reads''.Asked,
         Reads''.Learnt,
         Reads'3.Asked,
@@ -753,6 +814,7 @@ module _ {M : Type 1} where
       answer'14
       answer'15
       answer'16
+      answer'17
 
   -- antt refused `close` as it was built: the module's report says why
   pub close : Lts.Closed (
@@ -768,7 +830,7 @@ module _ {M : Type 1} where
   unfolding Code.routine Running.tablesOf
   close =
       λ closed 𝓤 H 𝓜 𝓖 𝓡. Written.close
-      12
+      13
       Kinds.ps
       Kinds.r
       Reads'.Ghost
