@@ -9,6 +9,7 @@ pub mod Saving
 pub mod Examples
 pub mod Counted
 pub mod Slice
+pub mod Usual
 pub mod SaveSteps
 pub mod PickSteps
 pub mod MergeSteps
