@@ -14,6 +14,7 @@ mod generate;
 mod genomes;
 mod original;
 mod port;
+mod questions;
 mod random;
 mod record;
 mod request;
@@ -37,6 +38,8 @@ compare cases              both on the paper's cases
 compare tables             filled tables bit by bit, over k, w and GC
 compare copies SEED COUNT  masked copies, the port's against a plain one, on random requests
 compare copies bench       seconds of both at 100,000,000 letters
+compare questions SEED COUNT  questions about a position, the port's answers against plain walks, on random batches
+compare questions bench    questions per second of both, 1,000,000 intervals in 2,000,000,000 letters
 compare large [quick]      windows of 65,535 letters; quick: narrower ones
 compare fasta FILE..       both on every record of FASTA files, with intervals, share masked and seconds;
                            before the files, k=K sets k, and letters=N cuts a record after N letters
@@ -57,6 +60,8 @@ fn main() {
         ["fasta", ref words @ ..] => fasta::command(port(), words).unwrap_or_else(|error| stop(&error)),
         ["copies", "bench"] => return copies::bench(copies_port()),
         ["copies", seed, count] => copies::command(copies_port(), number(seed), number(count)),
+        ["questions", "bench"] => return questions::bench(questions_port()),
+        ["questions", seed, count] => questions::command(questions_port(), number(seed), number(count)),
         ["cases"] => sets::cases(port()),
         ["tables"] => sets::tables(port()),
         ["large"] => sets::large(port(), false),
@@ -77,6 +82,11 @@ fn copies_port() -> copies::Port {
     archive::masked_copy
 }
 
+#[cfg(port)]
+fn questions_port() -> questions::Port {
+    archive::answer_questions
+}
+
 #[cfg(not(port))]
 fn port() -> Port {
     stop(WITHOUT_PORT)
@@ -84,6 +94,11 @@ fn port() -> Port {
 
 #[cfg(not(port))]
 fn copies_port() -> copies::Port {
+    stop(WITHOUT_PORT)
+}
+
+#[cfg(not(port))]
+fn questions_port() -> questions::Port {
     stop(WITHOUT_PORT)
 }
 

@@ -1,19 +1,18 @@
 -- What a request has that no check refuses.
 use mathlib.Core.Path.{_≡_, refl}
-use mathlib.Core.Bool.{Bool, true, false}
-use mathlib.Core.List.{List, [], _∷_}
-use Prim.Native.Nat.{ℕ, _+_, _^_, _<_}
-use native.Mathlib.Omega.{arith}
+use mathlib.Core.Bool.{false}
+use mathlib.Core.List.{List}
+use Prim.Native.Nat.{ℕ, _+_, _^_}
 use lib.Dec.{ltb}
-use lib.ListN.{length, drop}
+use lib.ListN.{length, getD}
 use borrow.Author.Tests.{ltb-false}
 use Rattle.scans.proofs.Test.{neither}
 use Rattle.longdust.specs.declared.LongdustOptions.{LongdustOptions}
 use Rattle.longdust.specs.declared.Lent.{Lent}
 use Rattle.checks.specs.Checks.{check}
 use Rattle.checks.proofs.Next.{passes}
-use Rattle.checks.specs.Tests.{kmerOutside, anyHigh, anyOther, tooFewLetters, windowBelow, windowAbove, thresholdBad, minStartBelow, tooManyLetters, mostIntervals}
-use Rattle.longdust.specs.Checks.{checks, refusal, gcBad, xdropBad, tooShort}
+use Rattle.checks.specs.Tests.{mostIntervals}
+use Rattle.longdust.specs.Checks.{checks, refusal, tooShort}
 use Rattle.longdust.specs.Terms.Inner.{Enough, Admitted}
 
 enough : (n k w : ℕ) (b : Lent) → tooShort n k w b ≡ false → Enough n k w b
