@@ -19,7 +19,8 @@ use Rattle.intervals.specs.Interval.{Interval, usual}
 use Rattle.intervals.proofs.Shape.{ascending-more}
 use Rattle.intervals.proofs.Usual.{usual-agrees}
 use Rattle.questions.specs.Batch.{blocks, block, toOf, summaryOf, resultsOf, anyBad, checks, refusal, Answers}
-use Rattle.questions.specs.Terms.Found.{Usual, Summed, AllAskable}
+use Rattle.questions.specs.Promised.{Usual}
+use Rattle.questions.specs.Terms.Found.{Summed, AllAskable}
 use Rattle.questions.proofs.Answering.{good-at}
 
 module _ (n : ℕ) (is : List Interval) (qs : List (List ℕ)) (s : List ℕ) (r : List (List ℕ)) where

@@ -10,7 +10,7 @@ use lib.Seq.{length-take-le, getD-take, getD-drop}
 use Rattle.buffers.specs.Fill.{tabulateFrom}
 use Rattle.intervals.specs.Interval.{Interval, interval}
 use Rattle.questions.specs.Answers.{indices}
-use Rattle.questions.specs.Terms.Found.{consecutive}
+use Rattle.questions.specs.Promised.{consecutive}
 use Rattle.questions.proofs.Ordered.{at}
 
 module _ (p : Interval → Bool) where

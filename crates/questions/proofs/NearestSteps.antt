@@ -7,8 +7,8 @@ use lib.ListN.{length, getD}
 use Rattle.intervals.specs.Interval.{Interval, interval, listOf}
 use Rattle.intervals.proofs.Slice.{length-list, list-at}
 use Rattle.questions.specs.Answers.{answer, none, nearest}
-use Rattle.questions.specs.Terms.Found.{Usual, firstPast, IsFirstPast}
-use Rattle.questions.specs.Terms.Nearest.{distance}
+use Rattle.questions.specs.Promised.{Usual, distance}
+use Rattle.questions.specs.Terms.Found.{firstPast, IsFirstPast}
 use Rattle.questions.proofs.Ordered.{at}
 use Rattle.questions.proofs.Searching.{past-yes}
 use Rattle.questions.proofs.Nearest.{left-distance, right-distance, nearest-is, left-nearest, right-nearest}

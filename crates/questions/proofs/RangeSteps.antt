@@ -9,7 +9,8 @@ use Rattle.intervals.specs.Interval.{Interval, listOf}
 use Rattle.intervals.proofs.Order.{lt-or-le}
 use Rattle.intervals.proofs.Slice.{length-list, list-at}
 use Rattle.questions.specs.Answers.{answer, none, firstAndCount, allThat, within, partly}
-use Rattle.questions.specs.Terms.Found.{Usual, beginsBefore, firstPast, firstFrom, IsFirstPast, consecutive}
+use Rattle.questions.specs.Promised.{Usual, consecutive}
+use Rattle.questions.specs.Terms.Found.{beginsBefore, firstPast, firstFrom, IsFirstPast}
 use Rattle.questions.proofs.Ordered.{at}
 use Rattle.questions.proofs.Searching.{leading-le, from-yes, from-no}
 use Rattle.questions.proofs.Ranges.{past-from, from-next, within-run, partly-left, partly-right, partly-none, partly-two, run-some, run-none}

@@ -12,8 +12,8 @@ use Rattle.intervals.proofs.Order.{lt-or-le}
 use Rattle.intervals.proofs.Counted.{and-agrees, ltb-agrees}
 use Rattle.questions.specs.Answers.{between, nearest, indices, firstAndCount, allThat, within, inside, partly, share}
 use Rattle.questions.specs.Batch.{summaryOf}
-use Rattle.questions.specs.Terms.Found.{Usual, firstPast, firstFrom, consecutive, total}
-use Rattle.questions.specs.Terms.Nearest.{distance, Nearest}
+use Rattle.questions.specs.Promised.{Some, Usual, consecutive, total, distance, Nearest}
+use Rattle.questions.specs.Terms.Found.{firstPast, firstFrom}
 use Rattle.questions.proofs.Nearest.{index-nearest}
 use Rattle.questions.proofs.Ranges.{within-run, run-named}
 use Rattle.questions.proofs.Blocks.{summary-total}
@@ -35,10 +35,6 @@ pub nearest-law : (x : ℕ) (is : List Interval) → 0 < length is
 unfolding nearest
 nearest-law x [] h = absurd (let b : ⊥ = omega arith in b)
 nearest-law x (i ∷ is) h = (index-nearest x i is, refl)
-
-pub record Some (P : ℕ → Type 0) : Type 0 where
-  pub letter : ℕ
-  pub fact : P letter
 
 -- Letters both inside and outside: some letter of the interval lies in [a, b), and some letter does not.
 pub partly-law : (a b : ℕ) (i : Interval) → (partly a b i ≡ true)

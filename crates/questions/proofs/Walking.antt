@@ -11,7 +11,8 @@ use Rattle.intervals.proofs.Order.{lt-or-le}
 use Rattle.intervals.proofs.Slice.{length-list, list-at}
 use Rattle.intervals.proofs.Counted.{covered-at-most}
 use Rattle.questions.specs.Answers.{inside}
-use Rattle.questions.specs.Terms.Found.{Usual, endsBy, firstPast, IsFirstPast}
+use Rattle.questions.specs.Promised.{Usual}
+use Rattle.questions.specs.Terms.Found.{endsBy, firstPast, IsFirstPast}
 use Rattle.questions.specs.Terms.Walked.{Walks}
 use Rattle.questions.proofs.Ordered.{at}
 use Rattle.questions.proofs.Searching.{leading-le, past-yes, past-no, usual-few}

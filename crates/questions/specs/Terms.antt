@@ -1,3 +1,2 @@
 pub mod Found
-pub mod Nearest
 pub mod Walked

@@ -4,7 +4,7 @@ use mathlib.Core.Path.{_≡_}
 use native.Mathlib.Omega.{arith}
 use borrow.Author.Needs.{needs}
 use lib.ListN.{length, drop}
-use Rattle.questions.specs.Terms.Found.{total}
+use Rattle.questions.specs.Promised.{total}
 use Rattle.questions.proofs.Blocks.{total-next, total-end}
 use Rattle.questions.proofs.total_letters.Statement.{statement}
 use Rattle.questions.proofs.total_letters.Tie as tie

@@ -1,16 +1,12 @@
--- Terms of contracts: a list of the usual kind in any sequence; where a search stands in it; a summary of its letters up to b.
-use Prim.Native.Nat.{ℕ, suc, _+_, _/_, _≤_, _<_}
+-- Terms of contracts: where a search stands in a list; a summary of its letters up to b.
+use Prim.Native.Nat.{ℕ, suc, _/_, _≤_, _<_}
 use mathlib.Core.Path.{_≡_}
 use mathlib.Core.Bool.{Bool, cond}
 use mathlib.Core.List.{List, [], _∷_}
 use lib.Dec.{ltb, leb}
 use lib.ListN.{length, getD}
-use Rattle.buffers.specs.Fill.{tabulateFrom}
-use Rattle.intervals.specs.Interval.{Interval, Canonical}
+use Rattle.intervals.specs.Interval.{Interval}
 use Rattle.questions.specs.Batch.{block, kindOf, fromOf, toOf}
-
-abbrev pub Usual : List Interval → Type 0
-Usual is = Canonical 2147483647 1 is
 
 -- How many at the front pass a test.
 unfoldable pub leading : (Interval → Bool) → List Interval → ℕ
@@ -35,14 +31,6 @@ pub record IsFirstPast (is : List Interval) (x entries r : ℕ) : Type 0 where
   pub index : r ≡ firstPast is x
   pub inside : r ≤ entries
   pub small : r ≤ 1073741824
-
--- m numbers from f on.
-abbrev pub consecutive : ℕ → ℕ → List ℕ
-consecutive f m = tabulateFrom (λ (i : ℕ). i) m f
-
-unfoldable pub total : List ℕ → ℕ
-total [] = 0
-total (x ∷ xs) = x + total xs
 
 -- The summary s has the whole blocks of the first b letters.
 pub record Summed (is : List Interval) (s : List ℕ) (b : ℕ) : Type 0 where
