@@ -99,6 +99,7 @@ run "$program" random 1 200000
 run "$program" long 1 240
 run "$program" copies 1 200000
 run "$program" contigs 1 2000
+run "$program" questions 1 200000
 run "$program" large quick
 echo "$passed passed, $failed failed"
 [[ $failed -eq 0 ]]

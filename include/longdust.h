@@ -1,5 +1,6 @@
-/* Low-complexity masking of a nucleotide sequence: two calls, which differ in who fills the tables, and
- * longdust_masked_copy, which shows a mask in the letters (below, with its own slices and checks).
+/* Low-complexity masking of a nucleotide sequence: two calls, which differ in who fills the tables. Below, each with
+ * its own slices and checks: longdust_masked_copy, which shows a mask in the letters, and longdust_questions, which
+ * answers questions about a list of intervals.
  *
  * Link target/staticlib/liblongdust_c.a, which `rt staticlib longdust_c` makes for x86-64. No
  * call allocates, keeps state or reads anything but its arguments, so threads may call at once, each
@@ -135,6 +136,43 @@ int64_t longdust_masked_copy(
     const uint32_t (*list)[2], size_t list_len,
     uint32_t lower_case, uint8_t replacement,
     uint8_t *copy, size_t copy_len);
+
+/* Answers a batch of questions about a list of intervals in n letters. It builds a summary first, the masked letters
+ * of each 1,024, and writes one result a question, in order.
+ *   n          the number of letters, from 0 on
+ *   list       of the usual kind: each entry has a letter or more, ends at n or before, and begins past the end of the
+ *              entry before it, with a letter or more between
+ *   questions  each three numbers, kind, a and b:
+ *                0  the interval nearest to letter a (b is not read)
+ *                1  the intervals wholly within [a, b), the range of letters from a up to b, b not included
+ *                2  the intervals with letters both inside and outside [a, b); one that holds the whole range and
+ *                   more is such
+ *                3  the masked share of [a, b)
+ *   summary    n / 1,024 entries, rounded up, at least; entry j counts the masked letters from 1,024 j up to
+ *              1,024 (j + 1), not included
+ *   results    as many as questions at least; each two numbers:
+ *                0  the interval's index and the letters between it and letter a, 0 when it covers a or is adjacent;
+ *                   of equal distances the left one
+ *                1, 2  the index of the first such interval, and how many there are
+ *                3  the share in ten-thousandths, rounded down, and the remainder: share times (b - a) + remainder is
+ *                   10,000 times the masked letters
+ *              Where there is no such interval: 4294967295 and 0.
+ * Entries past these do not change. Kinds 0, 1 and 2 take time in the logarithm of list_len; 3 takes time in the
+ * blocks of the range, and in the intervals of its two end blocks. An empty batch builds the summary.
+ *
+ * The result is the number of questions answered, all of them. A negative result is minus the number of the first check
+ * that the request fails, and no slice is changed then:
+ *   10  n is above 2,147,483,647
+ *   16  list is not of the usual kind in n letters
+ *   11  summary or results is shorter than listed
+ *   17  a kind is above 3, a letter is not below n, or a range is empty or ends past n
+ */
+int64_t longdust_questions(
+    size_t n,
+    const uint32_t (*list)[2], size_t list_len,
+    const uint32_t (*questions)[3], size_t questions_len,
+    uint32_t *summary, size_t summary_len,
+    uint32_t (*results)[2], size_t results_len);
 
 #ifdef __cplusplus
 }

@@ -2,6 +2,7 @@
 
 use crate::copies;
 use crate::port::{Buffers, Candidate, Lent};
+use crate::questions;
 use crate::request::{Gc, Request, Tables};
 use std::ptr;
 
@@ -160,4 +161,32 @@ pub fn masked_copy(request: &mut copies::Request) -> i64 {
     let (copy, copy_len) = pointer(copy, room);
     // SAFETY: as above.
     unsafe { longdust_masked_copy(sequence, sequence_len, list, list_len, *lower_case, *replacement, copy, copy_len) }
+}
+
+extern "C" {
+    fn longdust_questions(
+        n: usize,
+        list: *const [u32; 2],
+        list_len: usize,
+        questions: *const [u32; 3],
+        questions_len: usize,
+        summary: *mut u32,
+        summary_len: usize,
+        results: *mut [u32; 2],
+        results_len: usize,
+    ) -> i64;
+}
+
+pub fn answer_questions(request: &mut questions::Request) -> i64 {
+    let questions::Request { n, list, questions, summary, results } = request;
+    let (entries, asked) = (list.len(), questions.len());
+    let rooms = [summary.len(), results.len()].map(|length| length - questions::GUARD);
+    let (list, list_len) = pointer(list, entries);
+    let (questions, questions_len) = pointer(questions, asked);
+    let (summary, summary_len) = pointer(summary, rooms[0]);
+    let (results, results_len) = pointer(results, rooms[1]);
+    // SAFETY: as above.
+    unsafe {
+        longdust_questions(*n, list, list_len, questions, questions_len, summary, summary_len, results, results_len)
+    }
 }

@@ -38,7 +38,7 @@ extern "C" {
 }
 
 /// How long this thread has had a processor, so that other programs of the machine count little.
-fn processor_seconds() -> f64 {
+pub fn processor_seconds() -> f64 {
     const CLOCK_THREAD_CPUTIME_ID: i32 = 3;
     let mut time = Timespec { seconds: 0, nanoseconds: 0 };
     // SAFETY: the pointer is to a live record of the C library's form on 64-bit Linux.
@@ -96,7 +96,7 @@ fn turns(port: Port, request: &Request, turns: usize) -> (f64, f64) {
     (median(original), median(ported))
 }
 
-fn median(mut seconds: Vec<f64>) -> f64 {
+pub fn median(mut seconds: Vec<f64>) -> f64 {
     seconds.sort_by(f64::total_cmp);
     seconds[seconds.len() / 2]
 }

@@ -15,6 +15,7 @@ mod generate;
 mod genomes;
 mod original;
 mod port;
+mod questions;
 mod random;
 mod record;
 mod request;
@@ -42,6 +43,8 @@ compare copies bench       seconds of both at 100,000,000 letters
 compare contigs SEED COUNT the program contigs on its cases and on random FASTA files, its text against the original's masks
 compare contigs text FILE  what contigs has to print for a file, by the original
 compare contigs cases      what crates/contigs_cases has to print, by the original
+compare questions SEED COUNT  questions about a position, the port's answers against plain walks, on random batches
+compare questions bench    questions per second of both, 1,000,000 intervals in 2,000,000,000 letters
 compare large [quick]      windows of 65,535 letters; quick: narrower ones
 compare fasta FILE..       both on every record of FASTA files, with intervals, share masked and seconds;
                            before the files, k=K sets k, and letters=N cuts a record after N letters
@@ -65,6 +68,8 @@ fn main() {
         ["contigs", "cases"] => return print(&contigs::cases_text()),
         ["contigs", "text", file] => return print(&contigs::text(&bytes(file))),
         ["contigs", seed, count] => contigs::command(contigs::program, number(seed), number(count)),
+        ["questions", "bench"] => return questions::bench(questions_port()),
+        ["questions", seed, count] => questions::command(questions_port(), number(seed), number(count)),
         ["cases"] => sets::cases(port()),
         ["tables"] => sets::tables(port()),
         ["large"] => sets::large(port(), false),
@@ -85,6 +90,11 @@ fn copies_port() -> copies::Port {
     archive::masked_copy
 }
 
+#[cfg(port)]
+fn questions_port() -> questions::Port {
+    archive::answer_questions
+}
+
 #[cfg(not(port))]
 fn port() -> Port {
     stop(WITHOUT_PORT)
@@ -92,6 +102,11 @@ fn port() -> Port {
 
 #[cfg(not(port))]
 fn copies_port() -> copies::Port {
+    stop(WITHOUT_PORT)
+}
+
+#[cfg(not(port))]
+fn questions_port() -> questions::Port {
     stop(WITHOUT_PORT)
 }
 

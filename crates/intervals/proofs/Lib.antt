@@ -10,6 +10,7 @@ pub mod Saving
 pub mod Examples
 pub mod Counted
 pub mod Slice
+pub mod Usual
 pub mod SaveSteps
 pub mod PickSteps
 pub mod MergeSteps

@@ -3,7 +3,9 @@ use Prim.Native.Nat.{ℕ, zero, suc, _+_, _≤_, _<_}
 use mathlib.Core.Path.{_≡_, refl, sym, ap, ap₂, _∙_}
 use mathlib.Core.List.{List, [], _∷_, _++_}
 use native.Mathlib.Omega.{arith}
-use lib.ListN.{length, take, getD, set, length-append, length-map, List·getD-map}
+use native.Mathlib.Numerals.{add-one}
+use lib.ListN.{length, take, drop, getD, set, length-append, length-map, List·getD-map}
+use lib.Seq.{drop-cons}
 use Rattle.buffers.specs.Fill.{put, putAt}
 use Rattle.buffers.proofs.Put.{take-put, put-next}
 use Rattle.intervals.specs.Interval.{Interval, interval, pair, entries, intervalOf, listOf, Wrote}
@@ -22,6 +24,11 @@ length-list ps = length-map ps intervalOf
 
 pub list-at : (ps : List (List ℕ)) (i : ℕ) → getD (listOf ps) i (interval 0 0) ≡ intervalOf (getD ps i [])
 list-at ps i = List·getD-map intervalOf ps i []
+
+pub list-next : (ps : List (List ℕ)) (i : ℕ) → i < length ps → drop i (listOf ps) ≡ intervalOf (getD ps i []) ∷ drop (i + 1) (listOf ps)
+list-next ps i h =
+    drop-cons (listOf ps) i (interval 0 0) (let l : i < length (listOf ps) = omega (arith, length-list ps) in l)
+    ∙ ap₂ (λ (j : Interval) (k : ℕ). j ∷ drop k (listOf ps)) (list-at ps i) (sym (add-one i))
 
 pub take-list : (k : ℕ) (ps : List (List ℕ)) → listOf (take k ps) ≡ take k (listOf ps)
 take-list zero ps = refl

@@ -1,7 +1,7 @@
 -- The paper, 'Records' and 'Both strands': intervals of letters, the letters that a list of them covers, the shape of a mask, and a list in a slice.
 use Prim.Native.Nat.{ℕ, zero, suc, _+_, _≤_, _<_}
 use mathlib.Core.Path.{_≡_}
-use mathlib.Core.Bool.{Bool, false, _&&_, _||_, cond}
+use mathlib.Core.Bool.{Bool, true, false, _&&_, _||_, cond}
 use mathlib.Core.List.{List, [], _∷_, map}
 use mathlib.Core.Logic.{_⊎_}
 use lib.Dec.{ltb, leb}
@@ -42,6 +42,17 @@ Ascending n k lo (i ∷ is) = (lo ≤ i .start) × (i .start + k ≤ i .end) × 
 -- The shape of a mask of n letters.
 abbrev pub Canonical : ℕ → ℕ → List Interval → Type 0
 Canonical n k is = Ascending n k 0 is
+
+-- A list of the usual kind, as a test: `Canonical n 1`. One entry that may stand from letter lo on; all of them.
+abbrev pub usualEntry : ℕ → ℕ → ℕ → ℕ → Bool
+usualEntry n lo s e = leb lo s && (ltb s e && leb e n)
+
+unfoldable pub usualFrom : ℕ → ℕ → List Interval → Bool
+usualFrom n lo [] = true
+usualFrom n lo (i ∷ is) = usualEntry n lo (i .start) (i .end) && usualFrom n (i .end + 1) is
+
+abbrev pub usual : ℕ → List Interval → Bool
+usual n is = usualFrom n 0 is
 
 -- A list of intervals as a slice holds it: an entry of two numbers for each.
 abbrev pub pair : Interval → List ℕ

@@ -4,20 +4,50 @@ ghost use mathlib.Core.Path.{_≡_};
 ghost use Prim.Native.Nat.{_+_, _-_, _≤_, _<_, min, max};
 ghost use lib.ListN.{length, take, getD};
 ghost use Rattle.buffers.specs.Fill.{putAt};
-ghost use Rattle.intervals.specs.Interval.{interval, entries, listOf};
+ghost use Rattle.intervals.specs.Interval.{interval, usualEntry, usual, entries, listOf};
 ghost use Rattle.intervals.specs.Terms.Bounds.{Inside};
 ghost use Rattle.intervals.specs.Save.{staying, save};
 ghost use Rattle.intervals.specs.Merge.{merge, fromForward, fromReverse, nonemptyMarked, grown, mergeMarked, ranges, markOf, marksOf, WroteMarked, flip, backwards};
 ghost use Rattle.intervals.specs.Terms.Saved.{Saved};
 ghost use Rattle.intervals.specs.Terms.Pick.{picked, Picks};
 
-fn min_u32(a: u32, b: u32) -> u32
+fn wide(x: u32) -> usize
+    ensures { λ r. ⌜ (r ≡ x) × (r < 4294967296) ⌝ }
+{
+    x as usize
+}
+
+fn usual_entry(n: usize, lo: usize, start: usize, end: usize) -> bool
+    ensures { λ r. ⌜ r ≡ usualEntry n lo start end ⌝ }
+{
+    (lo <= start) & ((start < end) & (end <= n))
+}
+
+// Whether the list is of the usual kind in n letters: no entry empty or past n, ascending, a letter or more between.
+pub fn is_usual(list: &[[u32; 2]], n: usize) -> bool
+    ensures { λ r. ⌜ r ≡ usual n (listOf (now (list .entry))) ⌝ }
+{
+    let mut lo = 0;
+    let mut i = 0;
+    while i < list.len() {
+        let start = wide(list[i][0]);
+        let end = wide(list[i][1]);
+        if !usual_entry(n, lo, start, end) {
+            return false;
+        }
+        lo = end + 1;
+        i += 1;
+    }
+    true
+}
+
+pub fn min_u32(a: u32, b: u32) -> u32
     ensures { λ r. ⌜ r ≡ min a b ⌝ }
 {
     if a < b { a } else { b }
 }
 
-fn max_u32(a: u32, b: u32) -> u32
+pub fn max_u32(a: u32, b: u32) -> u32
     ensures { λ r. ⌜ r ≡ max a b ⌝ }
 {
     if a < b { b } else { a }

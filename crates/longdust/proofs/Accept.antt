@@ -1,23 +1,19 @@
 -- What a request has that no check refuses.
 use mathlib.Core.Path.{_≡_, refl}
-use mathlib.Core.Bool.{Bool, true, false}
-use mathlib.Core.List.{List, [], _∷_}
-use Prim.Native.Nat.{ℕ, _+_, _^_, _<_}
-use native.Mathlib.Omega.{arith}
+use mathlib.Core.Bool.{false}
+use mathlib.Core.List.{List}
+use Prim.Native.Nat.{ℕ, _+_, _^_}
 use lib.Dec.{ltb}
-use lib.ListN.{length, drop}
+use lib.ListN.{length, getD}
 use borrow.Author.Tests.{ltb-false}
 use Rattle.scans.proofs.Test.{neither}
 use Rattle.longdust.specs.declared.LongdustOptions.{LongdustOptions}
 use Rattle.longdust.specs.declared.Lent.{Lent}
-use Rattle.checks.specs.Checks.{Check, check, first}
-use Rattle.checks.specs.Tests.{kmerOutside, anyHigh, anyOther, tooFewLetters, windowBelow, windowAbove, thresholdBad, minStartBelow, tooManyLetters, mostIntervals}
-use Rattle.longdust.specs.Checks.{checks, refusal, gcBad, xdropBad, tooShort}
+use Rattle.checks.specs.Checks.{check}
+use Rattle.checks.proofs.Next.{passes}
+use Rattle.checks.specs.Tests.{mostIntervals}
+use Rattle.longdust.specs.Checks.{checks, refusal, tooShort}
 use Rattle.longdust.specs.Terms.Inner.{Enough, Admitted}
-
-passes : (i : ℕ) (b : Bool) (cs : List Check) → 0 < i → first (check i b ∷ cs) ≡ 0 → (b ≡ false) × (first cs ≡ 0)
-passes i true cs h e = absurd (let z : ⊥ = omega arith in z)
-passes i false cs h e = (refl, e)
 
 enough : (n k w : ℕ) (b : Lent) → tooShort n k w b ≡ false → Enough n k w b
 unfolding tooShort
@@ -55,31 +51,19 @@ admitted o s b e =
     let n = length s in
     let k = o .kmer in
     let w = o .«window_size» in
-    let left : ℕ → List Check = λ j. drop j (checks o s b) in
-    let p1 = passes 1 (kmerOutside k) (left 1) (omega arith) e in
-    let p2 = passes 2 (anyHigh s) (left 2) (omega arith) (p1 .1) in
-    let p13 = passes 13 (anyOther s) (left 3) (omega arith) (p2 .1) in
-    let p3 = passes 3 (tooFewLetters n k) (left 4) (omega arith) (p13 .1) in
-    let p4 = passes 4 (windowBelow w k) (left 5) (omega arith) (p3 .1) in
-    let p5 = passes 5 (windowAbove w) (left 6) (omega arith) (p4 .1) in
-    let p6 = passes 6 (thresholdBad (o .«score_threshold»)) (left 7) (omega arith) (p5 .1) in
-    let p7 = passes 7 (gcBad (o .gc)) (left 8) (omega arith) (p6 .1) in
-    let p8 = passes 8 (minStartBelow (o .«min_start_cnt»)) (left 9) (omega arith) (p7 .1) in
-    let p9 = passes 9 (xdropBad (o .xdrop)) (left 10) (omega arith) (p8 .1) in
-    let p10 = passes 10 (tooManyLetters n) (left 11) (omega arith) (p9 .1) in
-    let p11 = passes 11 (tooShort n k w b) [] (omega arith) (p10 .1) in
-    let inside = neither (ltb k 1) (ltb 12 k) (p1 .0) in
+    let p : (j : ℕ) → getD (checks o s b) j (check 0 false) .fails ≡ false = passes (checks o s b) refl e in
+    let inside = neither (ltb k 1) (ltb 12 k) (p 0) in
     record {
       bounds =
           record {
             kmer-low = ltb-false k 1 (inside .0);
             kmer-high = ltb-false 12 k (inside .1);
-            window-low = ltb-false w (k + 1) (p4 .0);
-            window-high = ltb-false 65535 w (p5 .0);
-            threshold-good = p6 .0;
-            start-low = ltb-false (o .«min_start_cnt») 2 (p8 .0);
+            window-low = ltb-false w (k + 1) (p 4);
+            window-high = ltb-false 65535 w (p 5);
+            threshold-good = p 6;
+            start-low = ltb-false (o .«min_start_cnt») 2 (p 8);
           };
-      letters-low = ltb-false n (k + 1) (p3 .0);
-      letters-high = ltb-false 2147483647 n (p10 .0);
-      enough = enough n k w b (p11 .0);
+      letters-low = ltb-false n (k + 1) (p 3);
+      letters-high = ltb-false 2147483647 n (p 10);
+      enough = enough n k w b (p 11);
     }

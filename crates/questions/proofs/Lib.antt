@@ -1,0 +1,15 @@
+pub mod Examples
+pub mod Ordered
+pub mod Searching
+pub mod Nearest
+pub mod NearestSteps
+pub mod Indices
+pub mod Ranges
+pub mod RangeSteps
+pub mod Letters
+pub mod Walking
+pub mod Blocks
+pub mod Share
+pub mod Answering
+pub mod Call
+pub mod Theorems

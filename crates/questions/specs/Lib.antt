@@ -1,0 +1,4 @@
+pub mod Answers
+pub mod Batch
+pub mod Promised
+pub mod Terms
