@@ -103,6 +103,7 @@ accepted-as o s b b′ r ln f cs d c a =
           };
       shape = a .shape;
       evidence = a .evidence;
+      shorter = a .shorter;
     }
 
 -- A refusal touches nothing.
