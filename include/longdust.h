@@ -96,7 +96,8 @@ int64_t longdust_process_tables(
     uint8_t *marks, size_t marks_len,
     uint32_t *in_range);
 
-/* Fills ln 0..w and f 0..w+1 for the options and the sequence, then masks with them. */
+/* Fills ln 0..w and f 0..w+1 for the options and the sequence, then masks with them. Each ln entry 1..w is
+ * within 2^-45 of the true logarithm. */
 int64_t longdust_process(
     const uint8_t *sequence, size_t sequence_len,
     size_t kmer, size_t window_size, double score_threshold,

@@ -1,17 +1,17 @@
--- The sum, the difference and the product of two finite floats of a format: where the exact one is at most 2 ^ (prec + 1 + h) units, the float is within 2 ^ h units of it,
--- half a unit of its last place (`add-near`, `sub-near`, `mul-near`).
-use mathlib.Core.Path.{_≡_, refl, sym, ap, ap₂, _∙_, subst}
+-- The sum and the difference of two finite floats of a format: where the exact one is at most 2 ^ (prec + 1 + h) units, the float is within 2 ^ h units of it,
+-- half a unit of its last place (`add-near`, `sub-near`).
+use mathlib.Core.Path.{_≡_, refl, sym, ap₂, _∙_, subst}
 use Prim.Native.Nat.{ℕ, suc, _+_, _-_, _*_, _^_, _≤_, _<_}
-use native.Mathlib.Nat.{le-trans, le-of-eq, mul-pos, mul-one, mul-assoc, mul-comm, mul-sub, add-mul, mul-mul-mul-comm}
+use native.Mathlib.Nat.{le-trans, le-of-eq, mul-pos, mul-one, mul-comm, mul-sub, add-mul}
 use native.Mathlib.Omega.{arith}
 use mathlib.Core.Bool.{Bool, true, false, not, cond}
 use lib.Dec.{T, ltb, ltb→lt, nltb→le}
 use lib.Pow.{pow-pos}
-use lib.Ieee.{Float, nan, inf, fin, Format, prec, emax, low, up, down, unlike, round, sum, add, sub, neg, mul}
+use lib.Ieee.{Float, nan, inf, fin, Format, prec, emax, low, up, down, round, sum, add, sub, neg}
 use lib.Ieee.Fits.{round-fits, down-pos, neg-fits}
 use lib.Ieee.Scale.{grid}
 use Rattle.floats.specs.Value.{magnitude, Finite}
-use Rattle.floats.proofs.Value.{ifPos, ifNeg, magnitude-whole, over-one, order, parts-of-value, near-intro}
+use Rattle.floats.proofs.Value.{ifPos, ifNeg, over-one, order, near-intro}
 use Rattle.floats.proofs.Rounding.{grid-near, grid-small, round-value, no-overflow}
 use Rattle.floats.proofs.Rounded.{posPart, negPart, Near}
 
@@ -114,50 +114,3 @@ sub-near {f} h {x} {y} top a b u v =
     let n = neg-value f y b in
     let r = add-near h top a (neg-finite f y b) (omega (arith, n .0, n .1)) (omega (arith, n .0, n .1)) in
     record { ok = r .ok; upper = omega (arith, n .0, n .1, r .upper); lower = omega (arith, n .0, n .1, r .lower) }
-
--- ---- the product. Its exact value is in units of the square of the smallest value, so r is taken times c, the number of units in 1: |r * c - (P - N)| ≤ E
-pub record NearProduct (f : Format) (r : Float) (c P N E : ℕ) : Type 0 where
-  pub ok : Finite f r
-  pub upper : posPart f r * c + N ≤ P + negPart f r * c + E
-  pub lower : P + negPart f r * c ≤ posPart f r * c + N + E
-
-signs : (s t : Bool) (X Y g p m c E : ℕ) → p ≡ ifPos (unlike s t) g → m ≡ ifNeg (unlike s t) g → g * c ≤ X * Y + E → X * Y ≤ g * c + E
-    → (p * c + (ifPos s X * ifNeg t Y + ifNeg s X * ifPos t Y) ≤ ifPos s X * ifPos t Y + ifNeg s X * ifNeg t Y + m * c + E)
-    × (ifPos s X * ifPos t Y + ifNeg s X * ifNeg t Y + m * c ≤ p * c + (ifPos s X * ifNeg t Y + ifNeg s X * ifPos t Y) + E)
-signs true true X Y g p m c E a b u v = omega (arith, ap (λ (z : ℕ). z * c) a, ap (λ (z : ℕ). z * c) b)
-signs true false X Y g p m c E a b u v = omega (arith, ap (λ (z : ℕ). z * c) a, ap (λ (z : ℕ). z * c) b)
-signs false true X Y g p m c E a b u v = omega (arith, ap (λ (z : ℕ). z * c) a, ap (λ (z : ℕ). z * c) b)
-signs false false X Y g p m c E a b u v = omega (arith, ap (λ (z : ℕ). z * c) a, ap (λ (z : ℕ). z * c) b)
-
-sizes : (s t : Bool) (X Y B : ℕ) → ifPos s X * ifPos t Y + ifNeg s X * ifNeg t Y + (ifPos s X * ifNeg t Y + ifNeg s X * ifPos t Y) ≤ B → X * Y ≤ B
-sizes true true X Y B h = omega arith
-sizes true false X Y B h = omega arith
-sizes false true X Y B h = omega arith
-sizes false false X Y B h = omega arith
-
-crossed : (a b l X Y c d : ℕ) → X * c ≡ a * l → Y * d ≡ b * l → a * b * l * l ≡ X * Y * (c * d)
-crossed a b l X Y c d p q = mul-assoc (a * b) l l ∙ mul-mul-mul-comm a b l l ∙ ap₂ (λ (x y : ℕ). x * y) (sym p) (sym q) ∙ mul-mul-mul-comm X c Y d
-
-pub mul-near : (f : Format) (h : ℕ) (x y : Float) → prec f + suc h ≤ low f + emax f → Finite f x → Finite f y
-    → posPart f x * posPart f y + negPart f x * negPart f y + (posPart f x * negPart f y + negPart f x * posPart f y) ≤ 2 ^ (prec f + suc h) * 2 ^ low f
-    → NearProduct f (mul f x y) (2 ^ low f) (posPart f x * posPart f y + negPart f x * negPart f y) (posPart f x * negPart f y + negPart f x * posPart f y) (2 ^ h * 2 ^ low f)
-unfolding mul posPart negPart
-mul-near f h nan y top a b u = absurd (a .finite)
-mul-near f h (inf s) y top a b u = absurd (a .finite)
-mul-near f h (fin s m e) nan top a b u = absurd (b .finite)
-mul-near f h (fin s m e) (inf t) top a b u = absurd (b .finite)
-mul-near f h (fin s m e) (fin t n d) top a b u =
-    let X = magnitude f (fin s m e) in
-    let Y = magnitude f (fin t n d) in
-    let l = 2 ^ low f in
-    let num = m * up e * (n * up d) in
-    let den = down e * down d in
-    let r = round f (unlike s t) num den in
-    let D : 0 < den = mul-pos (down-pos e) (down-pos d) in
-    let eq : num * l * l ≡ X * Y * den = crossed (m * up e) (n * up d) l X Y (down e) (down d) (magnitude-whole f s m e (a .fits)) (magnitude-whole f t n d (b .fits)) in
-    let small : X * Y ≤ 2 ^ (prec f + suc h) * l = sizes s t X Y (2 ^ (prec f + suc h) * l) u in
-    let g = grid f num den in
-    let near = grid-near f num den h l (X * Y) D (pow-pos (low f)) eq small in
-    let v = parts-of-value f r (unlike s t) g (round-value f (unlike s t) num den (no-overflow f h g top (grid-small f num den h l (X * Y) D (pow-pos (low f)) eq small))) in
-    let z = signs s t X Y g (posPart f r) (negPart f r) l (2 ^ h * l) (v .1) (v .2) (near .0) (near .1) in
-    record { ok = record { finite = v .0; fits = round-fits f (unlike s t) num den }; upper = z .0; lower = z .1 }

@@ -1,21 +1,19 @@
--- The laws at binary64, in units of 2 ^ -1074: one rounding of a number of size at most 2 ^ M costs at most 2 ^ M * eps (`add64`, `sub64`, `mul64`, `mul-int64`), a whole number below
--- 2 ^ 53 is exact (`int64`), and errors add up (`near-add`, `near-sub`, `count-add`, `count-sub`). `one` and `eps` stay shut, so that no proof computes with numbers of 300 digits:
+-- The laws at binary64, in units of 2 ^ -1074: one rounding of a number of size at most 2 ^ M costs at most 2 ^ M * eps (`add64`, `sub64`, `mul-int64`),
+-- and errors add up (`near-add`, `near-sub`, `count-add`, `count-sub`). `one` and `eps` stay shut, so that no proof computes with numbers of 300 digits:
 -- `omega` takes them as unknowns with `one-eps` between them.
-use mathlib.Core.Path.{_≡_, refl, sym, ap, _∙_}
-use Prim.Native.Nat.{ℕ, suc, _+_, _*_, _^_, _≤_, _<_}
-use native.Mathlib.Nat.{mul-one, mul-right-comm, mul-le-mul-right, le-of-mul-le-mul-right, add-comm}
+use mathlib.Core.Path.{_≡_, refl, ap}
+use mathlib.Core.Bool.{Bool, true, false}
+use Prim.Native.Nat.{ℕ, _+_, _*_, _^_, _≤_, _<_}
+use native.Mathlib.Nat.{mul-le-mul-right, le-of-mul-le-mul-right}
 use native.Mathlib.Omega.{arith}
-use mathlib.Core.Bool.{false}
-use lib.Pow.{pow-add, pow-pos}
-use lib.Ieee.{Float, nan, inf, fin, Format, binary64, low, up, down, round, add, sub, mul, ofInt}
-use lib.Ieee.Back.{round-whole}
-use lib.Ieee.Exact.{HasValue}
-use lib.Ieee.Fits.{round-fits}
-use Rattle.floats.specs.Value.{Finite}
-use Rattle.floats.specs.Binary64.{one, number}
-use Rattle.floats.proofs.Value.{parts-of-value}
-use Rattle.floats.proofs.Arithmetic.{add-near, sub-near, mul-near, NearProduct}
+use lib.Pow.{pow-pos}
+use lib.Ieee.{Float, binary64, add, sub, mul}
+use Rattle.floats.specs.Value.{sign, magnitude, Finite}
+use Rattle.floats.specs.Binary64.{one}
 use Rattle.floats.proofs.Rounded.{Near, eps, pos64, neg64}
+use Rattle.floats.proofs.Value.{ifPos, ifNeg}
+use Rattle.floats.proofs.Arithmetic.{add-near, sub-near}
+use Rattle.floats.proofs.Sized.{Sized, sized-finite, sized-parts, big, small, top, mul-rounded}
 
 pub one-eps : one ≡ 18014398509481984 * eps
 unfolding one eps
@@ -25,21 +23,7 @@ pub one-pos : 0 < one
 unfolding one
 one-pos = pow-pos 1074
 
-big : (M : ℕ) → 2 ^ (53 + suc (1020 + M)) ≡ 2 ^ M * one
-unfolding one
-big M = ap (λ (x : ℕ). 2 ^ x) (total M) ∙ pow-add 2 M 1074
-  where
-    total : (k : ℕ) → 53 + suc (1020 + k) ≡ k + 1074
-    total k = omega arith
-
-small : (M : ℕ) → 2 ^ (1020 + M) ≡ 2 ^ M * eps
-unfolding eps
-small M = ap (λ (x : ℕ). 2 ^ x) (add-comm 1020 M) ∙ pow-add 2 M 1020
-
-top : (M : ℕ) → M ≤ 1023 → 53 + suc (1020 + M) ≤ 1074 + 1023
-top M h = omega arith
-
--- |x + y| ≤ 2 ^ M: the sum is within 2 ^ (M - 54). So for x - y, and for x * y, where both sides are in units of 2 ^ -2148.
+-- |x + y| ≤ 2 ^ M: the sum is within 2 ^ (M - 54). So for x - y.
 module _ (M : ℕ) {x y : Float} (t : M ≤ 1023) (a : Finite binary64 x) (b : Finite binary64 y) where
   pub add64 : pos64 x + pos64 y ≤ neg64 x + neg64 y + 2 ^ M * one → neg64 x + neg64 y ≤ pos64 x + pos64 y + 2 ^ M * one
       → Near binary64 (add binary64 x y) (pos64 x + pos64 y) (neg64 x + neg64 y) (2 ^ M * eps)
@@ -49,45 +33,29 @@ module _ (M : ℕ) {x y : Float} (t : M ≤ 1023) (a : Finite binary64 x) (b : F
       → Near binary64 (sub binary64 x y) (pos64 x + neg64 y) (neg64 x + pos64 y) (2 ^ M * eps)
   sub64 u v = rw (← small M) (sub-near (1020 + M) (top M t) a b (rw (big M) u) (rw (big M) v))
 
-  pub mul64 : pos64 x * pos64 y + neg64 x * neg64 y + (pos64 x * neg64 y + neg64 x * pos64 y) ≤ 2 ^ M * one * one
-      → NearProduct binary64 (mul binary64 x y) one (pos64 x * pos64 y + neg64 x * neg64 y) (pos64 x * neg64 y + neg64 x * pos64 y) (2 ^ M * eps * one)
-  unfolding one
-  mul64 u = rw (← small M) (mul-near binary64 (1020 + M) x y (top M t) a b (rw (big M) u))
-
--- x is the whole number w
-pub record IsNumber (w : ℕ) (x : Float) : Type 0 where
-  pub ok : Finite binary64 x
-  pub units : pos64 x ≡ w * one
-  pub low : neg64 x ≡ 0
-
--- a whole number below 2 ^ prec is exact
-whole-units : (f : Format) (w : ℕ) → HasValue (round f false w 1) false w 1 → HasValue (round f false w 1) false (w * 2 ^ low f) (2 ^ low f)
-whole-units f w = go (round f false w 1)
-  where
-    go : (x : Float) → HasValue x false w 1 → HasValue x false (w * 2 ^ low f) (2 ^ low f)
-    go nan h = h
-    go (inf s) h = h
-    go (fin s m e) h = (h .0, ap (λ (z : ℕ). z * 2 ^ low f) (sym (mul-one (m * up e)) ∙ h .1) ∙ mul-right-comm w (down e) (2 ^ low f))
-
-pub int64 : (w : ℕ) → w < 9007199254740992 → IsNumber w (number w)
-unfolding one ofInt
-int64 w h =
-    let v = parts-of-value binary64 (round binary64 false w 1) false (w * one) (whole-units binary64 w (round-whole binary64 false w (omega arith))) in
-    record { ok = record { finite = v .0; fits = round-fits binary64 false w 1 }; units = v .1; low = v .2 }
-
 -- a whole number w times a y that is not negative
-pub mul-int64 : (M : ℕ) {w : ℕ} {x y : Float} → M ≤ 1023 → IsNumber w x → Finite binary64 y → neg64 y ≡ 0 → w * pos64 y ≤ 2 ^ M * one
+pub mul-int64 : (M w : ℕ) {x y : Float} → M ≤ 1023 → Sized false (w * one) x → Finite binary64 y → neg64 y ≡ 0 → w * pos64 y ≤ 2 ^ M * one
     → Near binary64 (mul binary64 x y) (w * pos64 y) 0 (2 ^ M * eps)
-mul-int64 M {w} {x} {y} t a b ny u =
-    let f1 : pos64 x * pos64 y ≡ w * one * pos64 y = ap (λ (z : ℕ). z * pos64 y) (a .units) in
-    let f2 : neg64 x * pos64 y ≡ 0 * pos64 y = ap (λ (z : ℕ). z * pos64 y) (a .low) in
-    let f3 : pos64 x * neg64 y ≡ pos64 x * 0 = ap (λ (z : ℕ). pos64 x * z) ny in
-    let f4 : neg64 x * neg64 y ≡ neg64 x * 0 = ap (λ (z : ℕ). neg64 x * z) ny in
-    let u' : w * pos64 y * one ≤ 2 ^ M * one * one = mul-le-mul-right one u in
-    let r = mul64 M t (a .ok) b (omega arith) in
-    let hi' : (pos64 (mul binary64 x y) + 0) * one ≤ (w * pos64 y + neg64 (mul binary64 x y) + 2 ^ M * eps) * one = omega arith in
-    let lo' : (w * pos64 y + neg64 (mul binary64 x y)) * one ≤ (pos64 (mul binary64 x y) + 0 + 2 ^ M * eps) * one = omega arith in
-    record { ok = r .ok; upper = le-of-mul-le-mul-right hi' one-pos; lower = le-of-mul-le-mul-right lo' one-pos }
+mul-int64 M w {x} {y} t a b ny u = let p = sized-parts (sized-finite b) in go (sign y) (magnitude binary64 y) (sized-finite b) (p .0) (p .1)
+  where
+    cancel : (g Y E : ℕ) → g * one ≤ w * one * Y + E * one → w * one * Y ≤ g * one + E * one → (g ≤ w * Y + E) × (w * Y ≤ g + E)
+    cancel g Y E h k =
+        (le-of-mul-le-mul-right (let z : g * one ≤ (w * Y + E) * one = omega arith in z) one-pos, le-of-mul-le-mul-right (let z : w * Y * one ≤ (g + E) * one = omega arith in z) one-pos)
+
+    go : (s : Bool) (Y : ℕ) → Sized s Y y → pos64 y ≡ ifPos s Y → neg64 y ≡ ifNeg s Y → Near binary64 (mul binary64 x y) (w * pos64 y) 0 (2 ^ M * eps)
+    go true Y B p n =
+        let wp : w * pos64 y ≡ w * 0 = ap (λ (z : ℕ). w * z) p in
+        let wy : w * Y ≡ w * 0 = ap (λ (z : ℕ). w * z) (let z : Y ≡ 0 = omega arith in z) in
+        let r = mul-rounded a B M t (let z = mul-le-mul-right one u in omega (arith, ap (λ (z : ℕ). z * one) wy)) in
+        let q = sized-parts (r .sized) in
+        let c = cancel (r .g) Y (2 ^ M * eps) (r .upper) (r .lower) in
+        record { ok = r .sized .ok; upper = omega arith; lower = omega arith }
+    go false Y B p n =
+        let wy : w * pos64 y ≡ w * Y = ap (λ (z : ℕ). w * z) p in
+        let r = mul-rounded a B M t (let z = mul-le-mul-right one u in omega (arith, ap (λ (z : ℕ). z * one) wy)) in
+        let q = sized-parts (r .sized) in
+        let c = cancel (r .g) Y (2 ^ M * eps) (r .upper) (r .lower) in
+        record { ok = r .sized .ok; upper = omega arith; lower = omega arith }
 
 -- ---- errors add up
 pub near-self : {x : Float} → Finite binary64 x → Near binary64 x (pos64 x) (neg64 x) 0

@@ -13,11 +13,11 @@ half64-is : half64 ≡ round binary64 false 1 2
 unfolding ofBits round
 half64-is = refl
 
-one64-is : one64 ≡ number 1
+pub one64-is : one64 ≡ number 1
 unfolding ofBits ofInt
 one64-is = refl
 
-two64-is : two64 ≡ number 2
+pub two64-is : two64 ≡ number 2
 unfolding ofBits ofInt
 two64-is = refl
 

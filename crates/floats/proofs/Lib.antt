@@ -1,6 +1,7 @@
 pub mod Rounded
 pub mod Value
 pub mod Rounding
+pub mod Sized
 pub mod Arithmetic
 pub mod Compare
 pub mod Order

@@ -8,7 +8,8 @@ use native.Mathlib.Omega.{arith}
 use lib.Dec.{lit≤}
 use lib.Ieee.{Float, binary64, add, sub, mul}
 use Rattle.floats.specs.Binary64.{one, number, zero64}
-use Rattle.floats.proofs.Binary64.{one-eps, int64, mul-int64, near-self, near-as, near-add, near-sub, count-add, count-sub}
+use Rattle.floats.proofs.Sized.{sized-parts, number-sized}
+use Rattle.floats.proofs.Binary64.{one-eps, mul-int64, near-self, near-as, near-add, near-sub, count-add, count-sub}
 use Rattle.floats.proofs.Range.{zero-number}
 use Rattle.floats.proofs.Rounded.{Near, eps, pos64, Ranged}
 
@@ -27,10 +28,10 @@ err-units i = let e : i * one ≡ i * (18014398509481984 * eps) = ap (λ (z : �
 
 -- ---- 0, where the sums begin
 pub zero-near : Near binary64 zero64 0 0 0
-zero-near = let z = zero-number in near-as (near-self (z .ok)) (omega arith) (omega arith)
+zero-near = let z = zero-number in let p = sized-parts z in near-as (near-self (z .ok)) (omega arith) (omega arith)
 
 pub zero-ranged : (B : ℕ) → Ranged B zero64
-zero-ranged B = let z = zero-number in record { ok = z .ok; high = omega arith; low = z .low }
+zero-ranged B = let z = zero-number in let p = sized-parts z in record { ok = z .ok; high = omega arith; low = p .1 }
 
 -- ---- the scans: after i places s is within i * 2 ^ -33 of the exact sum P - N, which is at most i * 16 in size
 pub record After (i : ℕ) (s : Float) (P N : ℕ) : Type 0 where
@@ -77,6 +78,6 @@ sum-score {i} len N li ll g F B =
     let lo : len * one ≤ 65535 * one = mul-le-mul-right one ll in
     let oe = one-eps in
     let es = err-small i li in
-    let m = mul-int64 20 (lit≤ tt) (int64 len (omega arith)) (B .ok) (B .low) (omega arith) in
+    let m = mul-int64 20 len (lit≤ tt) (number-sized len (omega arith)) (B .ok) (B .low) (omega arith) in
     let d = count-sub 21 (lit≤ tt) N (F .ok) (omega arith) (omega arith) in
     near-as (near-sub 21 (lit≤ tt) d m (omega arith) (omega arith)) (omega arith) (omega arith)

@@ -58,7 +58,7 @@ pub order : (a b l X Y c : ℕ) → 0 < c → a * l ≡ X * c → b * l ≡ Y * 
 order a b l X Y c C p q h = le-of-mul-le-mul-right (le-trans (le-of-eq (sym p)) (le-trans (mul-le-mul-right l h) (le-of-eq q))) C
 
 -- a float that is known to be ±g units
-magnitude-of-value : (f : Format) (x : Float) (s : Bool) (g : ℕ) → HasValue x s g (2 ^ low f) → T (finite x) × (sign x ≡ s) × (magnitude f x ≡ g)
+pub magnitude-of-value : (f : Format) (x : Float) (s : Bool) (g : ℕ) → HasValue x s g (2 ^ low f) → T (finite x) × (sign x ≡ s) × (magnitude f x ≡ g)
 unfolding magnitude
 magnitude-of-value f nan s g h = absurd h
 magnitude-of-value f (inf t) s g h = absurd h

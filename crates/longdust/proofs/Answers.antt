@@ -1,4 +1,4 @@
--- What a run that leaves the mask in the final list answers: an accepted request, with its shape and its evidence.
+-- What a run that leaves the mask in the final list answers: an accepted request, with its shape, its evidence and no better shorter stretches.
 use mathlib.Core.Path.{_≡_, refl, sym, ap, ap₂, _∙_, subst}
 use mathlib.Core.Bool.{Bool}
 use mathlib.Core.List.{List, _++_}
@@ -24,7 +24,7 @@ use Rattle.longdust.specs.Mask.{setup, maskOf, mask, markedMaskOf, marke
 use Rattle.longdust.specs.Buffers.{Buffers, lengths}
 use Rattle.longdust.specs.Call.{lnRead, fRead, listSize, listed, Masked, Accepted}
 use Rattle.longdust.specs.Terms.Inner.{accepted, Bounds, Admitted, Prepared, Ran}
-use Rattle.longdust.proofs.Masks.{mask-shape, mask-room, mask-ranges, mask-evidence}
+use Rattle.longdust.proofs.Masks.{mask-shape, mask-room, mask-ranges, mask-evidence, scans-find}
 use Rattle.longdust.proofs.Marking.{marked-evidence}
 use Rattle.longdust.proofs.Parts.{fronts, back, Returned, whole}
 
@@ -56,6 +56,7 @@ accepted-by o s b b′ r c h a flag m =
           (subst (λ (z : List Interval). Covers z x) held d);
       marked-evidence = λ e.
           marked-evidence S (codes s) (c .kmer-low) a (subst T (sym (sym flag ∙ e)) tt) (omega arith) (o .«forward_only»);
+      shorter = λ e. scans-find S (o .«forward_only») (codes s) a (subst T (sym (sym flag ∙ e)) tt);
     }
 
 module _ (o : LongdustOptions) (cs : List ℕ) (m : ℕ) (b : Buffers) (a : Admitted o (length cs) (lengths b)) (e : m ≡ 4 ^ (o .kmer)) (y : Buffers)

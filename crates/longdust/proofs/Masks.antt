@@ -1,4 +1,4 @@
--- The mask over its definition: shape and room for any float bits, evidence where the flag says yes.
+-- The mask over its definition: shape and room for any float bits, evidence and no better shorter stretch where the flag says yes.
 use mathlib.Core.Path.{_≡_, refl, sym, subst}
 use Prim.Native.Nat.{ℕ, _+_, _-_, _/_, _≤_, _<_}
 use native.Mathlib.Omega.{arith}
@@ -19,8 +19,8 @@ use Rattle.intervals.proofs.Marks.{forward-ranges, merged-ranges, marked-alone}
 use Rattle.scans.specs.Setup.{Setup}
 use Rattle.strand.specs.Step.{intervalsOf}
 use Rattle.strand.specs.Range.{inRange, CheckedSetup}
-use Rattle.strand.proofs.Theorems.{strand-shape, strand-evidence}
-use Rattle.longdust.specs.Mask.{maskOf, markedMaskOf, Evident}
+use Rattle.strand.proofs.Theorems.{strand-shape, strand-evidence, strand-no-better-shorter}
+use Rattle.longdust.specs.Mask.{maskOf, markedMaskOf, Evident, ScansFindNoBetterShorter}
 use Rattle.longdust.specs.Terms.Inner.{otherIntervals}
 
 pub other-shape : (S : Setup) (s : List ℕ) → Canonical (length s) (S .kmer) (intervalsOf S (reverseComplement s))
@@ -81,3 +81,7 @@ module _ (S : Setup) (s : List ℕ) (k : 0 < S .kmer) (a : CheckedSetup S) (t : 
       let e = backwards-covers n x y G q .0 d in
       inr (record { scanned = refl; letter = y; across = q; evidence = strand-evidence S (reverseComplement s) a t l′ y e }))
       (merge-covers n (S .kmer) F (backwards n G) x (strand-shape S s) g .0 c)
+
+-- No better shorter stretch: of any strand, so of those scanned.
+pub scans-find : (S : Setup) (b : Bool) (s : List ℕ) → CheckedSetup S → T (inRange S) → ScansFindNoBetterShorter S b s
+scans-find S b s a t = record { find = λ strand _ first size f. strand-no-better-shorter S strand a t first size f }

@@ -107,6 +107,7 @@ accepted-as o s b b′ r ln f cs d c a =
       shape = a .shape;
       evidence = a .evidence;
       marked-evidence = a .marked-evidence;
+      shorter = a .shorter;
     }
 
 -- A refusal touches nothing.

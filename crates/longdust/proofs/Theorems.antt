@@ -1,5 +1,5 @@
--- The filling call against the other one. Demand 3, mirror: the mask of the reverse complement is the mask read backwards, its marks exchanged, over the definition and for two requests of each call.
--- Shape and evidence are fields of `Accepted`, in the contract of both calls.
+-- The filling call against the other one, and the ln table that it leaves against the true logarithm. Demand 3, mirror: the mask of the reverse complement is the mask read backwards, its marks exchanged, over the definition and for two requests of each call.
+-- Shape, evidence and no better shorter stretches are fields of `Accepted`, in the contract of both calls.
 use mathlib.Core.Path.{_≡_, refl, sym, ap, ap₂, _∙_}
 use Prim.Native.Nat.{ℕ, zero, suc, _+_, _<_}
 use native.Mathlib.Omega.{arith}
@@ -25,6 +25,8 @@ use Rattle.tables.specs.declared.Density.{Density}
 use Rattle.tables.specs.Density.{density}
 use Rattle.tables.specs.Tables.{lnTable, fTable}
 use Rattle.tables.proofs.Tables.{ln-held, fTable-length, density-reverseComplement}
+use Rattle.ln_bound.specs.Logarithm.{EntriesWithin}
+use Rattle.ln_bound.proofs.Theorems.{filled-within}
 use Rattle.longdust.specs.declared.LongdustOptions.{LongdustOptions}
 use Rattle.longdust.specs.declared.Answer.{Answer}
 use Rattle.longdust.specs.declared.Lent.{Lent}
@@ -58,6 +60,13 @@ filled-f {o} {s} {b} {b′} t =
     let table = fTable (o .kmer) w (density (o .kmer) (o .gc) (codes s)) in
     ap (λ (z : List Float). take (w + 2) z) (t .f)
     ∙ take-at table (drop (length table) (b .f)) (w + 2) (fTable-length (o .kmer) w (density (o .kmer) (o .gc) (codes s)))
+
+-- Each entry 1..w of the ln table that the filling call leaves is within 2^-45 of the true logarithm.
+pub process-ln-within : (o : LongdustOptions) (s : List ℕ) {b b′ : Buffers} {r : Answer} → Answered Filled o s b b′ r → r .refusal ≡ 0
+    → EntriesWithin (o .«window_size») (b′ .ln)
+process-ln-within o s {b} {b′} A e =
+    let bounds = admitted o s _ (sym (A .number) ∙ e) .bounds in
+    filled-within (o .«window_size») (b .ln) (b′ .ln) (bounds .window-high) (A .tables e .ln)
 
 -- The filling call answers what the other call answers on tables that hold the formulas: the same refusal, count and flag, and the same list and marks.
 module _ (o : LongdustOptions) (s : List ℕ) {b b′ c c′ : Buffers} {r q : Answer} (A : Answered Filled o s b b′ r) (B : Answered Kept o s c c′ q)

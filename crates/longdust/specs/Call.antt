@@ -18,7 +18,7 @@ use Rattle.tables.specs.Tables.{lnTable, fTable}
 use Rattle.longdust.specs.declared.LongdustOptions.{LongdustOptions}
 use Rattle.longdust.specs.declared.Answer.{Answer}
 use Rattle.longdust.specs.Checks.{refusal}
-use Rattle.longdust.specs.Mask.{setup, mask, markedMask, Evident, EvidentMarked}
+use Rattle.longdust.specs.Mask.{setup, mask, markedMask, Evident, EvidentMarked, ScansFindNoBetterShorter}
 use Rattle.longdust.specs.Buffers.{Buffers, lengths}
 
 -- The tables that a run reads: ln entries 0..w and f entries 0..w+1.
@@ -62,6 +62,7 @@ pub record Masked (o : LongdustOptions) (s : List ℕ) (b b′ : Buffers) (count
 
 -- An accepted request. Shape: the intervals are nonempty, inside, ascending, a letter or more between.
 -- Evidence: with the flag yes, every masked letter is evident on a strand scanned, and on the one strand that its interval's marks name alone.
+-- Shorter: then too no shorter stretch is better than one that a scan finds.
 pub record Accepted (o : LongdustOptions) (s : List ℕ) (b b′ : Buffers) (r : Answer) : Type 0 where
   pub flag : r .«in_range» ≡ inRange (setup o (lnRead o b′) (fRead o b′))
   pub buffers : Masked o s b b′ (r .count)
@@ -70,6 +71,7 @@ pub record Accepted (o : LongdustOptions) (s : List ℕ) (b b′ : Buffers) (r :
       → Evident (setup o (lnRead o b′) (fRead o b′)) (o .«forward_only») (codes s) x
   pub marked-evidence : r .«in_range» ≡ true
       → Every (EvidentMarked (setup o (lnRead o b′) (fRead o b′)) (o .«forward_only») (codes s)) (markedMask o s (lnRead o b′) (fRead o b′))
+  pub shorter : r .«in_range» ≡ true → ScansFindNoBetterShorter (setup o (lnRead o b′) (fRead o b′)) (o .«forward_only») (codes s)
 
 -- The tables after acceptance: as they were, or filled by their formulas, entries past w + 1 and w + 2 unchanged.
 pub record Kept (o : LongdustOptions) (s : List ℕ) (b b′ : Buffers) : Type 0 where

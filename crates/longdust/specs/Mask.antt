@@ -1,4 +1,4 @@
--- The paper, 'Both strands': the mask, its marks, and what it is to be evident on a strand scanned.
+-- The paper, 'Both strands': the mask, its marks, what it is to be evident on a strand scanned, and that a scan's finds have no better shorter stretch.
 use Prim.Native.Nat.{ℕ, _+_}
 use mathlib.Core.Path.{_≡_}
 use mathlib.Core.Logic.{_⊎_}
@@ -13,8 +13,9 @@ use Rattle.intervals.specs.Interval.{Interval, Holds}
 use Rattle.intervals.specs.declared.Marked.{Marked}
 use Rattle.intervals.specs.Merge.{merge, fromForward, mergeMarked, range, markOf, backwards}
 use Rattle.scans.specs.Setup.{Setup, dropLimit, maxTest}
-use Rattle.scans.specs.Score.{Evidence}
+use Rattle.scans.specs.Score.{stretch, Evidence, NoBetterShorter}
 use Rattle.strand.specs.Step.{intervalsOf}
+use Rattle.strand.specs.ScanFind.{FoundByScan}
 use Rattle.longdust.specs.declared.LongdustOptions.{LongdustOptions}
 
 -- What a run goes by: the options and the two tables.
@@ -73,3 +74,13 @@ backwardsMarks (mark ∷ marks) = backwardsMarks marks ++ (exchanged mark ∷ []
 -- The letter x lies in the letters of a stretch with evidence on a strand scanned.
 abbrev pub Evident : Setup → Bool → List ℕ → ℕ → Type 0
 Evident S forward-only s x = Evidence S (places (S .kmer) s) x ⊎ OtherStrand S forward-only s x
+
+-- The strands scanned, as codes: the sequence's own and, unless forward-only is set, its reverse complement.
+abbrev pub Scanned : Bool → List ℕ → List ℕ → Type 0
+Scanned forward-only s strand = (strand ≡ s) ⊎ ((forward-only ≡ false) × (strand ≡ reverseComplement s))
+
+-- L9: whenever a scan, not an extension, makes a find on a strand scanned, the exact score of every shorter stretch from the find's first place
+-- exceeds the find's by at most (2L + 2) / 2^32, L being its places. `S` holds either setting of approx.
+pub record ScansFindNoBetterShorter (S : Setup) (forward-only : Bool) (s : List ℕ) : Type 0 where
+  pub find : (strand : List ℕ) → Scanned forward-only s strand → (first size : ℕ) → FoundByScan S (places (S .kmer) strand) first size
+      → NoBetterShorter S (stretch (places (S .kmer) strand) first size)

@@ -8,6 +8,7 @@ use lib.ListN.{length}
 use lib.Dec.{T}
 use lib.Ieee.{Float, binary64, add, sub, lt}
 use Rattle.floats.specs.Binary64.{one, zero64}
+use Rattle.floats.proofs.Sized.{sized-parts}
 use Rattle.floats.proofs.Binary64.{one-pos, near-as}
 use Rattle.floats.proofs.Range.{zero-number}
 use Rattle.floats.proofs.Tests.{lt-near}
@@ -31,7 +32,7 @@ module _ (S : Setup) (R : InRange S) where
       omega (arith, one-pos)
 
   nothing-added : (q : List Place) → pos64 (added S q ambiguous) ≡ 0
-  nothing-added q = omega (arith, zero-number .units)
+  nothing-added q = omega (arith, sized-parts zero-number .0)
 
   -- The oldest entry leaves.
   pub leave-near : (s : Float) (e : Place) (q : List Place) (E : ℕ) → Below (kmers S) (e ∷ q) → length q < S .window-size → E ≤ one
