@@ -87,6 +87,8 @@ run "$program" random 1 200000
 run "$program" long 1 240
 run "$program" copies 1 200000
 run "$program" questions 1 200000
+run "$program" tracks 1 200000
+run compare/bedtools.sh
 run "$program" large quick
 echo "$passed passed, $failed failed"
 [[ $failed -eq 0 ]]
