@@ -100,6 +100,8 @@ run "$program" long 1 240
 run "$program" copies 1 200000
 run "$program" contigs 1 2000
 run "$program" questions 1 200000
+run "$program" tracks 1 200000
+run compare/bedtools.sh
 run "$program" large quick
 echo "$passed passed, $failed failed"
 [[ $failed -eq 0 ]]

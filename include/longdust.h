@@ -1,6 +1,6 @@
 /* Low-complexity masking of a nucleotide sequence: two calls, which differ in who fills the tables. Below, each with
- * its own slices and checks: longdust_masked_copy, which shows a mask in the letters, and longdust_questions, which
- * answers questions about a list of intervals.
+ * its own slices and checks: longdust_masked_copy, which shows a mask in the letters, longdust_questions, which
+ * answers questions about a list of intervals, and longdust_join_tracks, which joins a list with another.
  *
  * Link target/staticlib/liblongdust_c.a, which `rt staticlib longdust_c` makes for x86-64. No
  * call allocates, keeps state or reads anything but its arguments, so threads may call at once, each
@@ -174,6 +174,33 @@ int64_t longdust_questions(
     const uint32_t (*questions)[3], size_t questions_len,
     uint32_t *summary, size_t summary_len,
     uint32_t (*results)[2], size_t results_len);
+
+/* Joins a list of ours, with its marks, and a list of theirs, both in n letters: the wanted letters as a list of the
+ * usual kind, touching intervals joined, and its marks beside it.
+ *   kind        the wanted letters: 0 in either list, 1 in both, any other number: in ours and outside theirs
+ *   n           the number of letters, from 0 on
+ *   ours        of the usual kind: each entry has a letter or more, ends at n or before, and begins past the end of
+ *               the entry before it, with a letter or more between
+ *   marks       a byte for each entry of ours at least: 1 forward, 2 reverse, 3 both; other bits do not count
+ *   theirs      of the usual kind too
+ *   list        as many entries as ours and theirs together at least
+ *   list_marks  as many bytes at least; an interval has the marks of those of ours that share a letter with it, and
+ *               0 where it is theirs alone
+ * Entries past the intervals written do not change. It takes time in the entries of both lists.
+ *
+ * The result is the number of intervals. A negative result is minus the number of the first check that the request
+ * fails, and no slice is changed then:
+ *   10  n is above 2,147,483,647
+ *   16  ours or theirs is not of the usual kind in n letters
+ *   11  marks, list or list_marks is shorter than listed
+ */
+int64_t longdust_join_tracks(
+    uint32_t kind, size_t n,
+    const uint32_t (*ours)[2], size_t ours_len,
+    const uint8_t *marks, size_t marks_len,
+    const uint32_t (*theirs)[2], size_t theirs_len,
+    uint32_t (*list)[2], size_t list_len,
+    uint8_t *list_marks, size_t list_marks_len);
 
 #ifdef __cplusplus
 }

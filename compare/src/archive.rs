@@ -4,6 +4,7 @@ use crate::copies;
 use crate::port::{Buffers, Candidate, Lent};
 use crate::questions;
 use crate::request::{Gc, Request, Tables};
+use crate::tracks;
 use std::ptr;
 
 /// Both calls are declared with tables that may be written, so that one expression calls either; that
@@ -188,5 +189,49 @@ pub fn answer_questions(request: &mut questions::Request) -> i64 {
     // SAFETY: as above.
     unsafe {
         longdust_questions(*n, list, list_len, questions, questions_len, summary, summary_len, results, results_len)
+    }
+}
+
+extern "C" {
+    fn longdust_join_tracks(
+        kind: u32,
+        n: usize,
+        ours: *const [u32; 2],
+        ours_len: usize,
+        marks: *const u8,
+        marks_len: usize,
+        theirs: *const [u32; 2],
+        theirs_len: usize,
+        list: *mut [u32; 2],
+        list_len: usize,
+        list_marks: *mut u8,
+        list_marks_len: usize,
+    ) -> i64;
+}
+
+pub fn join_tracks(request: &mut tracks::Request) -> i64 {
+    let tracks::Request { kind, n, ours, marks, theirs, list, list_marks } = request;
+    let lengths = [ours.len(), marks.len(), theirs.len(), list.len() - tracks::GUARD, list_marks.len() - tracks::GUARD];
+    let (ours, ours_len) = pointer(ours, lengths[0]);
+    let (marks, marks_len) = pointer(marks, lengths[1]);
+    let (theirs, theirs_len) = pointer(theirs, lengths[2]);
+    let (list, list_len) = pointer(list, lengths[3]);
+    let (list_marks, list_marks_len) = pointer(list_marks, lengths[4]);
+    // SAFETY: as above.
+    unsafe {
+        longdust_join_tracks(
+            *kind,
+            *n,
+            ours,
+            ours_len,
+            marks,
+            marks_len,
+            theirs,
+            theirs_len,
+            list,
+            list_len,
+            list_marks,
+            list_marks_len,
+        )
     }
 }

@@ -13,6 +13,7 @@ mod fasta;
 mod formulas;
 mod generate;
 mod genomes;
+mod lists;
 mod original;
 mod port;
 mod questions;
@@ -22,6 +23,7 @@ mod request;
 mod sets;
 #[cfg(test)]
 mod tests;
+mod tracks;
 
 use port::{Buffers, Port};
 use request::{Answer, Request};
@@ -45,6 +47,9 @@ compare contigs text FILE  what contigs has to print for a file, by the original
 compare contigs cases      what crates/contigs_cases has to print, by the original
 compare questions SEED COUNT  questions about a position, the port's answers against plain walks, on random batches
 compare questions bench    questions per second of both, 1,000,000 intervals in 2,000,000,000 letters
+compare tracks SEED COUNT  joined tracks, the port's against a plain join letter by letter, on random pairs
+compare tracks beds FOLDER SEED COUNT  larger pairs as BED files, for compare/bedtools.sh
+compare tracks held FOLDER SEED COUNT  the port on these pairs against what bedtools made of them
 compare large [quick]      windows of 65,535 letters; quick: narrower ones
 compare fasta FILE..       both on every record of FASTA files, with intervals, share masked and seconds;
                            before the files, k=K sets k, and letters=N cuts a record after N letters
@@ -70,6 +75,14 @@ fn main() {
         ["contigs", seed, count] => contigs::command(contigs::program, number(seed), number(count)),
         ["questions", "bench"] => return questions::bench(questions_port()),
         ["questions", seed, count] => questions::command(questions_port(), number(seed), number(count)),
+        ["tracks", seed, count] => tracks::command(tracks_port(), number(seed), number(count)),
+        ["tracks", "beds", folder, seed, count] => {
+            return tracks::beds(folder, number(seed), number(count)).unwrap_or_else(|error| stop(&error.to_string()))
+        }
+        ["tracks", "held", folder, seed, count] => {
+            let held = tracks::held(tracks_port(), folder, number(seed), number(count));
+            held.unwrap_or_else(|error| stop(&error.to_string()))
+        }
         ["cases"] => sets::cases(port()),
         ["tables"] => sets::tables(port()),
         ["large"] => sets::large(port(), false),
@@ -95,6 +108,11 @@ fn questions_port() -> questions::Port {
     archive::answer_questions
 }
 
+#[cfg(port)]
+fn tracks_port() -> tracks::Port {
+    archive::join_tracks
+}
+
 #[cfg(not(port))]
 fn port() -> Port {
     stop(WITHOUT_PORT)
@@ -107,6 +125,11 @@ fn copies_port() -> copies::Port {
 
 #[cfg(not(port))]
 fn questions_port() -> questions::Port {
+    stop(WITHOUT_PORT)
+}
+
+#[cfg(not(port))]
+fn tracks_port() -> tracks::Port {
     stop(WITHOUT_PORT)
 }
 

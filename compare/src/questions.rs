@@ -2,6 +2,7 @@
 
 use crate::bench::{median, processor_seconds};
 use crate::generate::Rng;
+use crate::lists::{break_list, list, room, usual};
 
 /// Entries that stand behind each lent buffer and are no part of it.
 pub const GUARD: usize = 4;
@@ -22,11 +23,6 @@ pub struct Request {
 
 /// Something that answers as the C interface does: the number of questions answered, or minus a refusal.
 pub type Port = fn(&mut Request) -> i64;
-
-/// Entries within n and not empty, each with a letter or more before the next.
-fn usual(list: &[[u32; 2]], n: u64) -> bool {
-    list.iter().all(|&[start, end]| start < end && end as u64 <= n) && list.windows(2).all(|two| two[0][1] < two[1][0])
-}
 
 fn bad(n: u64, [kind, a, b]: [u32; 3]) -> bool {
     match kind {
@@ -111,52 +107,6 @@ fn plain(request: &mut Request) -> i64 {
     questions.len() as i64
 }
 
-/// A list of the usual kind in n letters, n below 2^32.
-fn list(rng: &mut Rng, n: u64) -> Vec<[u32; 2]> {
-    let entries = rng.pick(&[0, 1, 2, 3, 8, 40]);
-    let wide = (2 * n / (entries + 1) + 1) as usize;
-    let (gap, length) = rng.pick(&[(1, 1), (1, 3), (3, 3), (40, 3), (3, 40), (wide, wide), (wide, 3), (2000, 2000)]);
-    if entries == 1 && rng.one_in(2) {
-        return (0..n.min(1)).map(|_| [0, n as u32]).collect();
-    }
-    let mut list = Vec::new();
-    let mut from = rng.below(gap) as u64;
-    for _ in 0..entries {
-        let mut end = from + 1 + rng.below(length) as u64;
-        if rng.one_in(6) {
-            end = (end / BLOCK + 1) * BLOCK;
-        }
-        if rng.one_in(20) || end > n {
-            end = n;
-        }
-        if end <= from {
-            break;
-        }
-        list.push([from as u32, end as u32]);
-        from = end + 1 + rng.below(gap) as u64;
-    }
-    list
-}
-
-/// Breaks a list in one of the ways that refusal 16 names.
-fn break_list(rng: &mut Rng, list: &mut [[u32; 2]], n: u64) {
-    let Some(last) = list.len().checked_sub(1) else { return };
-    let i = if rng.one_in(2) { last } else { rng.below(list.len()) };
-    let [start, end] = list[i];
-    let before = i.checked_sub(1);
-    match (rng.below(8), before) {
-        (0, _) => list[i] = [start, start],
-        (1, _) => list[i] = [end, start],
-        (2, _) => list[last][1] = (n + 1).min(u32::MAX as u64) as u32,
-        (3, _) => list[last][1] = u32::MAX,
-        (4, Some(before)) => list.swap(before, i),
-        (5, Some(before)) => list[i][0] = list[before][1],
-        (6, Some(before)) => list[i][0] = list[before][1] - 1,
-        (7, Some(before)) => list[i] = list[before],
-        _ => list[i][1] = start,
-    }
-}
-
 /// A letter or a bound: near an interval's, near a block's, near the ends, or any.
 fn place(rng: &mut Rng, n: u64, list: &[[u32; 2]]) -> u64 {
     let near = match rng.below(6) {
@@ -194,17 +144,6 @@ fn break_question(rng: &mut Rng, n: u64, question: &mut [u32; 3]) {
         6 => [kind.max(1), a, past],
         _ => [kind.max(1), 0, 0],
     };
-}
-
-/// As many entries as asked for, or too few, or more.
-fn room(rng: &mut Rng, asked: u64) -> usize {
-    let asked = asked.min(2_097_152) as usize;
-    match rng.below(10) {
-        0 => asked.saturating_sub(1),
-        1 => rng.below(asked + 1),
-        2 => asked + rng.below(9),
-        _ => asked,
-    }
 }
 
 const LENGTHS: [u64; 12] = [1, 2, 1023, 1024, 1025, 2047, 2048, 2049, 3071, 3072, 20_000, 100_000];

@@ -14,7 +14,7 @@ use Rattle.intervals.proofs.Order.{lt-or-le}
 not-true : false ≡ true → ⊥
 not-true h = let z : _≡_ {A = ℕ} 0 1 = cc in omega arith
 
-or-agrees : (a b : Bool) {P Q : Type 0} → ((a ≡ true) ↔ P) → ((b ≡ true) ↔ Q) → ((a || b) ≡ true) ↔ (P ⊎ Q)
+pub or-agrees : (a b : Bool) {P Q : Type 0} → ((a ≡ true) ↔ P) → ((b ≡ true) ↔ Q) → ((a || b) ≡ true) ↔ (P ⊎ Q)
 or-agrees true b p q = ((λ h. inl (p .0 refl)), (λ h. refl))
 or-agrees false b p q = ((λ h. inr (q .0 h)), (λ h. ⊎-elim (λ c. absurd (not-true (p .1 c))) (λ c. q .1 c) h))
 
@@ -54,9 +54,9 @@ covers-at (i ∷ is) zero x h c = inl c
 covers-at (i ∷ is) (suc j) x h c = inr (covers-at is j x (omega arith) c)
 
 module _ (is : List Interval) (a : ℕ) where
-  in-more : (b : ℕ) → a ≤ b → coveredIn is a (suc b) ≡ coveredIn is a b + cond (covered is b) 1 0
+  pub covered-more : (b : ℕ) → a ≤ b → coveredIn is a (suc b) ≡ coveredIn is a b + cond (covered is b) 1 0
   unfolding coveredIn
-  in-more b h = rw (le-leb a b h)
+  covered-more b h = rw (le-leb a b h)
 
   -- A stretch of no letters.
   pub covered-empty : (b : ℕ) → b ≤ a → coveredIn is a b ≡ 0
@@ -70,7 +70,7 @@ module _ (is : List Interval) (a : ℕ) where
       ⊎-elim
       (λ gt. covered-empty (suc b) (omega arith) ∙ omega arith)
       (λ le.
-      let e = in-more b le in
+      let e = covered-more b le in
       let t = covered-agrees is b .1 (c b le (omega arith)) in
       let ih = covered-all b le (λ x l m. c x l (omega arith)) in
       rw (e, t, ih) (omega arith))
@@ -82,7 +82,7 @@ module _ (is : List Interval) (a : ℕ) where
       ⊎-elim
       (λ gt. covered-empty (suc b) (omega arith))
       (λ le.
-      let e = in-more b le in
+      let e = covered-more b le in
       let t : covered is b ≡ false =
       same-test (covered is b) false (λ h. absurd (c b le (omega arith) (covered-agrees is b .0 h))) (λ h. absurd (not-true h)) in
       let ih = covered-none b (λ x l m. c x l (omega arith)) in
@@ -94,7 +94,7 @@ module _ (is : List Interval) (a : ℕ) where
   covered-at-most (suc b) =
       ⊎-elim
       (λ gt. omega (arith, covered-empty (suc b) (omega arith)))
-      (λ le. omega (arith, in-more b le, covered-at-most b, at-most-one (covered is b)))
+      (λ le. omega (arith, covered-more b le, covered-at-most b, at-most-one (covered is b)))
       (lt-or-le b a)
     where
       at-most-one : (t : Bool) → cond t 1 0 ≤ 1
@@ -109,7 +109,7 @@ covered-split is a m zero h l =
 covered-split is a m (suc b) h l =
     ⊎-elim
     (λ gt. let q : m ≡ suc b = omega arith in rw (q, covered-empty is (suc b) (suc b) (omega arith)) (omega arith))
-    (λ le. omega (arith, in-more is a b (omega arith), in-more is m b le, covered-split is a m b h le))
+    (λ le. omega (arith, covered-more is a b (omega arith), covered-more is m b le, covered-split is a m b h le))
     (lt-or-le b m)
 
 -- Lists that cover the same letters of a stretch cover equally many.
@@ -120,10 +120,10 @@ covered-equal is js a (suc b) e =
     ⊎-elim
     (λ gt. covered-empty is a (suc b) (omega arith) ∙ sym (covered-empty js a (suc b) (omega arith)))
     (λ le.
-    in-more is a b le
+    covered-more is a b le
     ∙ ap₂ (λ (n : ℕ) (t : Bool). n + cond t 1 0) (covered-equal is js a b (λ x l m. e x l (omega arith)))
     (covered-same is js b (e b le (omega arith)))
-    ∙ sym (in-more js a b le))
+    ∙ sym (covered-more js a b le))
     (lt-or-le b a)
 
 -- An interval of the list, its own letters.

@@ -40,7 +40,7 @@ module _ (x : ℕ) where
   interleave-covers [] js = ((λ h. inr h), (λ h. ⊎-elim (λ c. absurd c) (λ c. c) h))
   interleave-covers (i ∷ is) js = insert-covers i (interleave is) is (interleave-covers is) js
 
-  nonempty-covers : (s e : ℕ) → Covers (nonempty s e) x ↔ Holds (interval s e) x
+  pub nonempty-covers : (s e : ℕ) → Covers (nonempty s e) x ↔ Holds (interval s e) x
   nonempty-covers s e =
       ⊎-elim
       (λ lt. rw (nonempty-some s e lt) ((λ h. ⊎-elim (λ c. c) (λ c. absurd c) h), (λ h. inl h)))

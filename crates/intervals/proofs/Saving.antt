@@ -35,7 +35,7 @@ ends-above n k lo (j ∷ js) a (suc i) h = omega (arith, ends-above n k (j .end 
 
 -- One step of a save to an ascending list.
 module _ (n k lo s e : ℕ) (i : Interval) (is : List Interval) (a : Ascending n k lo (i ∷ is)) where
-  save-touch : s ≤ i .end → save (i ∷ is) s e ≡ interval (min s (i .start)) (max e (i .end)) ∷ []
+  pub save-touch : s ≤ i .end → save (i ∷ is) s e ≡ interval (min s (i .start)) (max e (i .end)) ∷ []
   unfolding save
   save-touch h = rw (staying-none (i ∷ is) s (length (i ∷ is)) all)
     where
@@ -43,7 +43,7 @@ module _ (n k lo s e : ℕ) (i : Interval) (is : List Interval) (a : Ascending n
       all zero l = h
       all (suc j) l = omega (arith, ends-above n k (i .end + 1) is (a .3) j (omega arith))
 
-  save-past : i .end < s → save (i ∷ is) s e ≡ i ∷ save is s e
+  pub save-past : i .end < s → save (i ∷ is) s e ≡ i ∷ save is s e
   unfolding save
   save-past h = rw (staying-first i is s (length is) h)
 

@@ -68,8 +68,11 @@ range m = interval (m .start) (m .end)
 abbrev pub ranges : List Marked → List Interval
 ranges ms = map range ms
 
+abbrev pub byteOf : Bool → Bool → ℕ
+byteOf f r = cond f (cond r 3 1) (cond r 2 0)
+
 abbrev pub markOf : Marked → ℕ
-markOf m = cond (m .forward) (cond (m .reverse) 3 1) (cond (m .reverse) 2 0)
+markOf m = byteOf (m .forward) (m .reverse)
 
 abbrev pub marksOf : List Marked → List ℕ
 marksOf ms = map markOf ms

@@ -1,3 +1,4 @@
 pub mod Saved
 pub mod Pick
 pub mod Bounds
+pub mod Leading

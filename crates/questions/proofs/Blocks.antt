@@ -14,7 +14,8 @@ use Rattle.intervals.proofs.Order.{lt-or-le}
 use Rattle.intervals.proofs.Counted.{covered-empty, covered-none, covered-split, covered-at-most}
 use Rattle.questions.specs.Batch.{blocks, block, summaryOf}
 use Rattle.questions.specs.Promised.{Usual, total}
-use Rattle.questions.specs.Terms.Found.{endsBy, firstPast, IsFirstPast, Summed}
+use Rattle.intervals.specs.Terms.Leading.{endsBy}
+use Rattle.questions.specs.Terms.Found.{firstPast, IsFirstPast, Summed}
 use Rattle.questions.specs.Terms.Walked.{Walks}
 use Rattle.questions.specs.declared.Walked.{Walked}
 use Rattle.questions.proofs.Ordered.{nonempty-at}

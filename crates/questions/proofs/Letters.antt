@@ -11,7 +11,8 @@ use Rattle.intervals.specs.Interval.{Interval, interval, Holds, Covers, covered
 use Rattle.intervals.proofs.Shape.{covers-above}
 use Rattle.intervals.proofs.Counted.{and-agrees, leb-agrees, ltb-agrees, covered-agrees, covered-none}
 use Rattle.questions.specs.Answers.{inside}
-use Rattle.questions.specs.Terms.Found.{leading, endsBy, firstPast}
+use Rattle.intervals.specs.Terms.Leading.{leading, endsBy}
+use Rattle.questions.specs.Terms.Found.{firstPast}
 use Rattle.questions.proofs.Ordered.{at}
 
 inside-more : (a b : ℕ) (i : Interval) → inside a (suc b) i ≡ inside a b i + cond (leb a b && (leb (i .start) b && ltb b (i .end))) 1 0

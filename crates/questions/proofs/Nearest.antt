@@ -13,7 +13,8 @@ use Rattle.intervals.specs.Interval.{Interval}
 use Rattle.intervals.proofs.Order.{lt-or-le}
 use Rattle.questions.specs.Answers.{answer, between, nearestIndex, nearest}
 use Rattle.questions.specs.Promised.{Usual, distance, Nearest}
-use Rattle.questions.specs.Terms.Found.{endsBy, firstPast}
+use Rattle.intervals.specs.Terms.Leading.{endsBy}
+use Rattle.questions.specs.Terms.Found.{firstPast}
 use Rattle.questions.proofs.Ordered.{at, nonempty-at, apart-at}
 use Rattle.questions.proofs.Searching.{leading-le, past-yes, past-no}
 

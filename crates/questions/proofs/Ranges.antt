@@ -13,7 +13,8 @@ use Rattle.intervals.proofs.Counted.{and-agrees, leb-agrees, ltb-agrees}
 use Rattle.intervals.proofs.Order.{lt-or-le}
 use Rattle.questions.specs.Answers.{answer, none, indices, firstAndCount, within, inside, partly}
 use Rattle.questions.specs.Promised.{Usual, consecutive}
-use Rattle.questions.specs.Terms.Found.{endsBy, beginsBefore, firstPast, firstFrom}
+use Rattle.intervals.specs.Terms.Leading.{endsBy}
+use Rattle.questions.specs.Terms.Found.{beginsBefore, firstPast, firstFrom}
 use Rattle.questions.proofs.Ordered.{at, nonempty-at, apart-at}
 use Rattle.questions.proofs.Searching.{leading-le, past-yes, past-no, from-yes, from-no}
 use Rattle.questions.proofs.Indices.{indices-are, indices-two}

@@ -13,7 +13,8 @@ use Rattle.intervals.proofs.Order.{lt-or-le}
 use Rattle.intervals.proofs.Shape.{canonical-size}
 use Rattle.intervals.proofs.Slice.{length-list, list-at}
 use Rattle.questions.specs.Promised.{Usual}
-use Rattle.questions.specs.Terms.Found.{leading, endsBy, beginsBefore, firstPast, firstFrom, IsFirstPast}
+use Rattle.intervals.specs.Terms.Leading.{leading, endsBy}
+use Rattle.questions.specs.Terms.Found.{beginsBefore, firstPast, firstFrom, IsFirstPast}
 use Rattle.questions.proofs.Ordered.{at, nonempty-at, apart-at}
 
 module _ (p : Interval → Bool) where

@@ -12,7 +12,8 @@ use Rattle.intervals.proofs.Slice.{length-list, list-at}
 use Rattle.intervals.proofs.Counted.{covered-at-most}
 use Rattle.questions.specs.Answers.{inside}
 use Rattle.questions.specs.Promised.{Usual}
-use Rattle.questions.specs.Terms.Found.{endsBy, firstPast, IsFirstPast}
+use Rattle.intervals.specs.Terms.Leading.{endsBy}
+use Rattle.questions.specs.Terms.Found.{firstPast, IsFirstPast}
 use Rattle.questions.specs.Terms.Walked.{Walks}
 use Rattle.questions.proofs.Ordered.{at}
 use Rattle.questions.proofs.Searching.{leading-le, past-yes, past-no, usual-few}

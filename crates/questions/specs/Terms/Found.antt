@@ -1,27 +1,20 @@
 -- Terms of contracts: where a search stands in a list; a summary of its letters up to b.
-use Prim.Native.Nat.{ℕ, suc, _/_, _≤_, _<_}
+use Prim.Native.Nat.{ℕ, _/_, _≤_, _<_}
 use mathlib.Core.Path.{_≡_}
-use mathlib.Core.Bool.{Bool, cond}
-use mathlib.Core.List.{List, [], _∷_}
-use lib.Dec.{ltb, leb}
+use mathlib.Core.Bool.{Bool}
+use mathlib.Core.List.{List, []}
+use lib.Dec.{ltb}
 use lib.ListN.{length, getD}
 use Rattle.intervals.specs.Interval.{Interval}
+use Rattle.intervals.specs.Terms.Leading.{leading, ended}
 use Rattle.questions.specs.Batch.{block, kindOf, fromOf, toOf}
-
--- How many at the front pass a test.
-unfoldable pub leading : (Interval → Bool) → List Interval → ℕ
-leading p [] = 0
-leading p (i ∷ is) = cond (p i) (suc (leading p is)) 0
-
-abbrev pub endsBy : ℕ → Interval → Bool
-endsBy x i = leb (i .end) x
 
 abbrev pub beginsBefore : ℕ → Interval → Bool
 beginsBefore x i = ltb (i .start) x
 
 -- The index of the first interval whose end lies past x, and of the first that begins at x or later.
 abbrev pub firstPast : List Interval → ℕ → ℕ
-firstPast is x = leading (endsBy x) is
+firstPast is x = ended is x
 
 abbrev pub firstFrom : List Interval → ℕ → ℕ
 firstFrom is x = leading (beginsBefore x) is

@@ -1,0 +1,11 @@
+pub mod Every
+pub mod Stretches
+pub mod Theorems
+pub mod Room
+pub mod Marks
+pub mod Sides
+pub mod Pieces
+pub mod Examples
+pub mod PieceSteps
+pub mod SweepSteps
+pub mod Refusals

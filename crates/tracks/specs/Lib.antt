@@ -1,0 +1,4 @@
+pub mod Stretches
+pub mod Tracks
+pub mod Promised
+pub mod Terms
