@@ -1,0 +1,91 @@
+// The strongest stretch at a letter: of the stretches up to a place, the one that scores highest, read backward within a budget of steps.
+
+mod places;
+mod refusals;
+mod scores;
+
+ghost use mathlib.Core.Path.{_≡_};
+ghost use Rattle.strongest.specs.Call.{asked, Answers};
+use crate::places::clear_counts;
+use crate::places::smaller;
+use crate::refusals::check;
+use crate::refusals::largest;
+use crate::scores::difference;
+use crate::scores::excess;
+use crate::scores::gap_of;
+use crate::scores::read_back;
+use letters::encode_sequence;
+use letters::n_kmers;
+
+// The refusal number and zeros; or 0, the first place of the best stretch read, its score, the steps made, and the gap.
+pub struct Strongest {
+    pub refusal: u32,
+    pub start: usize,
+    pub score: i64,
+    pub steps: usize,
+    pub gap: u64,
+}
+
+// Of the stretches up to `place`, at most `budget` of them, the best one, and by how much those unread can be better.
+pub fn strongest_stretch(
+    sequence: &[u8],
+    kmer: usize,
+    window_size: usize,
+    place: usize,
+    budget: usize,
+    threshold: u64,
+    ln: &[u64],
+    f: &[u64],
+    codes: &mut [u8],
+    scan_counts: &mut [u16],
+) -> Strongest
+    ensures { λ r. ⌜ Answers
+        (asked (now (sequence .entry)) kmer «window_size» place budget threshold (now (ln .entry)) (now (f .entry)))
+        (now (codes .entry)) (now (codes .exit)) (now («scan_counts» .entry)) (now («scan_counts» .exit)) r ⌝ }
+{
+    let refusal = check(
+        sequence,
+        kmer,
+        window_size,
+        place,
+        budget,
+        threshold,
+        ln,
+        f,
+        codes.len(),
+        scan_counts.len(),
+    );
+    if refusal != 0 {
+        return Strongest {
+            refusal,
+            start: 0,
+            score: 0,
+            steps: 0,
+            gap: 0,
+        };
+    }
+    let end = place + 1;
+    let available = smaller(window_size, end);
+    let steps = smaller(budget, available);
+    let from = end - smaller(steps + kmer - 1, end);
+    encode_sequence(&sequence[from..end], codes);
+    let size = n_kmers(kmer);
+    clear_counts(&codes[..end - from], kmer, steps, &mut scan_counts[..size]);
+    let reading = read_back(
+        &codes[..end - from],
+        kmer,
+        steps,
+        threshold,
+        ln,
+        f,
+        &mut scan_counts[..size],
+    );
+    let rise = excess(largest(ln, window_size), threshold);
+    Strongest {
+        refusal: 0,
+        start: end - reading.best.size,
+        score: difference(reading.best.gain, reading.best.loss),
+        steps,
+        gap: gap_of(reading, steps, available - steps, rise, threshold),
+    }
+}
