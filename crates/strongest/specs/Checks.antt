@@ -8,15 +8,13 @@ use Rattle.checks.specs.Checks.{Check, check, first}
 use Rattle.checks.specs.Tests.{kmerOutside, anyHigh, anyOther, tooFewLetters, windowBelow, windowAbove, tooManyLetters}
 use Rattle.strongest.specs.Strongest.{Asked, largest}
 
--- A lent buffer is shorter than listed; the buffers for codes and for scan counts have so many entries.
-abbrev pub tooShort : Asked → ℕ → ℕ → Bool
-tooShort Q codes-len counts-len =
-    ltb (length (Q .ln)) (Q .window-size + 1) || ltb (length (Q .f)) (Q .window-size + 2)
-    || ltb codes-len (length (Q .sequence)) || ltb counts-len (4 ^ (Q .kmer))
+-- A lent buffer is shorter than listed; the tables and the buffers for codes and scan counts have so many entries.
+unfoldable pub tooShort : ℕ → ℕ → ℕ → ℕ → ℕ → ℕ → ℕ → Bool
+tooShort n k w ln-len f-len codes-len counts-len = ltb ln-len (w + 1) || ltb f-len (w + 2) || ltb codes-len n || ltb counts-len (4 ^ k)
 
--- T or a table entry of 1..w is outside its width: ln and T below 2^36, f below 2^52.
-abbrev pub tooWide : Asked → Bool
-tooWide Q = leb (2 ^ 36) (Q .threshold) || leb (2 ^ 36) (largest (Q .ln) (Q .window-size)) || leb (2 ^ 52) (largest (Q .f) (Q .window-size))
+-- T or a table entry of 1..w is outside its width: T and ln below 2^36, f below 2^52.
+unfoldable pub tooWide : ℕ → ℕ → List ℕ → List ℕ → Bool
+tooWide w t ln f = leb (2 ^ 36) t || leb (2 ^ 36) (largest ln w) || leb (2 ^ 52) (largest f w)
 
 abbrev pub checks : Asked → ℕ → ℕ → List Check
 checks Q codes-len counts-len =
@@ -30,10 +28,10 @@ checks Q codes-len counts-len =
     ∷ check 4 (windowBelow w k)  -- w is below k + 1.
     ∷ check 5 (windowAbove w)  -- w is above 65,535.
     ∷ check 10 (tooManyLetters n)  -- n is above 2,147,483,647.
-    ∷ check 11 (tooShort Q codes-len counts-len)  -- A lent buffer is shorter than listed.
+    ∷ check 11 (tooShort n k w (length (Q .ln)) (length (Q .f)) codes-len counts-len)  -- A lent buffer is shorter than listed.
     ∷ check 18 (eqb (Q .budget) 0)  -- A budget of 0.
     ∷ check 19 (not (ltb (Q .place) n))  -- b is not below n.
-    ∷ check 20 (tooWide Q)  -- T or a table entry of 1..w is outside its width.
+    ∷ check 20 (tooWide w (Q .threshold) (Q .ln) (Q .f))  -- T or a table entry of 1..w is outside its width.
     ∷ []
 
 -- The number of the first check that fails; 0 if none does.

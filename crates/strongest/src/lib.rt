@@ -5,11 +5,15 @@ mod refusals;
 mod scores;
 
 ghost use mathlib.Core.Path.{_≡_};
+ghost use Prim.Native.Nat.{_^_, _≤_, _<_};
+ghost use lib.ListN.{length};
 ghost use Rattle.strongest.specs.Call.{asked, Answers};
+ghost use Rattle.strongest.specs.Terms.Reading.{Narrow, ReadsPlaces};
 use crate::places::clear_counts;
 use crate::places::smaller;
 use crate::refusals::check;
 use crate::refusals::largest;
+use crate::scores::Reading;
 use crate::scores::difference;
 use crate::scores::excess;
 use crate::scores::gap_of;
@@ -24,6 +28,39 @@ pub struct Strongest {
     pub score: i64,
     pub steps: usize,
     pub gap: u64,
+}
+
+// Reads the last `steps` places before letter `end`: encodes the letters that they need, sets their counts to 0, and judges their stretches.
+fn read_places(
+    sequence: &[u8],
+    kmer: usize,
+    end: usize,
+    steps: usize,
+    threshold: u64,
+    ln: &[u64],
+    f: &[u64],
+    codes: &mut [u8],
+    scan_counts: &mut [u16],
+) -> Reading
+    requires { ⌜ (0 < kmer) × (kmer ≤ 12) × (0 < steps) × (steps ≤ end) × (steps ≤ 65535) × (end ≤ length (now sequence))
+        × (length (now sequence) ≤ length (now codes)) × (4 ^ kmer ≤ length (now «scan_counts»)) ⌝ }
+    requires { ⌜ Narrow threshold (now ln) (now f) steps ⌝ }
+    ensures { λ r. ⌜ ReadsPlaces (now (sequence .entry)) kmer end steps threshold (now (ln .entry)) (now (f .entry)) r
+        (now (codes .entry)) (now (codes .exit)) (now («scan_counts» .entry)) (now («scan_counts» .exit)) ⌝ }
+{
+    let m = smaller(steps + kmer - 1, end);
+    encode_sequence(&sequence[end - m..end], codes);
+    let size = n_kmers(kmer);
+    clear_counts(&codes[..m], kmer, steps, &mut scan_counts[..size]);
+    read_back(
+        &codes[..m],
+        kmer,
+        steps,
+        threshold,
+        ln,
+        f,
+        &mut scan_counts[..size],
+    )
 }
 
 // Of the stretches up to `place`, at most `budget` of them, the best one, and by how much those unread can be better.
@@ -67,18 +104,16 @@ pub fn strongest_stretch(
     let end = place + 1;
     let available = smaller(window_size, end);
     let steps = smaller(budget, available);
-    let from = end - smaller(steps + kmer - 1, end);
-    encode_sequence(&sequence[from..end], codes);
-    let size = n_kmers(kmer);
-    clear_counts(&codes[..end - from], kmer, steps, &mut scan_counts[..size]);
-    let reading = read_back(
-        &codes[..end - from],
+    let reading = read_places(
+        sequence,
         kmer,
+        end,
         steps,
         threshold,
         ln,
         f,
-        &mut scan_counts[..size],
+        codes,
+        scan_counts,
     );
     let rise = excess(largest(ln, window_size), threshold);
     Strongest {

@@ -3,7 +3,7 @@
 ghost use mathlib.Core.Path.{_≡_};
 ghost use Prim.Native.Nat.{max};
 ghost use Rattle.strongest.specs.Strongest.{largest};
-ghost use Rattle.strongest.specs.Checks.{refusal};
+ghost use Rattle.strongest.specs.Checks.{tooShort, tooWide, refusal};
 ghost use Rattle.strongest.specs.Call.{asked};
 use checks::below_sum;
 use checks::find_bytes;
@@ -43,6 +43,30 @@ pub fn largest(table: &[u64], w: usize) -> u64
     most
 }
 
+// A lent buffer is shorter than listed.
+fn too_short(
+    n: usize,
+    kmer: usize,
+    window_size: usize,
+    ln_len: usize,
+    f_len: usize,
+    codes_len: usize,
+    counts_len: usize,
+) -> bool
+    ensures { λ r. ⌜ r ≡ tooShort n kmer «window_size» «ln_len» «f_len» «codes_len» «counts_len» ⌝ }
+{
+    let short_tables = below_sum(ln_len, window_size, 1) | below_sum(f_len, window_size, 2);
+    short_tables | (codes_len < n) | below_n_kmers(counts_len, kmer)
+}
+
+// T or an entry of 1..w is outside its width.
+fn too_wide(window_size: usize, threshold: u64, ln: &[u64], f: &[u64]) -> bool
+    ensures { λ r. ⌜ r ≡ tooWide «window_size» threshold (now (ln .entry)) (now (f .entry)) ⌝ }
+{
+    let wide_ln = LN_WIDTH <= largest(ln, window_size);
+    (LN_WIDTH <= threshold) | wide_ln | (F_WIDTH <= largest(f, window_size))
+}
+
 // The number of the first check that fails, 0 if none does.
 pub fn check(
     sequence: &[u8],
@@ -62,11 +86,16 @@ pub fn check(
 {
     let n = sequence.len();
     let found = find_bytes(sequence);
-    let short_tables = below_sum(ln.len(), window_size, 1) | below_sum(f.len(), window_size, 2);
-    let too_short = short_tables | (codes_len < n) | below_n_kmers(counts_len, kmer);
-    let too_wide = (LN_WIDTH <= threshold)
-        | (LN_WIDTH <= largest(ln, window_size))
-        | (F_WIDTH <= largest(f, window_size));
+    let short = too_short(
+        n,
+        kmer,
+        window_size,
+        ln.len(),
+        f.len(),
+        codes_len,
+        counts_len,
+    );
+    let wide = too_wide(window_size, threshold, ln, f);
     let r = next_check(0, 1, kmer_outside(kmer));
     let r = next_check(r, 2, found.high);
     let r = next_check(r, 13, found.other);
@@ -74,8 +103,8 @@ pub fn check(
     let r = next_check(r, 4, window_below(window_size, kmer));
     let r = next_check(r, 5, window_above(window_size));
     let r = next_check(r, 10, too_many_letters(n));
-    let r = next_check(r, 11, too_short);
+    let r = next_check(r, 11, short);
     let r = next_check(r, 18, budget == 0);
     let r = next_check(r, 19, !(place < n));
-    next_check(r, 20, too_wide)
+    next_check(r, 20, wide)
 }

@@ -4,8 +4,7 @@ ghost use mathlib.Core.Path.{_≡_};
 ghost use Prim.Native.Nat.{_+_, _-_, _*_, _≤_, _<_};
 ghost use lib.IntN.{pos, _-ℤ_};
 ghost use lib.ListN.{length};
-ghost use Rattle.strongest.specs.Strongest.{largest};
-ghost use Rattle.strongest.specs.Terms.Reading.{nothing, judged, gapOf, Known, Reads};
+ghost use Rattle.strongest.specs.Terms.Reading.{Narrow, nothing, judged, gapOf, Known, Reads};
 use crate::places::count_back;
 
 // A stretch: its number of places, the ln entries that it gains, and what it loses, T for each place and its f.
@@ -63,9 +62,8 @@ pub fn read_back(
     f: &[u64],
     counts: &mut [u16],
 ) -> Reading
-    requires { ⌜ (0 < kmer) × (kmer ≤ 12) × (steps ≤ length (now letters)) × (steps ≤ 65535) × (steps < length (now ln))
-        × (steps < length (now f)) ⌝ }
-    requires { ⌜ (threshold < 68719476736) × (largest (now ln) steps < 68719476736) × (largest (now f) steps < 4503599627370496) ⌝ }
+    requires { ⌜ (0 < kmer) × (kmer ≤ 12) × (steps ≤ length (now letters)) × (steps ≤ 65535) ⌝ }
+    requires { ⌜ Narrow threshold (now ln) (now f) steps ⌝ }
     requires { ⌜ Known kmer (now letters) steps 0 (now counts) ⌝ }
     ensures { λ r. ⌜ Reads kmer threshold (now (ln .entry)) (now (f .entry)) (now (letters .entry)) steps r ⌝ }
 {

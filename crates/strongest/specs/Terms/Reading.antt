@@ -1,16 +1,18 @@
 -- Terms of contracts: the places of a strand cs read backward from its last letter, and what a search knows after some of them.
-use Prim.Native.Nat.{ℕ, zero, suc, _+_, _-_, _*_, _^_, _≤_, _<_}
+use Prim.Native.Nat.{ℕ, zero, suc, _+_, _-_, _*_, _^_, _≤_, _<_, min}
 use mathlib.Core.Path.{_≡_}
 use mathlib.Core.Bool.{cond, _||_}
 use mathlib.Core.List.{List, [], _∷_}
 use lib.Dec.{ltb, eqb}
-use lib.ListN.{length, getD, set}
+use lib.ListN.{length, getD, set, take, drop}
 use lib.IntN.{ℤ, pos, _+ℤ_, _-ℤ_}
+use Rattle.buffers.specs.Free.{Free}
+use Rattle.letters.specs.Code.{codes}
 use Rattle.letters.specs.Place.{Place, ambiguous, plain, placeAt}
 use Rattle.scans.specs.Counts.{count}
 use Rattle.scans.specs.Score.{lnSums}
-use Rattle.strongest.specs.declared.Scored.{Scored}
-use Rattle.strongest.specs.declared.Reading.{Reading}
+use Rattle.strongest.specs.declared.scores.Scored.{Scored}
+use Rattle.strongest.specs.declared.scores.Reading.{Reading}
 use Rattle.strongest.specs.Strongest.{entry, scoreOf, bestOf, largest}
 
 -- Place i, counted back from the last.
@@ -57,6 +59,14 @@ judged r size value loss =
 abbrev pub scoresBack : ℕ → ℕ → List ℕ → List ℕ → List ℕ → ℕ → ℤ
 scoresBack k t ln f cs l = scoreOf k t ln f (backTo k cs l)
 
+-- T and the entries 1..steps of both tables have their widths.
+pub record Narrow (t : ℕ) (ln f : List ℕ) (steps : ℕ) : Type 0 where
+  pub ln-long : steps < length ln
+  pub f-long : steps < length f
+  pub t-small : t < 68719476736
+  pub ln-small : largest ln steps < 68719476736
+  pub f-small : largest f steps < 4503599627370496
+
 -- The last l places were read.
 pub record Reads (k t : ℕ) (ln f cs : List ℕ) (l : ℕ) (r : Reading) : Type 0 where
   pub gain : lnSums (entry ln) (4 ^ k) (backTo k cs l) ≡ pos (r .gain)
@@ -65,6 +75,19 @@ pub record Reads (k t : ℕ) (ln f cs : List ℕ) (l : ℕ) (r : Reading) : Type
   pub gain-small : r .gain ≤ l * 68719476736
   pub best-small : r .best .gain ≤ l * 68719476736
   pub loss-small : r .best .loss < 9007199254740992
+
+-- The codes of the letters before `end` that the last `steps` places need.
+abbrev pub needed : ℕ → ℕ → ℕ → ℕ
+needed k end steps = min (steps + k - 1) end
+
+abbrev pub codesRead : List ℕ → ℕ → ℕ → ℕ → List ℕ
+codesRead s k end steps = codes (take (needed k end steps) (drop (end - needed k end steps) s))
+
+-- The last `steps` places before letter `end` were read; the buffers hold free content within the listed sizes.
+pub record ReadsPlaces (s : List ℕ) (k end steps t : ℕ) (ln f : List ℕ) (r : Reading) (cs cs′ counts counts′ : List ℕ) : Type 0 where
+  pub reads : Reads k t ln f (codesRead s k end steps) steps r
+  pub codes : Free (length s) cs cs′
+  pub scan-counts : Free (4 ^ k) counts counts′
 
 abbrev pub gapOf : Reading → ℕ → ℕ → ℕ → ℕ → ℕ
 gapOf r steps unread rise t = cond (eqb unread 0) 0 (r .gain + unread * rise + r .best .loss - (steps * t + r .best .gain))

@@ -1,50 +1,37 @@
+-- `largest` meets its contract: after entry i - 1 it has the largest of those before i.
+use mathlib.Core.Path.{_≡_, refl, sym, ap, _∙_}
+use Prim.Native.Nat.{ℕ, _+_, _-_, _≤_, _<_, max}
+use native.Mathlib.Omega.{arith}
+use borrow.Author.Needs.{needs}
+use lib.ListN.{length}
+use Rattle.strongest.specs.Strongest.{largest}
+use Rattle.strongest.proofs.Largest.{largest-none, largest-next, largest-past}
 use Rattle.strongest.proofs.refusals.largest.Statement.{statement}
 use Rattle.strongest.proofs.refusals.largest.Tie as tie
-use Rattle.strongest.proofs.refusals.largest.Reads as reads
-use Rattle.strongest.proofs.refusals.largest.Lts as lts
-use Rattle.strongest.proofs.refusals.larger.Reads as larger-reads
 
 abbrev Inv-loop : tie.InvT-loop
-Inv-loop table w most₀ i₀ most i = ?
+Inv-loop table w most₀ i₀ most i = (0 < i) × (i ≤ w + 1) × (most ≡ largest table (i - 1))
 
 abbrev μ-loop : tie.MeasureT-loop
-μ-loop table w most₀ i₀ most i = ?
+μ-loop table w most₀ i₀ most i = length table - i
 
--- src/refusals.rt:36:5
 loop-holds : tie.Need-loop-holds Inv-loop μ-loop
-loop-holds c = ?
+loop-holds c = (omega arith, omega arith, sym (largest-none _))
 
--- src/refusals.rt:38:13
 returns : tie.Need-returns Inv-loop μ-loop
-returns c = ?
+returns c =
+    let g = c .before .before .loop in
+    g .inv .2 ∙ ap (largest (c .before .before .before .before .args .table .now)) (let e : g .i - 1 ≡ c .before .before .before .before .args .w = omega (arith, g .inv .1, c .if1 .taken) in e)
 
--- src/refusals.rt:40:29
-mul-larger : tie.Need-mul-larger Inv-loop μ-loop
-mul-larger c = ?
-
--- src/refusals.rt:40:29
-shared-slice-read-larger : tie.Need-shared-slice-read-larger Inv-loop μ-loop
-shared-slice-read-larger c = ?
-
--- src/refusals.rt:40:9
-larger-requires : tie.Need-larger-requires Inv-loop μ-loop
-larger-requires c κs = ?
-
--- src/refusals.rt:41:9
-add-i : tie.Need-add-i Inv-loop μ-loop
-add-i c = ?
-
--- src/refusals.rt:36:5
-loop-less : tie.Need-loop-less Inv-loop μ-loop
-loop-less c = ?
-
--- src/refusals.rt:36:5
 loop-again : tie.Need-loop-again Inv-loop μ-loop
-loop-again c = ?
+loop-again c =
+    let g = c .before .before .before .before .loop in
+    (omega arith, omega arith, c .larger .ensures ∙ largest-next _ (g .i) (g .most) (g .inv .0) (g .inv .2))
 
--- src/refusals.rt:31:1
 returns-2 : tie.Need-returns-2 Inv-loop μ-loop
-returns-2 c = ?
+returns-2 c =
+    let g = c .before .loop in
+    g .inv .2 ∙ largest-past _ (g .i - 1) _ (omega arith) (omega arith)
 
 pub largest-spec : {M : Type 1} → statement M
 largest-spec =
@@ -54,10 +41,10 @@ largest-spec =
     μ-loop
     loop-holds
     returns
-    mul-larger
-    shared-slice-read-larger
-    larger-requires
-    add-i
-    loop-less
+    (λ c. search needs)
+    (λ c. search needs)
+    (λ c κs. search needs)
+    (λ c. search needs)
+    (λ c. search needs)
     loop-again
     returns-2)
