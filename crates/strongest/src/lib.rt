@@ -9,7 +9,6 @@ ghost use Prim.Native.Nat.{_^_, _≤_, _<_};
 ghost use lib.ListN.{length};
 ghost use Rattle.strongest.specs.Call.{asked, Answers};
 ghost use Rattle.strongest.specs.Terms.Reading.{Narrow, ReadsPlaces};
-use crate::places::clear_counts;
 use crate::places::smaller;
 use crate::refusals::check;
 use crate::refusals::largest;
@@ -17,7 +16,7 @@ use crate::scores::Reading;
 use crate::scores::difference;
 use crate::scores::excess;
 use crate::scores::gap_of;
-use crate::scores::read_back;
+use crate::scores::search_back;
 use letters::encode_sequence;
 use letters::n_kmers;
 
@@ -51,8 +50,7 @@ fn read_places(
     let m = smaller(steps + kmer - 1, end);
     encode_sequence(&sequence[end - m..end], codes);
     let size = n_kmers(kmer);
-    clear_counts(&codes[..m], kmer, steps, &mut scan_counts[..size]);
-    read_back(
+    search_back(
         &codes[..m],
         kmer,
         steps,

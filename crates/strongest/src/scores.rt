@@ -1,10 +1,11 @@
 // The stretches read, each judged against the best so far, in whole numbers that stay below 2^54.
 
 ghost use mathlib.Core.Path.{_≡_};
-ghost use Prim.Native.Nat.{_+_, _-_, _*_, _≤_, _<_};
+ghost use Prim.Native.Nat.{_+_, _-_, _*_, _^_, _≤_, _<_};
 ghost use lib.IntN.{pos, _-ℤ_};
 ghost use lib.ListN.{length};
 ghost use Rattle.strongest.specs.Terms.Reading.{Narrow, nothing, judged, gapOf, Known, Reads};
+use crate::places::clear_counts;
 use crate::places::count_back;
 
 // A stretch: its number of places, the ln entries that it gains, and what it loses, T for each place and its f.
@@ -75,6 +76,24 @@ pub fn read_back(
         reading = reading.judged(l, value, (l as u64) * threshold + f[l]);
     }
     reading
+}
+
+// The same, whatever the counts hold: those of the places are set to 0 first.
+pub fn search_back(
+    letters: &[u8],
+    kmer: usize,
+    steps: usize,
+    threshold: u64,
+    ln: &[u64],
+    f: &[u64],
+    counts: &mut [u16],
+) -> Reading
+    requires { ⌜ (0 < kmer) × (kmer ≤ 12) × (steps ≤ length (now letters)) × (steps ≤ 65535) × (length (now counts) ≡ 4 ^ kmer) ⌝ }
+    requires { ⌜ Narrow threshold (now ln) (now f) steps ⌝ }
+    ensures { λ r. ⌜ Reads kmer threshold (now (ln .entry)) (now (f .entry)) (now (letters .entry)) steps r ⌝ }
+{
+    clear_counts(letters, kmer, steps, counts);
+    read_back(letters, kmer, steps, threshold, ln, f, counts)
 }
 
 // a - b, or 0 where b is larger.
