@@ -6,3 +6,6 @@ pub mod Counting
 pub mod Reading
 pub mod Admitting
 pub mod Answers
+pub mod Unread
+pub mod Theorems
+pub mod Examples

@@ -49,15 +49,15 @@ is-lt x y a b c d h k =
     (λ t. ltb→lt (a + d) (c + b) (subst (λ (z : Bool). T z) e (t .lt)), λ l. record { lt = subst (λ (z : Bool). T z) (sym e) (lt→ltb (a + d) (c + b) l) })
 
 -- ---- The order.
-abbrev up : ℤ → ℕ
+abbrev pub up : ℤ → ℕ
 up (pos k) = k
 up (negsuc k) = 0
 
-abbrev down : ℤ → ℕ
+abbrev pub down : ℤ → ℕ
 down (pos k) = 0
 down (negsuc k) = suc k
 
-parts : (z : ℤ) → Is z (up z) (down z)
+pub parts : (z : ℤ) → Is z (up z) (down z)
 parts (pos k) = omega arith
 parts (negsuc k) = omega arith
 
