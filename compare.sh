@@ -86,6 +86,7 @@ run "$program" tables
 run "$program" random 1 200000
 run "$program" long 1 240
 run "$program" copies 1 200000
+run "$program" strongest 1 200000
 run "$program" large quick
 echo "$passed passed, $failed failed"
 [[ $failed -eq 0 ]]

@@ -18,6 +18,7 @@ mod random;
 mod record;
 mod request;
 mod sets;
+mod strongest;
 #[cfg(test)]
 mod tests;
 
@@ -37,6 +38,7 @@ compare cases              both on the paper's cases
 compare tables             filled tables bit by bit, over k, w and GC
 compare copies SEED COUNT  masked copies, the port's against a plain one, on random requests
 compare copies bench       seconds of both at 100,000,000 letters
+compare strongest SEED COUNT  the strongest stretch at a letter, the port's against a plain search
 compare large [quick]      windows of 65,535 letters; quick: narrower ones
 compare fasta FILE..       both on every record of FASTA files, with intervals, share masked and seconds;
                            before the files, k=K sets k, and letters=N cuts a record after N letters
@@ -57,6 +59,7 @@ fn main() {
         ["fasta", ref words @ ..] => fasta::command(port(), words).unwrap_or_else(|error| stop(&error)),
         ["copies", "bench"] => return copies::bench(copies_port()),
         ["copies", seed, count] => copies::command(copies_port(), number(seed), number(count)),
+        ["strongest", seed, count] => strongest::command(strongest_port(), number(seed), number(count)),
         ["cases"] => sets::cases(port()),
         ["tables"] => sets::tables(port()),
         ["large"] => sets::large(port(), false),
@@ -77,6 +80,11 @@ fn copies_port() -> copies::Port {
     archive::masked_copy
 }
 
+#[cfg(port)]
+fn strongest_port() -> strongest::Port {
+    strongest::port
+}
+
 #[cfg(not(port))]
 fn port() -> Port {
     stop(WITHOUT_PORT)
@@ -84,6 +92,11 @@ fn port() -> Port {
 
 #[cfg(not(port))]
 fn copies_port() -> copies::Port {
+    stop(WITHOUT_PORT)
+}
+
+#[cfg(not(port))]
+fn strongest_port() -> strongest::Port {
     stop(WITHOUT_PORT)
 }
 

@@ -5,3 +5,4 @@ pub mod LongdustProcessTablesKinds
 pub mod LongdustProcessTablesReads
 pub mod LongdustProcessKinds
 pub mod LongdustProcessReads
+pub mod StretchAnswers
