@@ -38,8 +38,9 @@ pub extern "C" fn longdust_strongest_stretch(
         codes,
         scan_counts,
     );
+    let best = found.score;
     *start = found.start as u64;
-    *score = found.score;
+    *score = best;
     *gap = found.gap;
     crate::count_or_refusal(found.refusal, found.steps)
 }
