@@ -287,7 +287,8 @@ fn request(seed: u64, number: u64) -> Request {
     let past = rng.below(3);
     let mut ln = table(rng, w + 1 + past, w, 1 << 36, natural_ln);
     let mut f = table(rng, w + 2 + past, w, 1 << 52, |i| (i as u64) << 27);
-    let counts = 1usize << (2 * kmer.min(12));
+    // So is 1.
+    let counts = if kmer > 12 { 4 } else { 1usize << (2 * kmer) };
     let (mut codes_len, mut counts_len) = (n + rng.below(3), counts + rng.below(3));
     if rng.one_in(12) && w > 0 {
         let i = 1 + rng.below(w);
@@ -406,13 +407,13 @@ mod tests {
 
     #[test]
     fn a_plain_search_passes() {
-        assert_eq!(command(|request| plain(request, Slip::None), 1, 1000), (1000, 0));
+        assert_eq!(command(|request| plain(request, Slip::None), 1, 2000), (2000, 0));
     }
 
     #[test]
     fn wrong_searches_are_found() {
         for (name, wrong) in WRONG {
-            assert!(command(*wrong, 1, 1000).1 > 0, "{name}");
+            assert!(command(*wrong, 1, 2000).1 > 0, "{name}");
         }
     }
 
