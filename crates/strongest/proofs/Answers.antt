@@ -17,7 +17,7 @@ use Rattle.letters.specs.Place.{Place}
 use Rattle.letters.proofs.Codes.{codes-length}
 use Rattle.scans.specs.Score.{lnSums}
 use Rattle.strongest.specs.declared.scores.Reading.{Reading}
-use Rattle.strongest.specs.Strongest.{Asked, available, steps, unread, upTo, entry, withoutF, scoreOf, scoreAt, bestOf, best, start, bestScore, largest, excess, gap}
+use Rattle.strongest.specs.Strongest.{Asked, available, steps, unread, upTo, entry, withoutF, scoreOf, scoreAt, bestOf, best, start, bestScore, largest, excess, gapOver, gap}
 use Rattle.strongest.specs.Call.{Found}
 use Rattle.strongest.specs.Terms.Reading.{backTo, scoresBack, Narrow, Reads, ReadsPlaces, needed, codesRead, gapOf}
 use Rattle.strongest.proofs.Order.{is-pos, difference-is, excess-is}
@@ -101,7 +101,7 @@ module _ (Q : Asked) (inside : Q .place < length (Q .sequence)) (some : 0 < Q .k
     score-found = sym (R .best step) ∙ score-up (r .best .size) within ∙ ap (scoreAt Q) size-is
 
     pub gap-found : (rise : ℕ) → rise ≡ largest (Q .ln) (Q .window-size) - Q .threshold → gapOf r (steps Q) (unread Q) rise (Q .threshold) ≡ gap Q
-    unfolding gap
+    unfolding gapOver
     gap-found rise e =
         let t : ℕ = Q .threshold in
         let l : ℕ = steps Q in

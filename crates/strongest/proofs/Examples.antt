@@ -7,7 +7,7 @@ use Rattle.checks.specs.Tests.{anyByte}
 use Rattle.letters.specs.Code.{code, codes}
 use Rattle.letters.specs.Place.{packed, allPlain, placeAt, placesFrom, places}
 use Rattle.scans.specs.Score.{lnSum, lnSums}
-use Rattle.strongest.specs.Strongest.{Asked, steps, scoreAt, bestOf, start, bestScore, largest, gap}
+use Rattle.strongest.specs.Strongest.{Asked, steps, scoreAt, bestOf, start, bestScore, largest, gapOver, gap}
 use Rattle.strongest.specs.Checks.{tooShort, tooWide, refusal}
 use Rattle.strongest.specs.Call.{asked}
 
@@ -22,17 +22,17 @@ abbrev aaaac : ℕ → ℕ → Asked
 aaaac place budget = asked (65 ∷ 65 ∷ 65 ∷ 65 ∷ 67 ∷ []) 2 4 place budget 2 ln f
 
 whole-search : (start (aaaac 3 9) ≡ 1) × (bestScore (aaaac 3 9) ≡ pos 3) × (steps (aaaac 3 9) ≡ 4) × (gap (aaaac 3 9) ≡ 0)
-unfolding code codes packed allPlain placeAt placesFrom places lnSum lnSums scoreAt bestOf largest gap
+unfolding code codes packed allPlain placeAt placesFrom places lnSum lnSums scoreAt bestOf largest gapOver
 whole-search = (refl, refl, refl, refl)
 
 -- Two steps miss the best by 3; the gap is 1 + 2 * (6 - 2) - 0.
 two-steps : (start (aaaac 3 2) ≡ 2) × (bestScore (aaaac 3 2) ≡ pos 0) × (steps (aaaac 3 2) ≡ 2) × (gap (aaaac 3 2) ≡ 9)
-unfolding code codes packed allPlain placeAt placesFrom places lnSum lnSums scoreAt bestOf largest gap
+unfolding code codes packed allPlain placeAt placesFrom places lnSum lnSums scoreAt bestOf largest gapOver
 two-steps = (refl, refl, refl, refl)
 
 -- Place 0 is ambiguous, and the best score is below 0.
 first-place : (start (aaaac 0 1) ≡ 0) × (bestScore (aaaac 0 1) ≡ negsuc 2) × (steps (aaaac 0 1) ≡ 1) × (gap (aaaac 0 1) ≡ 0)
-unfolding code codes packed allPlain placeAt placesFrom places lnSum lnSums scoreAt bestOf largest gap
+unfolding code codes packed allPlain placeAt placesFrom places lnSum lnSums scoreAt bestOf largest gapOver
 first-place = (refl, refl, refl, refl)
 
 -- ACGTA with T = 1 and f = 0: all four stretches score 0, and the shortest is the best.
@@ -40,7 +40,7 @@ abbrev tied : Asked
 tied = asked (65 ∷ 67 ∷ 71 ∷ 84 ∷ 65 ∷ []) 2 4 4 4 1 ln (9 ∷ 0 ∷ 0 ∷ 0 ∷ 0 ∷ 9 ∷ [])
 
 tie-to-the-shorter : (start tied ≡ 4) × (bestScore tied ≡ pos 0) × (steps tied ≡ 4) × (gap tied ≡ 0)
-unfolding code codes packed allPlain placeAt placesFrom places lnSum lnSums scoreAt bestOf largest gap
+unfolding code codes packed allPlain placeAt placesFrom places lnSum lnSums scoreAt bestOf largest gapOver
 tie-to-the-shorter = (refl, refl, refl, refl)
 
 -- ---- Refusals, with 5 codes and 16 scan counts lent.

@@ -8,7 +8,7 @@ use lib.ListN.{length}
 use lib.IntN.{ℤ, pos, _+ℤ_}
 use lib.Signed.{_≤ℤ_, _<ℤ_}
 use borrow.Author.Tests.{eq-eqb}
-use Rattle.strongest.specs.Strongest.{Asked, available, steps, unread, scoreAt, bestOf, best, start, bestScore, gap}
+use Rattle.strongest.specs.Strongest.{Asked, available, steps, unread, scoreAt, bestOf, best, start, bestScore, gapOver, gap}
 use Rattle.strongest.specs.Checks.{refusal}
 use Rattle.strongest.proofs.Best.{best-some, best-within, best-highest, best-shortest}
 use Rattle.strongest.proofs.Admitting.{Admitted, admitted}
@@ -25,7 +25,7 @@ module _ (Q : Asked) where
 
   -- With nothing unread the gap is 0.
   pub no-gap : unread Q ≡ 0 → gap Q ≡ 0
-  unfolding gap
+  unfolding gapOver
   no-gap h = rw (eq-eqb (unread Q) 0 h)
 
   -- With nothing unread the best is the best of all.

@@ -20,7 +20,7 @@ use Rattle.scans.specs.Counts.{count}
 use Rattle.scans.specs.Score.{lnSums}
 use Rattle.scans.proofs.Counting.{count-le}
 use Rattle.scans.proofs.Exact.{adds, sums-none, sums-cons}
-use Rattle.strongest.specs.Strongest.{Asked, available, steps, unread, upTo, entry, withoutF, scoreOf, scoreAt, best, bestScore, largest, excess, gap}
+use Rattle.strongest.specs.Strongest.{Asked, available, steps, unread, upTo, entry, withoutF, scoreOf, scoreAt, best, bestScore, largest, excess, gapOver, gap}
 use Rattle.strongest.specs.Terms.Reading.{back, backTo}
 use Rattle.strongest.proofs.Order.{up, down, parts, is-pos, difference-is, excess-is}
 use Rattle.strongest.proofs.Largest.{largest-at}
@@ -103,7 +103,7 @@ module _ (Q : Asked) (inside : Q .place < length (Q .sequence)) (some : 0 < Q .k
       (rw (gains k (Q .ln) cs l, back-length k cs l) (difference-is (G l) (l * Q .threshold)))
 
   gap-is : unread Q ≢ 0 → gap Q ≡ G (steps Q) + unread Q * (largest (Q .ln) (Q .window-size) - Q .threshold) + down (bestScore Q) - (steps Q * Q .threshold + up (bestScore Q))
-  unfolding gap
+  unfolding gapOver
   gap-is h =
       let t : ℕ = Q .threshold in
       let l : ℕ = steps Q in

@@ -64,7 +64,7 @@ start Q = Q .place + 1 - best Q
 abbrev pub bestScore : Asked → ℤ
 bestScore Q = scoreAt Q (best Q)
 
--- ---- The gap: the amount by which the score of all places read, its f left out, plus r times the positive part of (largest ln entry 1..w minus T), exceeds the best score, or 0.
+-- ---- The gap: the amount by which the score of all places read, its f left out, plus r times the positive part of (largest ln entry 1..w minus T), exceeds the score of the best, or 0.
 -- With r = 0 it is 0.
 unfoldable pub largest : List ℕ → ℕ → ℕ
 largest table zero = 0
@@ -74,8 +74,11 @@ abbrev pub excess : ℤ → ℕ
 excess (pos d) = d
 excess (negsuc d) = 0
 
-unfoldable pub gap : Asked → ℕ
-gap Q =
+unfoldable pub gapOver : Asked → ℤ → ℕ
+gapOver Q score =
     let read : ℤ = withoutF (Q .kmer) (Q .threshold) (Q .ln) (upTo Q (steps Q)) in
     let more : ℕ = unread Q * (largest (Q .ln) (Q .window-size) - Q .threshold) in
-    cond (eqb (unread Q) 0) 0 (excess (read +ℤ pos more -ℤ bestScore Q))
+    cond (eqb (unread Q) 0) 0 (excess (read +ℤ pos more -ℤ score))
+
+abbrev pub gap : Asked → ℕ
+gap Q = gapOver Q (bestScore Q)
