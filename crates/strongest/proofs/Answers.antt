@@ -7,7 +7,7 @@ use native.Mathlib.Omega.{arith}
 use lib.Dec.{eqb}
 use lib.ListN.{length, take, drop}
 use lib.Seq.{drop-append-add, drop-drop, take-at}
-use lib.IntN.{ℤ, pos, _+ℤ_, _-ℤ_, _*ℤ_}
+use lib.IntN.{ℤ, pos, _+ℤ_, _-ℤ_}
 use Rattle.buffers.specs.Fill.{put}
 use Rattle.buffers.specs.Free.{Free}
 use Rattle.buffers.proofs.Put.{put-length}
@@ -17,13 +17,13 @@ use Rattle.letters.specs.Place.{Place}
 use Rattle.letters.proofs.Codes.{codes-length}
 use Rattle.scans.specs.Score.{lnSums}
 use Rattle.strongest.specs.declared.scores.Reading.{Reading}
-use Rattle.strongest.specs.Strongest.{Asked, available, steps, unread, upTo, entry, withoutF, scoreOf, scoreAt, bestOf, best, start, bestScore, largest, excess, gapOver, gap}
+use Rattle.strongest.specs.Strongest.{Asked, steps, unread, upTo, entry, withoutF, scoreOf, scoreAt, bestOf, best, start, bestScore, largest, gapOver, gap}
 use Rattle.strongest.specs.Call.{Found}
 use Rattle.strongest.specs.Terms.Reading.{backTo, scoresBack, Narrow, Reads, ReadsPlaces, needed, codesRead, gapOf}
 use Rattle.strongest.proofs.Order.{is-pos, difference-is, excess-is}
 use Rattle.strongest.proofs.Admitting.{Admitted}
 use Rattle.strongest.proofs.Largest.{largest-up}
-use Rattle.strongest.proofs.Best.{best-some, best-within, best-same}
+use Rattle.strongest.proofs.Best.{best-within, best-same}
 use Rattle.strongest.proofs.Backward.{part, part-length, codes-part, back-length, back-stretch}
 
 -- Only the front of the buffer is written.

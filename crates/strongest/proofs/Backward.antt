@@ -13,7 +13,7 @@ use Rattle.letters.specs.Terms.Entry.{decode}
 use Rattle.letters.specs.Terms.Rolling.{kmerAfter, entryOf}
 use Rattle.letters.proofs.Rolling.{entry-place, entry-below}
 use Rattle.letters.specs.Place.{Place, ambiguous, plain, packed, allPlain, placeAt, places}
-use Rattle.letters.proofs.Places.{places-length, places-drop}
+use Rattle.letters.proofs.Places.{places-drop}
 use Rattle.scans.specs.Score.{stretch}
 use Rattle.strongest.specs.Terms.Reading.{back, backTo}
 

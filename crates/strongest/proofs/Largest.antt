@@ -1,7 +1,7 @@
 -- The largest of a table's entries 1..w.
 use mathlib.Core.Path.{_≡_, refl, sym, ap, ap₂, _∙_}
 use mathlib.Core.List.{List}
-use mathlib.Core.Logic.{_⊎_, inl, inr, ⊎-elim}
+use mathlib.Core.Logic.{⊎-elim}
 use Prim.Native.Nat.{ℕ, zero, suc, _+_, _-_, _≤_, _<_, max}
 use native.Mathlib.Nat.{eq-or-lt-of-le, max-zero}
 use native.Mathlib.Omega.{arith}

@@ -1,17 +1,14 @@
 -- The strongest stretch: what a search has found, and what it can have missed. m places up to b start at place b + 1 - m.
-use mathlib.Core.Path.{_≡_, refl, _∙_}
-use mathlib.Core.Bool.{cond}
-use Prim.Native.Nat.{ℕ, zero, suc, _+_, _-_, _≤_, _<_, min}
+use mathlib.Core.Path.{_≡_}
+use Prim.Native.Nat.{ℕ, zero, suc, _+_, _≤_, _<_}
 use native.Mathlib.Omega.{arith}
-use lib.Dec.{eqb}
-use lib.ListN.{length}
-use lib.IntN.{ℤ, pos, _+ℤ_}
+use lib.IntN.{pos, _+ℤ_}
 use lib.Signed.{_≤ℤ_, _<ℤ_}
 use borrow.Author.Tests.{eq-eqb}
 use Rattle.strongest.specs.Strongest.{Asked, available, steps, unread, scoreAt, bestOf, best, start, bestScore, gapOver, gap}
 use Rattle.strongest.specs.Checks.{refusal}
 use Rattle.strongest.proofs.Best.{best-some, best-within, best-highest, best-shortest}
-use Rattle.strongest.proofs.Admitting.{Admitted, admitted}
+use Rattle.strongest.proofs.Admitting.{admitted}
 use Rattle.strongest.proofs.Unread.{unread-within-gap}
 
 module _ (Q : Asked) where

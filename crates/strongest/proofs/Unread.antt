@@ -1,12 +1,10 @@
 -- How much a search can miss: each place left unread adds the largest ln entry to a score, at most, and takes T away.
-use mathlib.Core.Path.{_≡_, refl, sym, ap, ap₂, _∙_, subst}
-use mathlib.Core.Bool.{Bool, true, false, cond}
+use mathlib.Core.Path.{_≡_, refl, ap, ap₂, _∙_, subst}
 use mathlib.Core.List.{List}
 use mathlib.Core.Logic.{_≢_}
 use Prim.Native.Nat.{ℕ, zero, suc, _+_, _-_, _*_, _^_, _≤_, _<_, min}
 use native.Mathlib.Nat.{mul-le-mul-left, mul-le-mul-right, mul-add, add-mul}
 use native.Mathlib.Omega.{arith}
-use lib.Dec.{eqb}
 use lib.ListN.{length, getD}
 use lib.IntN.{ℤ, pos, _+ℤ_, _-ℤ_}
 use lib.Signed.{_≤ℤ_}
@@ -20,7 +18,7 @@ use Rattle.scans.specs.Counts.{count}
 use Rattle.scans.specs.Score.{lnSums}
 use Rattle.scans.proofs.Counting.{count-le}
 use Rattle.scans.proofs.Exact.{adds, sums-none, sums-cons}
-use Rattle.strongest.specs.Strongest.{Asked, available, steps, unread, upTo, entry, withoutF, scoreOf, scoreAt, best, bestScore, largest, excess, gapOver, gap}
+use Rattle.strongest.specs.Strongest.{Asked, available, steps, unread, upTo, entry, withoutF, scoreOf, scoreAt, bestScore, largest, gapOver, gap}
 use Rattle.strongest.specs.Terms.Reading.{back, backTo}
 use Rattle.strongest.proofs.Order.{up, down, parts, is-pos, difference-is, excess-is}
 use Rattle.strongest.proofs.Largest.{largest-at}

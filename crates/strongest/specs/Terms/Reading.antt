@@ -11,7 +11,6 @@ use Rattle.letters.specs.Code.{codes}
 use Rattle.letters.specs.Place.{Place, ambiguous, plain, placeAt}
 use Rattle.scans.specs.Counts.{count}
 use Rattle.scans.specs.Score.{lnSums}
-use Rattle.strongest.specs.declared.scores.Scored.{Scored}
 use Rattle.strongest.specs.declared.scores.Reading.{Reading}
 use Rattle.strongest.specs.Strongest.{entry, scoreOf, bestOf, largest}
 

@@ -1,5 +1,4 @@
 -- `clear_entry` meets its contract: case by case.
-use mathlib.Core.Path.{refl}
 use borrow.Author.Needs.{needs}
 use Rattle.scans.proofs.Values.{even-plain, odd-ambiguous}
 use Rattle.strongest.proofs.places.clear_entry.Statement.{statement}

@@ -1,6 +1,5 @@
 -- `entry_back` meets its contract: the last letters up to the place are k, or all.
 use mathlib.Core.Path.{_∙_}
-use Prim.Native.Nat.{_+_, _-_, min, _≤_, _<_}
 use native.Mathlib.Omega.{arith}
 use borrow.Author.Needs.{needs}
 use Rattle.strongest.proofs.Backward.{slice-length, slice-place}

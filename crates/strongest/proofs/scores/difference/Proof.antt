@@ -1,5 +1,4 @@
 -- `difference` meets its contract: both numbers are small.
-use native.Mathlib.Omega.{arith}
 use borrow.Author.Needs.{needs}
 use Rattle.strongest.proofs.Order.{difference-fits, difference-read}
 use Rattle.strongest.proofs.scores.difference.Statement.{statement}

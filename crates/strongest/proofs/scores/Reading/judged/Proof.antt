@@ -1,5 +1,4 @@
 -- `Reading::judged` meets its contract: the stretch is taken for the best, or not.
-use mathlib.Core.Path.{refl}
 use borrow.Author.Needs.{needs}
 use Rattle.strongest.specs.Terms.Reading.{judged}
 use Rattle.strongest.proofs.scores.Reading.judged.Statement.{statement}
