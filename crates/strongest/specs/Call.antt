@@ -22,12 +22,12 @@ asked sequence kmer window-size place budget threshold ln f =
       f = f;
     }
 
--- A refusal: zeros, and no buffer changes.
+-- A refusal: its number and zeros, and no buffer changes.
+abbrev pub zeros : ℕ → Strongest
+zeros number = record { refusal = number; start = 0; score = pos 0; steps = 0; gap = 0 }
+
 pub record Refused (cs cs′ counts counts′ : List ℕ) (r : Strongest) : Type 0 where
-  pub start : r .start ≡ 0
-  pub score : r .score ≡ pos 0
-  pub steps : r .steps ≡ 0
-  pub gap : r .gap ≡ 0
+  pub answer : r ≡ zeros (r .refusal)
   pub codes : cs′ ≡ cs
   pub scan-counts : counts′ ≡ counts
 

@@ -7,7 +7,7 @@ mod scores;
 ghost use mathlib.Core.Path.{_≡_};
 ghost use Prim.Native.Nat.{_^_, _≤_, _<_};
 ghost use lib.ListN.{length};
-ghost use Rattle.strongest.specs.Call.{asked, Answers};
+ghost use Rattle.strongest.specs.Call.{asked, zeros, Answers};
 ghost use Rattle.strongest.specs.Terms.Reading.{Narrow, ReadsPlaces};
 use crate::places::smaller;
 use crate::refusals::check;
@@ -27,6 +27,18 @@ pub struct Strongest {
     pub score: i64,
     pub steps: usize,
     pub gap: u64,
+}
+
+fn refused(refusal: u32) -> Strongest
+    ensures { λ r. ⌜ r ≡ zeros refusal ⌝ }
+{
+    Strongest {
+        refusal,
+        start: 0,
+        score: 0,
+        steps: 0,
+        gap: 0,
+    }
 }
 
 // Reads the last `steps` places before letter `end`: encodes the letters that they need, sets their counts to 0, and judges their stretches.
@@ -91,13 +103,7 @@ pub fn strongest_stretch(
         scan_counts.len(),
     );
     if refusal != 0 {
-        return Strongest {
-            refusal,
-            start: 0,
-            score: 0,
-            steps: 0,
-            gap: 0,
-        };
+        return refused(refusal);
     }
     let end = place + 1;
     let available = smaller(window_size, end);

@@ -15,11 +15,13 @@ use Rattle.strongest.proofs.strongest_stretch.Tie as tie
 
 returns : tie.Need-returns
 returns c =
-    record {
-      number = c .before .check .ensures;
-      refused = λ h. record { start = refl; score = refl; steps = refl; gap = refl; codes = refl; scan-counts = refl };
-      accepted = λ h. absurd (c .if1 .taken h);
-    }
+    let t = c .before in
+    rw (c .refused .ensures)
+    (record {
+      number = t .before .check .ensures;
+      refused = λ h. record { answer = refl; codes = refl; scan-counts = refl };
+      accepted = λ h. absurd (t .if1 .taken h);
+    })
 
 -- A request that was not refused.
 abbrev begun : tie.Else1 → tie.Start
@@ -102,6 +104,7 @@ pub strongest-stretch-spec : {M : Type 1} → statement M
 strongest-stretch-spec =
     tie.close
     (tie.spec
+    (λ c κs. search needs)
     (λ c κs. search needs)
     returns
     add-end
