@@ -102,6 +102,7 @@ run "$program" contigs 1 2000
 run "$program" questions 1 200000
 run "$program" tracks 1 200000
 run compare/bedtools.sh
+run "$program" strongest 1 200000
 run "$program" large quick
 echo "$passed passed, $failed failed"
 [[ $failed -eq 0 ]]

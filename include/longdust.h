@@ -1,6 +1,7 @@
 /* Low-complexity masking of a nucleotide sequence: two calls, which differ in who fills the tables. Below, each with
  * its own slices and checks: longdust_masked_copy, which shows a mask in the letters, longdust_questions, which
- * answers questions about a list of intervals, and longdust_join_tracks, which joins a list with another.
+ * answers questions about a list of intervals, longdust_join_tracks, which joins a list with another, and
+ * longdust_strongest_stretch, which finds the best-scoring stretch at a letter.
  *
  * Link target/staticlib/liblongdust_c.a, which `rt staticlib longdust_c` makes for x86-64. No
  * call allocates, keeps state or reads anything but its arguments, so threads may call at once, each
@@ -201,6 +202,39 @@ int64_t longdust_join_tracks(
     const uint32_t (*theirs)[2], size_t theirs_len,
     uint32_t (*list)[2], size_t list_len,
     uint8_t *list_marks, size_t list_marks_len);
+
+/* The strongest stretch at a letter. Place p stands for the k letters that end at letter p; it is ambiguous
+ * if one of them is missing or no A C G T U. A stretch is a run of at most w places. Its score: for each
+ * k-mer found m times among its places, ln entries 1..m; minus threshold for each place; minus f entry L
+ * for L places. Tables and threshold are whole numbers in units of 2^-32, and so are score and gap.
+ *
+ * The call reads backward from `place`, one place a step, at most `budget` steps and at most as many as
+ * there are places: w, or place + 1 if that is less. Among the stretches that end at `place` and begin at a
+ * place read it finds the one that scores highest, of equal ones the shortest. The result is the number of
+ * steps; *start is the first place of that stretch, *score its score, which may be below 0. *gap is 0 if all
+ * places were read; else no stretch that begins at a place left unread scores more than *score + *gap.
+ *
+ * Slices and how long they must be at least: sequence n letters, ln w + 1, f w + 2, codes n,
+ * scan_counts 4^k. codes and scan_counts may hold anything before and are left with any content up to
+ * these lengths. start, score and gap point to one aligned number each, outside all slices and apart from
+ * each other; they are written by every call and must not be null.
+ *
+ * A negative result is minus the number of the first check that fails; the three numbers are 0 then, and no
+ * slice is changed:
+ *    1, 2, 13, 3, 4, 5, 10, 11  as above, in this order
+ *   18  budget is 0
+ *   19  place is not below n
+ *   20  threshold or one of the ln entries 1..w is 2^36 or more, or one of the f entries 1..w is 2^52 or more
+ */
+int64_t longdust_strongest_stretch(
+    const uint8_t *sequence, size_t sequence_len,
+    size_t kmer, size_t window_size,
+    size_t place, size_t budget, uint64_t threshold,
+    const uint64_t *ln, size_t ln_len,
+    const uint64_t *f, size_t f_len,
+    uint8_t *codes, size_t codes_len,
+    uint16_t *scan_counts, size_t scan_counts_len,
+    uint64_t *start, int64_t *score, uint64_t *gap);
 
 #ifdef __cplusplus
 }

@@ -21,6 +21,7 @@ mod random;
 mod record;
 mod request;
 mod sets;
+mod strongest;
 #[cfg(test)]
 mod tests;
 mod tracks;
@@ -50,6 +51,7 @@ compare questions bench    questions per second of both, 1,000,000 intervals in 
 compare tracks SEED COUNT  joined tracks, the port's against a plain join letter by letter, on random pairs
 compare tracks beds FOLDER SEED COUNT  larger pairs as BED files, for compare/bedtools.sh
 compare tracks held FOLDER SEED COUNT  the port on these pairs against what bedtools made of them
+compare strongest SEED COUNT  the strongest stretch at a letter, the port's against a plain search
 compare large [quick]      windows of 65,535 letters; quick: narrower ones
 compare fasta FILE..       both on every record of FASTA files, with intervals, share masked and seconds;
                            before the files, k=K sets k, and letters=N cuts a record after N letters
@@ -83,6 +85,7 @@ fn main() {
             let held = tracks::held(tracks_port(), folder, number(seed), number(count));
             held.unwrap_or_else(|error| stop(&error.to_string()))
         }
+        ["strongest", seed, count] => strongest::command(strongest_port(), number(seed), number(count)),
         ["cases"] => sets::cases(port()),
         ["tables"] => sets::tables(port()),
         ["large"] => sets::large(port(), false),
@@ -113,6 +116,11 @@ fn tracks_port() -> tracks::Port {
     archive::join_tracks
 }
 
+#[cfg(port)]
+fn strongest_port() -> strongest::Port {
+    strongest::port
+}
+
 #[cfg(not(port))]
 fn port() -> Port {
     stop(WITHOUT_PORT)
@@ -130,6 +138,11 @@ fn questions_port() -> questions::Port {
 
 #[cfg(not(port))]
 fn tracks_port() -> tracks::Port {
+    stop(WITHOUT_PORT)
+}
+
+#[cfg(not(port))]
+fn strongest_port() -> strongest::Port {
     stop(WITHOUT_PORT)
 }
 

@@ -7,3 +7,4 @@ pub mod LongdustProcessTablesKinds
 pub mod LongdustProcessTablesReads
 pub mod LongdustProcessKinds
 pub mod LongdustProcessReads
+pub mod StretchAnswers

@@ -2,3 +2,4 @@ pub mod Exported
 pub mod Copies
 pub mod Questions
 pub mod Tracks
+pub mod Stretches

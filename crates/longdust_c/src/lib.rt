@@ -3,6 +3,7 @@
 mod copies;
 mod joining;
 mod positions;
+mod stretches;
 
 ghost use mathlib.Core.Path.{_≡_};
 ghost use Prim.Native.Nat.{_<_};

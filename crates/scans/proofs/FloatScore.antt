@@ -17,7 +17,7 @@ use Rattle.letters.specs.Place.{Place, ambiguous, plain, BelowAt, Below}
 use Rattle.scans.specs.Setup.{Setup, lnAt, kmers}
 use Rattle.scans.specs.Counts.{raise, cleared}
 use Rattle.scans.specs.Scans.{value}
-use Rattle.scans.specs.Score.{score}
+use Rattle.scans.specs.Score.{lnValue, score}
 use Rattle.scans.specs.Judged.{sumOver, floatScore, Close}
 use Rattle.scans.proofs.Counting.{count-reverse, below-drop, below-take, below-reverse, Counted, raise-counted, cleared-counted}
 use Rattle.scans.proofs.Exact.{added, sums-same}
@@ -26,7 +26,7 @@ use Rattle.scans.proofs.Gain.{InRange, gain, loss, added-ranged, gain-s
 -- ---- The exact score does not depend on the order.
 pub score-reverse : (S : Setup) (q : List Place) → score S (reverse q) ≡ score S q
 unfolding score
-score-reverse S q = rw (sums-same S q (reverse q) (kmers S) (λ x _. count-reverse x q), length-reverse q)
+score-reverse S q = rw (sums-same (lnValue S) q (reverse q) (kmers S) (λ x _. count-reverse x q), length-reverse q)
 
 -- The L newest places, the newest first, and as they stand.
 pub newest-first : (q : List Place) (l : ℕ) → l ≤ length q → take l (reverse q) ≡ reverse (drop (length q - l) q)

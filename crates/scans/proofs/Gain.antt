@@ -13,9 +13,9 @@ use Rattle.floats.proofs.Rounded.{pos64, Ranged}
 use Rattle.letters.specs.Place.{Place, ambiguous, plain, BelowAt, Below}
 use Rattle.scans.specs.Setup.{Setup, lnAt, fAt, kmers}
 use Rattle.scans.specs.Counts.{count}
-use Rattle.scans.specs.Score.{lnSum, lnSums, score}
+use Rattle.scans.specs.Score.{lnSum, lnSums, lnValue, score}
 use Rattle.scans.proofs.Counting.{count-le}
-use Rattle.scans.proofs.Exact.{added, lnSums-snoc, lnSums-cons, lnSums-none}
+use Rattle.scans.proofs.Exact.{adds, added, added-value, sums-snoc, sums-cons, sums-none}
 
 -- T in 0..16, ln entries 1..w in 0..16, f entries 1..w in 0..2^20.
 pub record InRange (S : Setup) : Type 0 where
@@ -27,7 +27,7 @@ pub record InRange (S : Setup) : Type 0 where
 
 -- The sum over k-mers.
 unfoldable pub gain : Setup → List Place → ℕ
-gain S q = natAbs (lnSums S (kmers S) q)
+gain S q = natAbs (lnSums (lnValue S) (kmers S) q)
 
 -- L times T, and f entry L.
 abbrev pub loss : Setup → ℕ → ℕ
@@ -56,41 +56,42 @@ ranged-is B x r = value-is-pos binary64 x (r .low)
 
 pub gain-none : (S : Setup) → gain S [] ≡ 0
 unfolding gain
-gain-none S = ap natAbs (lnSums-none S (kmers S))
+gain-none S = ap natAbs (sums-none (lnValue S) (kmers S))
 
 module _ (S : Setup) (R : InRange S) where
-  lnSum-non-negative : (m : ℕ) → m ≤ S .window-size → NonNegative (lnSum S m)
+  lnSum-non-negative : (m : ℕ) → m ≤ S .window-size → NonNegative (lnSum (lnValue S) m)
   unfolding lnSum
   lnSum-non-negative zero l = tt
   lnSum-non-negative (suc m) l =
       let x : Float = lnAt S (suc m) in
-      add-non-negative (lnSum S m) (value64 x) (lnSum-non-negative m (omega arith)) (is-non-negative (value64 x) (pos64 x) (ranged-is 16 x (R .ln-ranged (suc m) (omega arith) l)) .0) .0
+      add-non-negative (lnSum (lnValue S) m) (value64 x) (lnSum-non-negative m (omega arith)) (is-non-negative (value64 x) (pos64 x) (ranged-is 16 x (R .ln-ranged (suc m) (omega arith) l)) .0) .0
 
-  lnSums-non-negative : (b : ℕ) (q : List Place) → length q ≤ S .window-size → NonNegative (lnSums S b q)
+  lnSums-non-negative : (b : ℕ) (q : List Place) → length q ≤ S .window-size → NonNegative (lnSums (lnValue S) b q)
   unfolding lnSums
   lnSums-non-negative zero q l = tt
   lnSums-non-negative (suc b) q l =
-      add-non-negative (lnSums S b q) (lnSum S (count b q)) (lnSums-non-negative b q l) (lnSum-non-negative (count b q) (omega (arith, count-le b q))) .0
+      add-non-negative (lnSums (lnValue S) b q) (lnSum (lnValue S) (count b q)) (lnSums-non-negative b q l) (lnSum-non-negative (count b q) (omega (arith, count-le b q))) .0
 
   -- ---- One place more.
   pub added-ranged : (q : List Place) (e : Place) → length q < S .window-size → Ranged 16 (added S q e)
   added-ranged q ambiguous l = zero-ranged 16
   added-ranged q (plain x) l = R .ln-ranged (suc (count x q)) (omega arith) (omega (arith, count-le x q))
 
-  gain-more : (q r : List Place) (e : Place) → length q < S .window-size → lnSums S (kmers S) r ≡ lnSums S (kmers S) q +ℤ value64 (added S q e)
+  gain-more : (q r : List Place) (e : Place) → length q < S .window-size → lnSums (lnValue S) (kmers S) r ≡ lnSums (lnValue S) (kmers S) q +ℤ adds (lnValue S) q e
       → gain S r ≡ gain S q + pos64 (added S q e)
   unfolding gain
   gain-more q r e l h =
       let v = is-non-negative (value64 (added S q e)) (pos64 (added S q e)) (ranged-is 16 (added S q e) (added-ranged q e l)) in
-      ap natAbs h ∙ add-non-negative (lnSums S (kmers S) q) (value64 (added S q e)) (lnSums-non-negative (kmers S) q (omega arith)) (v .0) .1
-      ∙ ap (λ (z : ℕ). natAbs (lnSums S (kmers S) q) + z) (v .1)
+      ap natAbs (h ∙ ap (λ (z : ℤ). lnSums (lnValue S) (kmers S) q +ℤ z) (added-value S q e))
+      ∙ add-non-negative (lnSums (lnValue S) (kmers S) q) (value64 (added S q e)) (lnSums-non-negative (kmers S) q (omega arith)) (v .0) .1
+      ∙ ap (λ (z : ℕ). natAbs (lnSums (lnValue S) (kmers S) q) + z) (v .1)
 
   -- At the newest end, and at the oldest.
   pub gain-snoc : (q : List Place) (e : Place) → BelowAt (kmers S) e → length q < S .window-size → gain S (q ++ e ∷ []) ≡ gain S q + pos64 (added S q e)
-  gain-snoc q e b l = gain-more q (q ++ e ∷ []) e l (lnSums-snoc S q e b)
+  gain-snoc q e b l = gain-more q (q ++ e ∷ []) e l (sums-snoc (lnValue S) (kmers S) q e b)
 
   pub gain-cons : (q : List Place) (e : Place) → BelowAt (kmers S) e → length q < S .window-size → gain S (e ∷ q) ≡ gain S q + pos64 (added S q e)
-  gain-cons q e b l = gain-more q (e ∷ q) e l (lnSums-cons S q e b)
+  gain-cons q e b l = gain-more q (e ∷ q) e l (sums-cons (lnValue S) (kmers S) q e b)
 
   pub gain-bound : (q : List Place) → Below (kmers S) q → length q ≤ S .window-size → gain S q ≤ length q * (16 * one)
   gain-bound [] b l = omega (arith, gain-none S)
@@ -103,7 +104,7 @@ module _ (S : Setup) (R : InRange S) where
       let t : Float = S .score-threshold in
       let len : ℕ = length q in
       let f : Float = fAt S len in
-      let z : ℤ = lnSums S (kmers S) q in
+      let z : ℤ = lnSums (lnValue S) (kmers S) q in
       let G : ℕ = natAbs z in
       let a = is-sub z (pos len *ℤ value64 t) G 0 (len * pos64 t) (len * 0) (non-negative-is z (lnSums-non-negative (kmers S) q l)) (is-times (value64 t) len (pos64 t) 0 (ranged-is 16 t (R .t-ranged))) in
       is-as (score S q) (G + len * 0 + 0) (0 + len * pos64 t + pos64 f) G (loss S len) (omega arith)

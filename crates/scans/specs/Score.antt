@@ -1,4 +1,4 @@
--- The paper, 'Letters and places': the exact score of a stretch, in whole multiples of 2^-1074, the letters it gives evidence for, and a stretch with no better shorter one.
+-- The paper, 'Letters and places': the exact score of a stretch, over tables of whole numbers and over the paper's floats, the letters it gives evidence for, and a stretch with no better shorter one.
 use Prim.Native.Nat.{ℕ, zero, suc, _+_, _*_, _≤_, _<_}
 use mathlib.Core.List.{List}
 use lib.ListN.{length, take, drop}
@@ -9,19 +9,34 @@ use Rattle.letters.specs.Place.{Place}
 use Rattle.scans.specs.Setup.{Setup, lnAt, fAt, kmers}
 use Rattle.scans.specs.Counts.{count}
 
+-- ---- Over any tables of whole numbers and a whole number t, all of one unit.
 -- ln entries 1..m.
-unfoldable pub lnSum : Setup → ℕ → ℤ
-lnSum S zero = pos 0
-lnSum S (suc m) = lnSum S m +ℤ value64 (lnAt S (suc m))
+unfoldable pub lnSum : (ℕ → ℤ) → ℕ → ℤ
+lnSum ln zero = pos 0
+lnSum ln (suc m) = lnSum ln m +ℤ ln (suc m)
 
 -- For each k-mer below b, found m times: ln entries 1..m.
-unfoldable pub lnSums : Setup → ℕ → List Place → ℤ
-lnSums S zero q = pos 0
-lnSums S (suc b) q = lnSums S b q +ℤ lnSum S (count b q)
+unfoldable pub lnSums : (ℕ → ℤ) → ℕ → List Place → ℤ
+lnSums ln zero q = pos 0
+lnSums ln (suc b) q = lnSums ln b q +ℤ lnSum ln (count b q)
 
--- Minus L times T, minus f entry L.
+-- Minus L times T.
+abbrev pub scoreWithoutF : (ℕ → ℤ) → ℤ → ℕ → List Place → ℤ
+scoreWithoutF ln t b q = lnSums ln b q -ℤ pos (length q) *ℤ t
+
+-- Minus f entry L.
+abbrev pub scoreBy : (ℕ → ℤ) → (ℕ → ℤ) → ℤ → ℕ → List Place → ℤ
+scoreBy ln f t b q = scoreWithoutF ln t b q -ℤ f (length q)
+
+-- ---- Over the paper's: each float stands for its whole multiple of 2^-1074.
+abbrev pub lnValue : Setup → ℕ → ℤ
+lnValue S c = value64 (lnAt S c)
+
+abbrev pub fValue : Setup → ℕ → ℤ
+fValue S l = value64 (fAt S l)
+
 unfoldable pub score : Setup → List Place → ℤ
-score S q = lnSums S (kmers S) q -ℤ pos (length q) *ℤ value64 (S .score-threshold) -ℤ value64 (fAt S (length q))
+score S q = scoreBy (lnValue S) (fValue S) (value64 (S .score-threshold)) (kmers S) q
 
 -- Places first .. first + size - 1.
 abbrev pub stretch : List Place → ℕ → ℕ → List Place

@@ -1,0 +1,11 @@
+pub mod Order
+pub mod Best
+pub mod Largest
+pub mod Backward
+pub mod Counting
+pub mod Reading
+pub mod Admitting
+pub mod Answers
+pub mod Unread
+pub mod Theorems
+pub mod Examples
