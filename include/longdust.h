@@ -210,7 +210,7 @@ int64_t longdust_join_tracks(
  *
  * The call reads backward from `place`, one place a step, at most `budget` steps and at most as many as
  * there are places: w, or place + 1 if that is less. Among the stretches that end at `place` and begin at a
- * place read it finds the one that scores highest, of equal ones the shortest. The result is the number of
+ * place read it finds the one that scores highest, of equal ones the longest. The result is the number of
  * steps; *start is the first place of that stretch, *score its score, which may be below 0. *gap is 0 if all
  * places were read; else no stretch that begins at a place left unread scores more than *score + *gap.
  *

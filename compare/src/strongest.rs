@@ -106,7 +106,7 @@ enum Slip {
     None,
     GapWithF,
     OneUnreadLess,
-    Longer,
+    Shorter,
     LnZero,
     GapBelowZero,
     OneStepMore,
@@ -177,7 +177,7 @@ fn plain(request: &Request, slip: Slip) -> Answer {
     let mut best = 1;
     for size in 2..=steps {
         let (old, new) = (scores[best - 1].0, scores[size - 1].0);
-        if new > old || slip == Slip::Longer && new == old {
+        if new > old || slip != Slip::Shorter && new == old {
             best = size;
         }
     }
@@ -371,7 +371,7 @@ mod tests {
     const WRONG: &[(&str, Port)] = &[
         ("gap with f", |request| plain(request, Slip::GapWithF)),
         ("one unread place less", |request| plain(request, Slip::OneUnreadLess)),
-        ("ties to the longer", |request| plain(request, Slip::Longer)),
+        ("ties to the shorter", |request| plain(request, Slip::Shorter)),
         ("ln 0 taken for the largest", |request| plain(request, Slip::LnZero)),
         ("a gap below 0", |request| plain(request, Slip::GapBelowZero)),
         ("one step more", |request| plain(request, Slip::OneStepMore)),

@@ -6,22 +6,22 @@ use Prim.Native.Nat.{ℕ, zero, suc, _≤_, _<_}
 use native.Mathlib.Nat.{eq-or-lt-of-le}
 use native.Mathlib.Omega.{arith}
 use lib.IntN.{ℤ}
-use lib.Signed.{ltZ, _≤ℤ_, _<ℤ_, ltZ-yes, ltZ-no, ≤ℤ-refl}
+use lib.Signed.{leZ, _≤ℤ_, _<ℤ_, leZ-yes, ≤ℤ-refl}
 use Rattle.scans.proofs.Test.{by-test}
 use Rattle.strongest.specs.Strongest.{bestOf}
-use Rattle.strongest.proofs.Order.{le-trans, le-lt-trans, lt-le}
+use Rattle.strongest.proofs.Order.{le-trans, lt-le, not-le}
 
 module _ (s : ℕ → ℤ) where
   -- ---- Case by case.
   pub best-one : bestOf s 1 ≡ 1
   unfolding bestOf
-  best-one = by-test (λ (b : ℕ). b ≡ 1) (ltZ (s 1) (s 1)) 1 1 (λ t. refl) (λ t. refl)
+  best-one = by-test (λ (b : ℕ). b ≡ 1) (leZ (s 1) (s 1)) 1 1 (λ t. refl) (λ t. refl)
 
-  pub best-new : (l : ℕ) → ltZ (s (bestOf s l)) (s (suc l)) ≡ true → bestOf s (suc l) ≡ suc l
+  pub best-new : (l : ℕ) → leZ (s (bestOf s l)) (s (suc l)) ≡ true → bestOf s (suc l) ≡ suc l
   unfolding bestOf
   best-new l e = rw e
 
-  pub best-old : (l : ℕ) → ltZ (s (bestOf s l)) (s (suc l)) ≡ false → bestOf s (suc l) ≡ bestOf s l
+  pub best-old : (l : ℕ) → leZ (s (bestOf s l)) (s (suc l)) ≡ false → bestOf s (suc l) ≡ bestOf s l
   unfolding bestOf
   best-old l e = rw e
 
@@ -30,13 +30,19 @@ module _ (s : ℕ → ℤ) where
   unfolding bestOf
   best-some zero = omega arith
   best-some (suc l) =
-      by-test (λ (b : ℕ). 0 < b) (ltZ (s (bestOf s l)) (s (suc l))) (suc l) (bestOf s l) (λ t. omega arith) (λ t. best-some l)
+      by-test (λ (b : ℕ). 0 < b) (leZ (s (bestOf s l)) (s (suc l))) (suc l) (bestOf s l) (λ t. omega arith) (λ t. best-some l)
+
+  pub best-most : (l : ℕ) → bestOf s l ≤ suc l
+  unfolding bestOf
+  best-most zero = omega arith
+  best-most (suc l) =
+      by-test (λ (b : ℕ). b ≤ suc (suc l)) (leZ (s (bestOf s l)) (s (suc l))) (suc l) (bestOf s l) (λ t. omega arith) (λ t. omega (arith, best-most l))
 
   pub best-within : (l : ℕ) → bestOf s (suc l) ≤ suc l
   unfolding bestOf
-  best-within zero = by-test (λ (b : ℕ). b ≤ 1) (ltZ (s 1) (s 1)) 1 1 (λ t. omega arith) (λ t. omega arith)
+  best-within zero = by-test (λ (b : ℕ). b ≤ 1) (leZ (s 1) (s 1)) 1 1 (λ t. omega arith) (λ t. omega arith)
   best-within (suc l) =
-      by-test (λ (b : ℕ). b ≤ suc (suc l)) (ltZ (s (bestOf s (suc l))) (s (suc (suc l)))) (suc (suc l)) (bestOf s (suc l))
+      by-test (λ (b : ℕ). b ≤ suc (suc l)) (leZ (s (bestOf s (suc l))) (s (suc (suc l)))) (suc (suc l)) (bestOf s (suc l))
       (λ t. omega arith) (λ t. omega (arith, best-within l))
 
   -- None scores higher.
@@ -45,20 +51,20 @@ module _ (s : ℕ → ℤ) where
   best-highest zero m h k = absurd (let z : ⊥ = omega arith in z)
   best-highest (suc l) m h k =
       let old : ℤ = s (bestOf s l) in
-      by-test (λ (b : ℕ). s m ≤ℤ s b) (ltZ old (s (suc l))) (suc l) (bestOf s l)
-      (λ t. ⊎-elim (λ e. rw e (≤ℤ-refl (s (suc l)))) (λ j. le-trans (s m) old (s (suc l)) (best-highest l m h (omega arith)) (lt-le old (s (suc l)) (ltZ-yes t))) (eq-or-lt-of-le k))
-      (λ t. ⊎-elim (λ e. rw e (ltZ-no t)) (λ j. best-highest l m h (omega arith)) (eq-or-lt-of-le k))
+      by-test (λ (b : ℕ). s m ≤ℤ s b) (leZ old (s (suc l))) (suc l) (bestOf s l)
+      (λ t. ⊎-elim (λ e. rw e (≤ℤ-refl (s (suc l)))) (λ j. le-trans (s m) old (s (suc l)) (best-highest l m h (omega arith)) (leZ-yes t)) (eq-or-lt-of-le k))
+      (λ t. ⊎-elim (λ e. rw e (lt-le (s (suc l)) old (not-le old (s (suc l)) t))) (λ j. best-highest l m h (omega arith)) (eq-or-lt-of-le k))
 
-  -- Every shorter one scores lower.
-  pub best-shortest : (l m : ℕ) → 0 < m → m < bestOf s l → s m <ℤ s (bestOf s l)
+  -- Every longer one scores lower.
+  pub best-longest : (l m : ℕ) → bestOf s l < m → m ≤ l → s m <ℤ s (bestOf s l)
   unfolding bestOf
-  best-shortest zero m h k = absurd (let z : ⊥ = omega arith in z)
-  best-shortest (suc l) m h k =
+  best-longest zero m h k = absurd (let z : ⊥ = omega arith in z)
+  best-longest (suc l) m h k =
       let old : ℤ = s (bestOf s l) in
-      by-test (λ (b : ℕ). m < b → s m <ℤ s b) (ltZ old (s (suc l))) (suc l) (bestOf s l)
-      (λ t j. le-lt-trans (s m) old (s (suc l)) (best-highest l m h (omega arith)) (ltZ-yes t))
-      (λ t j. best-shortest l m h j)
-      k
+      by-test (λ (b : ℕ). b < m → s m <ℤ s b) (leZ old (s (suc l))) (suc l) (bestOf s l)
+      (λ t j. absurd (let z : ⊥ = omega arith in z))
+      (λ t j. ⊎-elim (λ e. rw e (not-le old (s (suc l)) t)) (λ i. best-longest l m j (omega arith)) (eq-or-lt-of-le k))
+      h
 
 -- Only the scores of 1 to l places count.
 pub best-same : (s r : ℕ → ℤ) (l : ℕ) → ((m : ℕ) → 0 < m → m ≤ l → s m ≡ r m) → bestOf s l ≡ bestOf r l

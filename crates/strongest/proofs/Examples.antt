@@ -8,6 +8,7 @@ use Rattle.letters.specs.Code.{code, codes}
 use Rattle.letters.specs.Place.{packed, allPlain, placeAt, placesFrom, places}
 use Rattle.scans.specs.Score.{lnSum, lnSums}
 use Rattle.strongest.specs.Strongest.{Asked, steps, scoreAt, bestOf, start, bestScore, largest, gapOver, gap}
+use Rattle.strongest.specs.Before.{shorterOf, startBefore}
 use Rattle.strongest.specs.Checks.{tooShort, tooWide, refusal}
 use Rattle.strongest.specs.Call.{asked}
 
@@ -35,13 +36,13 @@ first-place : (start (aaaac 0 1) ≡ 0) × (bestScore (aaaac 0 1) ≡ negsuc 2) 
 unfolding code codes packed allPlain placeAt placesFrom places lnSum lnSums scoreAt bestOf largest gapOver
 first-place = (refl, refl, refl, refl)
 
--- ACGTA with T = 1 and f = 0: all four stretches score 0, and the shortest is the best.
+-- ACGTA with T = 1 and f = 0: all four stretches score 0, and the longest is the best; it was the shortest before L12.
 abbrev tied : Asked
 tied = asked (65 ∷ 67 ∷ 71 ∷ 84 ∷ 65 ∷ []) 2 4 4 4 1 ln (9 ∷ 0 ∷ 0 ∷ 0 ∷ 0 ∷ 9 ∷ [])
 
-tie-to-the-shorter : (start tied ≡ 4) × (bestScore tied ≡ pos 0) × (steps tied ≡ 4) × (gap tied ≡ 0)
-unfolding code codes packed allPlain placeAt placesFrom places lnSum lnSums scoreAt bestOf largest gapOver
-tie-to-the-shorter = (refl, refl, refl, refl)
+tie-to-the-longer : (start tied ≡ 1) × (startBefore tied ≡ 4) × (bestScore tied ≡ pos 0) × (steps tied ≡ 4) × (gap tied ≡ 0)
+unfolding code codes packed allPlain placeAt placesFrom places lnSum lnSums scoreAt bestOf shorterOf largest gapOver
+tie-to-the-longer = (refl, refl, refl, refl, refl)
 
 -- ---- Refusals, with 5 codes and 16 scan counts lent.
 taken : refusal (aaaac 3 9) 5 16 ≡ 0

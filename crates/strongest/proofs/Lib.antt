@@ -6,6 +6,7 @@ pub mod Counting
 pub mod Reading
 pub mod Admitting
 pub mod Answers
+pub mod Before
 pub mod Unread
 pub mod Theorems
 pub mod Examples

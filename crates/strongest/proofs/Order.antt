@@ -1,16 +1,16 @@
 -- Signed numbers as differences of two naturals: `Is z a b` says that z is a - b.
 use mathlib.Core.Path.{_≡_, refl, sym, ap, ap₂, _∙_, subst}
-use mathlib.Core.Bool.{Bool, true, false}
+use mathlib.Core.Bool.{Bool, true, false, not}
 use mathlib.Core.Logic.{_↔_}
 use Prim.Native.Nat.{ℕ, suc, _+_, _-_, _≤_, _<_}
 use native.Mathlib.Omega.{arith}
-use lib.Dec.{T, ltb, ltb→lt, lt→ltb}
+use lib.Dec.{T, ltb, leb, ltb→lt, lt→ltb, nleb→lt}
 use lib.IntN.{ℤ, pos, negsuc, _-ℤ_}
-use lib.Signed.{ltZ, mag, _≤ℤ_, _<ℤ_}
+use lib.Signed.{ltZ, leZ, mag, _≤ℤ_, _<ℤ_}
 use mir.Syntax.{w64}
 use mir.Val.{SFits, toZ, ofZ}
 use mir.ValLaws.{toZ-pos, toZ-ofZ}
-use borrow.Author.Tests.{ltb-true, ltb-false, lt-ltb, le-ltb}
+use borrow.Author.Tests.{ltb-true, ltb-false, lt-ltb, le-ltb, leb-true, leb-false, le-leb, lt-leb}
 use Rattle.floats.proofs.Whole.{Is, is-as, is-sub, is-le}
 use Rattle.strongest.specs.Strongest.{excess}
 
@@ -33,11 +33,24 @@ ltb-same i j p q f g = go (ltb i j) refl
     go true e = sym (lt-ltb p q (f (ltb-true i j e)))
     go false e = sym (le-ltb p q (g (ltb-false i j e)))
 
-pub lt-is : (x y : ℤ) (a b c d : ℕ) → Is x a b → Is y c d → ltZ x y ≡ ltb (a + d) (c + b)
+lt-is : (x y : ℤ) (a b c d : ℕ) → Is x a b → Is y c d → ltZ x y ≡ ltb (a + d) (c + b)
 lt-is (pos i) (pos j) a b c d h k = ltb-same i j (a + d) (c + b) (λ l. omega arith) (λ l. omega arith)
 lt-is (pos i) (negsuc j) a b c d h k = sym (le-ltb (a + d) (c + b) (omega arith))
 lt-is (negsuc i) (pos j) a b c d h k = sym (lt-ltb (a + d) (c + b) (omega arith))
 lt-is (negsuc i) (negsuc j) a b c d h k = ltb-same j i (a + d) (c + b) (λ l. omega arith) (λ l. omega arith)
+
+leb-same : (i j p q : ℕ) → (i ≤ j → p ≤ q) → (j < i → q < p) → leb i j ≡ leb p q
+leb-same i j p q f g = go (leb i j) refl
+  where
+    go : (b : Bool) → leb i j ≡ b → b ≡ leb p q
+    go true e = sym (le-leb p q (f (leb-true i j e)))
+    go false e = sym (lt-leb p q (g (leb-false i j e)))
+
+pub le-is : (x y : ℤ) (a b c d : ℕ) → Is x a b → Is y c d → leZ x y ≡ leb (a + d) (c + b)
+le-is (pos i) (pos j) a b c d h k = leb-same i j (a + d) (c + b) (λ l. omega arith) (λ l. omega arith)
+le-is (pos i) (negsuc j) a b c d h k = sym (lt-leb (a + d) (c + b) (omega arith))
+le-is (negsuc i) (pos j) a b c d h k = sym (le-leb (a + d) (c + b) (omega arith))
+le-is (negsuc i) (negsuc j) a b c d h k = leb-same j i (a + d) (c + b) (λ l. omega arith) (λ l. omega arith)
 
 pub excess-is : (z : ℤ) (a b : ℕ) → Is z a b → excess z ≡ a - b
 excess-is (pos i) a b h = omega arith
@@ -67,11 +80,17 @@ le-trans x y z h k =
     let b = is-le y z (up y) (down y) (up z) (down z) (parts y) (parts z) .0 k in
     is-le x z (up x) (down x) (up z) (down z) (parts x) (parts z) .1 (omega arith)
 
-pub le-lt-trans : (x y z : ℤ) → x ≤ℤ y → y <ℤ z → x <ℤ z
-le-lt-trans x y z h k =
+pub not-le : (x y : ℤ) → T (not (leZ x y)) → y <ℤ x
+not-le x y t =
+    let e = le-is x y (up x) (down x) (up y) (down y) (parts x) (parts y) in
+    let l = nleb→lt (up x + down y) (up y + down x) (subst (λ (z : Bool). T (not z)) e t) in
+    is-lt y x (up y) (down y) (up x) (down x) (parts y) (parts x) .1 (omega arith)
+
+pub both-le : (x y : ℤ) → x ≤ℤ y → y ≤ℤ x → x ≡ y
+both-le x y h k =
     let a = is-le x y (up x) (down x) (up y) (down y) (parts x) (parts y) .0 h in
-    let b = is-lt y z (up y) (down y) (up z) (down z) (parts y) (parts z) .0 k in
-    is-lt x z (up x) (down x) (up z) (down z) (parts x) (parts z) .1 (omega arith)
+    let b = is-le y x (up y) (down y) (up x) (down x) (parts y) (parts x) .0 k in
+    is-same x y (up y) (down y) (is-as x (up x) (down x) (up y) (down y) (omega arith) (parts x)) (parts y)
 
 pub lt-le : (x y : ℤ) → x <ℤ y → x ≤ℤ y
 lt-le x y h =

@@ -5,10 +5,10 @@ use mathlib.Core.List.{List}
 use Prim.Native.Nat.{ℕ, zero, suc, _+_, _*_, _^_, _≤_, _<_}
 use native.Mathlib.Nat.{mul-le-mul}
 use native.Mathlib.Omega.{arith}
-use lib.Dec.{ltb, eqb}
+use lib.Dec.{leb, eqb}
 use lib.ListN.{getD}
 use lib.IntN.{ℤ, pos, _+ℤ_, _-ℤ_, _*ℤ_}
-use lib.Signed.{ltZ}
+use lib.Signed.{leZ}
 use borrow.Author.Tests.{eqb-true, eqb-false}
 use Rattle.floats.proofs.Whole.{Is, is-as, is-sub}
 use Rattle.scans.specs.Score.{lnSums}
@@ -16,7 +16,7 @@ use Rattle.scans.proofs.Exact.{sums-none}
 use Rattle.strongest.specs.declared.scores.Reading.{Reading}
 use Rattle.strongest.specs.Strongest.{entry, bestOf}
 use Rattle.strongest.specs.Terms.Reading.{backTo, scoresBack, nothing, judged, Reads}
-use Rattle.strongest.proofs.Order.{is-pos, difference-is, is-same, lt-is}
+use Rattle.strongest.proofs.Order.{is-pos, difference-is, is-same, le-is}
 use Rattle.strongest.proofs.Best.{best-one, best-new, best-old}
 use Rattle.strongest.proofs.Backward.{back-length}
 
@@ -101,13 +101,13 @@ module _ (k t : ℕ) (ln f cs : List ℕ) where
         go (suc n) h = omega arith
 
     -- The comparison of sums of naturals is that of the scores.
-    tests : 0 < l → ltb (r .best .gain + loss) (g + r .best .loss) ≡ ltZ (s (bestOf s l)) (s (suc l))
+    tests : 0 < l → leb (r .best .gain + loss) (g + r .best .loss) ≡ leZ (s (bestOf s l)) (s (suc l))
     tests h =
         let old : Is (s (bestOf s l)) (r .best .gain) (r .best .loss) =
         subst (λ (z : ℤ). Is z (r .best .gain) (r .best .loss)) (sym (R .best h) ∙ ap s (R .size h)) (difference-is (r .best .gain) (r .best .loss)) in
-        sym (lt-is (s (bestOf s l)) (s (suc l)) (r .best .gain) (r .best .loss) g loss old new-is)
+        sym (le-is (s (bestOf s l)) (s (suc l)) (r .best .gain) (r .best .loss) g loss old new-is)
 
-    by : (b c : Bool) → eqb (suc l) 1 ≡ b → ltb (r .best .gain + loss) (g + r .best .loss) ≡ c → Reads k t ln f cs (suc l) (cond (b || c) taken kept)
+    by : (b c : Bool) → eqb (suc l) 1 ≡ b → leb (r .best .gain + loss) (g + r .best .loss) ≡ c → Reads k t ln f cs (suc l) (cond (b || c) taken kept)
     by true c e d =
         let none : l ≡ 0 = omega (arith, eqb-true (suc l) 1 e) in
         reads-taken (subst (λ (n : ℕ). suc n ≡ bestOf s (suc n)) (sym none) (sym (best-one s)))
@@ -120,7 +120,7 @@ module _ (k t : ℕ) (ln f cs : List ℕ) where
 
     next : Reads k t ln f cs (suc l) (judged r (suc l) v loss)
     unfolding judged
-    next = by (eqb (suc l) 1) (ltb (r .best .gain + loss) (g + r .best .loss)) refl refl
+    next = by (eqb (suc l) 1) (leb (r .best .gain + loss) (g + r .best .loss)) refl refl
 
   pub reads-more : (l n v loss : ℕ) (r : Reading) → n ≡ l + 1 → Reads k t ln f cs l r
       → lnSums (entry ln) (4 ^ k) (backTo k cs (suc l)) ≡ lnSums (entry ln) (4 ^ k) (backTo k cs l) +ℤ pos v

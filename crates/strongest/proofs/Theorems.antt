@@ -7,7 +7,7 @@ use lib.Signed.{_≤ℤ_, _<ℤ_}
 use borrow.Author.Tests.{eq-eqb}
 use Rattle.strongest.specs.Strongest.{Asked, available, steps, unread, scoreAt, bestOf, best, start, bestScore, gapOver, gap}
 use Rattle.strongest.specs.Checks.{refusal}
-use Rattle.strongest.proofs.Best.{best-some, best-within, best-highest, best-shortest}
+use Rattle.strongest.proofs.Best.{best-some, best-within, best-highest, best-longest}
 use Rattle.strongest.proofs.Admitting.{admitted}
 use Rattle.strongest.proofs.Unread.{unread-within-gap}
 
@@ -16,9 +16,9 @@ module _ (Q : Asked) where
   pub read-highest : (m : ℕ) → 0 < m → m ≤ steps Q → scoreAt Q m ≤ℤ bestScore Q
   read-highest m h l = best-highest (scoreAt Q) (steps Q) m h l
 
-  -- Of equal scores the shorter stretch is the best: every shorter one scores lower.
-  pub shorter-lower : (m : ℕ) → 0 < m → m < best Q → scoreAt Q m <ℤ bestScore Q
-  shorter-lower m h l = best-shortest (scoreAt Q) (steps Q) m h l
+  -- Of equal scores the longer stretch is the best: every longer one read scores lower.
+  pub longer-lower : (m : ℕ) → best Q < m → m ≤ steps Q → scoreAt Q m <ℤ bestScore Q
+  longer-lower m h l = best-longest (scoreAt Q) (steps Q) m h l
 
   -- With nothing unread the gap is 0.
   pub no-gap : unread Q ≡ 0 → gap Q ≡ 0

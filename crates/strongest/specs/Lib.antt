@@ -1,4 +1,5 @@
 pub mod Strongest
+pub mod Before
 pub mod Checks
 pub mod Call
 pub mod Terms

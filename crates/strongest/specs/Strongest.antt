@@ -6,7 +6,7 @@ use mathlib.Core.List.{List}
 use lib.Dec.{eqb}
 use lib.ListN.{getD}
 use lib.IntN.{ℤ, pos, negsuc, _+ℤ_, _-ℤ_}
-use lib.Signed.{ltZ}
+use lib.Signed.{leZ}
 use Rattle.letters.specs.Code.{codes}
 use Rattle.letters.specs.Place.{Place, places}
 use Rattle.scans.specs.Score.{scoreWithoutF, scoreBy, stretch}
@@ -48,12 +48,12 @@ scoreOf k t ln f q = scoreBy (entry ln) (entry f) (pos t) (4 ^ k) q
 unfoldable pub scoreAt : Asked → ℕ → ℤ
 scoreAt Q l = scoreOf (Q .kmer) (Q .threshold) (Q .ln) (Q .f) (upTo Q l)
 
--- ---- The best of the stretches of 1 to l places, s being their scores; equal scores give the shorter stretch.
+-- ---- The best of the stretches of 1 to l places, s being their scores; equal scores give the longer stretch.
 unfoldable pub bestOf : (ℕ → ℤ) → ℕ → ℕ
 bestOf s zero = 1
 bestOf s (suc l) =
     let best : ℕ = bestOf s l in
-    cond (ltZ (s best) (s (suc l))) (suc l) best
+    cond (leZ (s best) (s (suc l))) (suc l) best
 
 abbrev pub best : Asked → ℕ
 best Q = bestOf (scoreAt Q) (steps Q)

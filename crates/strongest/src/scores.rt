@@ -43,7 +43,7 @@ impl Reading {
     {
         let gain = self.gain + value;
         let best = self.best;
-        if (size == 1) | (best.gain + loss < gain + best.loss) {
+        if (size == 1) | (best.gain + loss <= gain + best.loss) {
             return Self {
                 gain,
                 best: Scored { size, gain, loss },

@@ -3,7 +3,7 @@ use Prim.Native.Nat.{ℕ, zero, suc, _+_, _-_, _*_, _^_, _≤_, _<_, min}
 use mathlib.Core.Path.{_≡_}
 use mathlib.Core.Bool.{cond, _||_}
 use mathlib.Core.List.{List, [], _∷_}
-use lib.Dec.{ltb, eqb}
+use lib.Dec.{leb, eqb}
 use lib.ListN.{length, getD, set, take, drop}
 use lib.IntN.{ℤ, pos, _+ℤ_, _-ℤ_}
 use Rattle.buffers.specs.Free.{Free}
@@ -51,7 +51,7 @@ nothing = record { gain = 0; best = record { size = 0; gain = 0; loss = 0 } }
 unfoldable pub judged : Reading → ℕ → ℕ → ℕ → Reading
 judged r size value loss =
     let gain : ℕ = r .gain + value in
-    cond (eqb size 1 || ltb (r .best .gain + loss) (gain + r .best .loss))
+    cond (eqb size 1 || leb (r .best .gain + loss) (gain + r .best .loss))
     (record { gain = gain; best = record { size = size; gain = gain; loss = loss } })
     (record { gain = gain; best = r .best })
 
