@@ -1,0 +1,8 @@
+pub mod Passing
+pub mod Profile
+pub mod Bytes
+pub mod Runs
+pub mod Theorems
+pub mod Examples
+pub mod MaskLettersKinds
+pub mod MaskLettersReads
