@@ -1,6 +1,7 @@
 // The calls for C and Rust hosts: on numbers and slices, each slice a pointer and its number of elements (include/longdust.h).
 
 mod copies;
+mod profile;
 
 ghost use mathlib.Core.Path.{_≡_};
 ghost use Prim.Native.Nat.{_<_};
