@@ -1,11 +1,12 @@
 /* Low-complexity masking of a nucleotide sequence: two calls, which differ in who fills the tables. Below, each with
  * its own slices and checks: longdust_masked_copy, which shows a mask in the letters, longdust_questions, which
- * answers questions about a list of intervals, longdust_join_tracks, which joins a list with another, and
- * longdust_strongest_stretch, which finds the best-scoring stretch at a letter.
+ * answers questions about a list of intervals, longdust_join_tracks, which joins a list with another,
+ * longdust_strongest_stretch, which finds the best-scoring stretch at a letter, and longdust_small, which masks short
+ * sequences in work space of its own.
  *
  * Link target/staticlib/liblongdust_c.a, which `rt staticlib longdust_c` makes for x86-64. No
  * call allocates, keeps state or reads anything but its arguments, so threads may call at once, each
- * with its own buffers. A call takes less than 16 KB of stack.
+ * with its own buffers. A call takes less than 16 KB of stack, longdust_small 230 KB.
  *
  * Write n for sequence_len, k for kmer, w for window_size, and R for (n + 1) / (k + 1) rounded down.
  * Every slice is a pointer and its number of elements. The pointer is aligned as its element type asks,
@@ -235,6 +236,25 @@ int64_t longdust_strongest_stretch(
     uint8_t *codes, size_t codes_len,
     uint16_t *scan_counts, size_t scan_counts_len,
     uint64_t *start, int64_t *score, uint64_t *gap);
+
+/* The small profile: masks a short sequence in work space of the call's own, on numbers and bytes alone. k is
+ * up to 6, w up to 4,096, n up to 4,096, and GC is uniform; the other numbers are those of longdust_process, and
+ * so are the intervals. A call needs 230 KB of stack, and it fills the tables anew: its time grows with w.
+ *   sequence  n letters
+ *   out       8 R bytes at least; each interval is two numbers of four bytes, lowest first, its start and its end
+ *
+ * The result is the number of intervals; bytes past the last of them do not change. A negative result is minus
+ * the number of the first check that the request fails, and out is not changed then: 1 2 13 3 4 5 6 8 9 as
+ * above, then
+ *   21  outside the profile: k is above 6, w above 4,096 or n above 4,096
+ *   11  out is shorter than 8 R bytes
+ */
+int64_t longdust_small(
+    const uint8_t *sequence, size_t sequence_len,
+    size_t kmer, size_t window_size, double score_threshold,
+    uint32_t xdrop_set, uint32_t xdrop_length,
+    uint16_t min_start_cnt, uint32_t approx, uint32_t forward_only,
+    uint8_t *out, size_t out_len);
 
 #ifdef __cplusplus
 }

@@ -22,6 +22,7 @@ mod record;
 mod request;
 mod sets;
 mod strongest;
+mod small;
 #[cfg(test)]
 mod tests;
 mod tracks;
@@ -52,6 +53,8 @@ compare tracks SEED COUNT  joined tracks, the port's against a plain join letter
 compare tracks beds FOLDER SEED COUNT  larger pairs as BED files, for compare/bedtools.sh
 compare tracks held FOLDER SEED COUNT  the port on these pairs against what bedtools made of them
 compare strongest SEED COUNT  the strongest stretch at a letter, the port's against a plain search
+compare small SEED COUNT   the small profile against the original and the filling call, on random requests
+compare small bench        probes a second
 compare large [quick]      windows of 65,535 letters; quick: narrower ones
 compare fasta FILE..       both on every record of FASTA files, with intervals, share masked and seconds;
                            before the files, k=K sets k, and letters=N cuts a record after N letters
@@ -86,6 +89,8 @@ fn main() {
             held.unwrap_or_else(|error| stop(&error.to_string()))
         }
         ["strongest", seed, count] => strongest::command(strongest_port(), number(seed), number(count)),
+        ["small", "bench"] => return small::bench(small_port(), port()),
+        ["small", seed, count] => small::command(small_port(), port(), number(seed), number(count)),
         ["cases"] => sets::cases(port()),
         ["tables"] => sets::tables(port()),
         ["large"] => sets::large(port(), false),
@@ -121,6 +126,11 @@ fn strongest_port() -> strongest::Port {
     strongest::port
 }
 
+#[cfg(port)]
+fn small_port() -> small::Port {
+    archive::small
+}
+
 #[cfg(not(port))]
 fn port() -> Port {
     stop(WITHOUT_PORT)
@@ -143,6 +153,11 @@ fn tracks_port() -> tracks::Port {
 
 #[cfg(not(port))]
 fn strongest_port() -> strongest::Port {
+    stop(WITHOUT_PORT)
+}
+
+#[cfg(not(port))]
+fn small_port() -> small::Port {
     stop(WITHOUT_PORT)
 }
 

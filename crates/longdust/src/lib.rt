@@ -6,6 +6,7 @@ mod run;
 
 pub use calls::process::process;
 pub use calls::process_tables::process_tables;
+pub use refusals::xdrop_bad;
 use scans::Xdrop;
 use tables::GcOption;
 ghost use mathlib.Core.Path.{_≡_};

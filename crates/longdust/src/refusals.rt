@@ -31,7 +31,7 @@ fn gc_bad(gc: GcOption) -> bool
     }
 }
 
-fn xdrop_bad(xdrop: Xdrop) -> bool
+pub fn xdrop_bad(xdrop: Xdrop) -> bool
     ensures { λ r. ⌜ r ≡ xdropBad xdrop ⌝ }
 {
     match xdrop {

@@ -3,6 +3,7 @@ pub mod Answers
 pub mod CopyAnswers
 pub mod QuestionAnswers
 pub mod TrackAnswers
+pub mod SmallAnswers
 pub mod LongdustProcessTablesKinds
 pub mod LongdustProcessTablesReads
 pub mod LongdustProcessKinds

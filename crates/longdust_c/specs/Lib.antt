@@ -3,3 +3,4 @@ pub mod Copies
 pub mod Questions
 pub mod Tracks
 pub mod Stretches
+pub mod Small

@@ -3,6 +3,7 @@
 mod copies;
 mod joining;
 mod positions;
+mod profile;
 mod stretches;
 
 ghost use mathlib.Core.Path.{_≡_};

@@ -1,0 +1,7 @@
+pub mod Profile
+pub mod Bytes
+pub mod Runs
+pub mod Theorems
+pub mod Examples
+pub mod MaskLettersKinds
+pub mod MaskLettersReads

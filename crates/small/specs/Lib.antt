@@ -1,0 +1,4 @@
+pub mod Profile
+pub mod Bytes
+pub mod Call
+pub mod Terms
