@@ -12,6 +12,7 @@ mod copies;
 mod fasta;
 mod formulas;
 mod generate;
+mod genome;
 mod genomes;
 mod lists;
 mod original;
@@ -58,6 +59,10 @@ compare small bench        probes a second
 compare large [quick]      windows of 65,535 letters; quick: narrower ones
 compare fasta FILE..       both on every record of FASTA files, with intervals, share masked and seconds;
                            before the files, k=K sets k, and letters=N cuts a record after N letters
+compare genome [--OPTION[=VALUE]].. FILE
+                           what `cisternpea` with these options must write for a FASTA file, by the original
+compare random-genome SEED BYTES lf|crlf
+                           a random FASTA file; crlf: half of its records with CRLF line ends
 compare bench [quick]      letters per second of both, as ratios; quick: under a minute
 compare record             the recorded list for crates/replay (its form: src/record.rs)";
 
@@ -69,6 +74,11 @@ fn main() {
         ["original", file] => return original(file),
         ["bench"] => return bench::command(port(), false),
         ["bench", "quick"] => return bench::command(port(), true),
+        ["genome", ref words @ ..] => return genome::command(words).unwrap_or_else(|error| stop(&error)),
+        ["random-genome", seed, bytes, ends @ ("lf" | "crlf")] => {
+            let made = genome::random(number(seed), number(bytes) as usize, ends == "crlf");
+            return made.unwrap_or_else(|error| stop(&error));
+        }
         ["record"] => return print!("{}", record::list()),
         ["random", seed, count] => random::command(port(), generate::request, number(seed), number(count)),
         ["long", seed, count] => random::command(port(), generate::long, number(seed), number(count)),
