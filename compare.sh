@@ -1,6 +1,6 @@
 #!/usr/bin/env bash
 # Holds the port against the original: builds the archive, the program contigs and those that compare, runs them, sums up.
-# Five minutes once the archive is proved. The last line is `N passed, M failed`; the exit status is 1 if anything differs.
+# Eight minutes of processor time once the archive is proved. The last line is `N passed, M failed`; the exit status is 1 if anything differs.
 # The original is read from ../shared/docs/src, or from the folder that LONGDUST_SRC names.
 set -euo pipefail
 cd "$(dirname "$0")"

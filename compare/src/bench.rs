@@ -70,9 +70,8 @@ pub fn turn(port: Port, request: &Request, buffers: &mut Buffers, marks: &mut Op
         original_seconds.set(processor_seconds() - start);
         mask
     };
-    let raised = || {
-        handed_raised::Longdust::process(&request.sequence, handed_raised::options(request), ln.clone(), f.clone())
-    };
+    let raised =
+        || handed_raised::Longdust::process(&request.sequence, handed_raised::options(request), ln.clone(), f.clone());
     let Masked { intervals: mask, before_first } = masked(as_it_stands, raised);
     let start = processor_seconds();
     let said = port(request, buffers);

@@ -81,10 +81,7 @@ pub struct Masked {
 }
 
 /// A variant as it stands; where it tells of a find before the first letter, its twin.
-pub fn masked(
-    as_it_stands: impl Fn() -> Vec<(usize, usize)>,
-    raised: impl Fn() -> Vec<(usize, usize)>,
-) -> Masked {
+pub fn masked(as_it_stands: impl Fn() -> Vec<(usize, usize)>, raised: impl Fn() -> Vec<(usize, usize)>) -> Masked {
     BEFORE_FIRST.set(false);
     let intervals = as_it_stands();
     match BEFORE_FIRST.get() {
@@ -212,13 +209,18 @@ pub fn marks(request: &Request, ln: &[f64], f: &[f64], intervals: &[(usize, usiz
     let forward = strand(&letters);
     let reverse = match request.forward_only {
         true => Vec::new(),
-        false => strand(&reverse_complement(&letters)).into_iter().rev().map(|(start, end)| (n - end, n - start)).collect(),
+        false => {
+            strand(&reverse_complement(&letters)).into_iter().rev().map(|(start, end)| (n - end, n - start)).collect()
+        }
     };
     let lies_in = |list: &[(usize, usize)], (start, end): (usize, usize)| {
         let first = list.partition_point(|interval| interval.0 < start);
         list.get(first).is_some_and(|interval| interval.1 <= end)
     };
-    intervals.iter().map(|&interval| lies_in(&forward, interval) as u8 + 2 * lies_in(&reverse, interval) as u8).collect()
+    intervals
+        .iter()
+        .map(|&interval| lies_in(&forward, interval) as u8 + 2 * lies_in(&reverse, interval) as u8)
+        .collect()
 }
 
 /// The reference's answer, and the tables that the port must have filled.

@@ -288,7 +288,11 @@ impl Display for Request {
 pub enum Answer {
     Refused(u32),
     /// Each interval with its marks: 1 forward, 2 reverse, 3 both.
-    Accepted { in_range: bool, intervals: Vec<(usize, usize)>, marks: Vec<u8> },
+    Accepted {
+        in_range: bool,
+        intervals: Vec<(usize, usize)>,
+        marks: Vec<u8>,
+    },
 }
 
 impl Display for Answer {
