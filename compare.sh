@@ -79,6 +79,21 @@ check "no memory" test "$(ulimit -v 20000 && head -c 9999999 /dev/zero | "$examp
   = $'no memory: Cannot allocate memory\nstatus 2'
 masks -O1 -g -fsanitize=address,leak,undefined -fno-sanitize-recover
 
+# The small profile's example: probes in, the exit status and the lines that must come out.
+smalls() {
+  echo "== examples/small.c $*"
+  cc -std=c99 -Wall -Wextra -Werror "$@" -Iinclude examples/small.c -o "$example" target/staticlib/liblongdust_c.a
+  mask 'ACGATAAAAAAAAAAAAAAAAGC\n' '0 5-21'
+  mask "${genes}ACACACACACACACACACACTTGCATTTTTTTTTTTTTTTT\n\n" $'1 48-89\nrefused 3'
+  mask 'AC1TAC\nAAAAAAAAAAAAAAAA' $'1 refused 13\n0-16'
+  check "a line too long" test "$(head -c 4097 /dev/zero | tr '\0' A | "$example" 2>&1 || echo "status $?")" \
+    = $'a line has more than 4096 letters\nstatus 1'
+  check "4,096 letters" test "$(head -c 4096 /dev/zero | tr '\0' A | "$example")" = 0-4096
+}
+
+smalls -O2
+smalls -O1 -g -fsanitize=address,leak,undefined -fno-sanitize-recover
+
 echo "== the tests of compare itself"
 check "cargo test" bash -c 'cd compare && cargo test --release --offline --quiet'
 
@@ -90,6 +105,7 @@ run "$program" tables
 run "$program" random 1 200000
 run "$program" long 1 240
 run "$program" copies 1 200000
+run "$program" small 1 200000
 run "$program" large quick
 echo "$passed passed, $failed failed"
 [[ $failed -eq 0 ]]

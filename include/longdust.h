@@ -1,9 +1,10 @@
 /* Low-complexity masking of a nucleotide sequence: two calls, which differ in who fills the tables, and
- * longdust_masked_copy, which shows a mask in the letters (below, with its own slices and checks).
+ * longdust_masked_copy, which shows a mask in the letters, and longdust_small, which masks short sequences in
+ * work space of its own (both below, with their own slices and checks).
  *
  * Link target/staticlib/liblongdust_c.a, which `rt staticlib longdust_c` makes for x86-64. No
  * call allocates, keeps state or reads anything but its arguments, so threads may call at once, each
- * with its own buffers. A call takes less than 16 KB of stack.
+ * with its own buffers. A call takes less than 16 KB of stack, longdust_small 230 KB.
  *
  * Write n for sequence_len, k for kmer, w for window_size, and R for (n + 1) / (k + 1) rounded down.
  * Every slice is a pointer and its number of elements. The pointer is aligned as its element type asks,
@@ -135,6 +136,25 @@ int64_t longdust_masked_copy(
     const uint32_t (*list)[2], size_t list_len,
     uint32_t lower_case, uint8_t replacement,
     uint8_t *copy, size_t copy_len);
+
+/* The small profile: masks a short sequence in work space of the call's own, on numbers and bytes alone. k is
+ * up to 6, w up to 4,096, n up to 4,096, and GC is uniform; the other numbers are those of longdust_process, and
+ * so are the intervals. A call needs 230 KB of stack, and it fills the tables anew: its time grows with w.
+ *   sequence  n letters
+ *   out       8 R bytes at least; each interval is two numbers of four bytes, lowest first, its start and its end
+ *
+ * The result is the number of intervals; bytes past the last of them do not change. A negative result is minus
+ * the number of the first check that the request fails, and out is not changed then: 1 2 13 3 4 5 6 8 9 as
+ * above, then
+ *   21  outside the profile: k is above 6, w above 4,096 or n above 4,096
+ *   11  out is shorter than 8 R bytes
+ */
+int64_t longdust_small(
+    const uint8_t *sequence, size_t sequence_len,
+    size_t kmer, size_t window_size, double score_threshold,
+    uint32_t xdrop_set, uint32_t xdrop_length,
+    uint16_t min_start_cnt, uint32_t approx, uint32_t forward_only,
+    uint8_t *out, size_t out_len);
 
 #ifdef __cplusplus
 }

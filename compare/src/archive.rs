@@ -3,6 +3,7 @@
 use crate::copies;
 use crate::port::{Buffers, Candidate, Lent};
 use crate::request::{Gc, Request, Tables};
+use crate::small;
 use std::ptr;
 
 /// Both calls are declared with tables that may be written, so that one expression calls either; that
@@ -160,4 +161,47 @@ pub fn masked_copy(request: &mut copies::Request) -> i64 {
     let (copy, copy_len) = pointer(copy, room);
     // SAFETY: as above.
     unsafe { longdust_masked_copy(sequence, sequence_len, list, list_len, *lower_case, *replacement, copy, copy_len) }
+}
+
+extern "C" {
+    fn longdust_small(
+        sequence: *const u8,
+        sequence_len: usize,
+        kmer: usize,
+        window_size: usize,
+        score_threshold: f64,
+        xdrop_set: u32,
+        xdrop_length: u32,
+        min_start_cnt: u16,
+        approx: u32,
+        forward_only: u32,
+        out: *mut u8,
+        out_len: usize,
+    ) -> i64;
+}
+
+pub fn small(request: &mut small::Request) -> i64 {
+    let small::Request { options, out } = request;
+    let yes = |said: bool| if said { options.yes } else { 0 };
+    let (set, approx, forward_only) = (yes(options.xdrop.is_some()), yes(options.approx), yes(options.forward_only));
+    let (letters, room) = (options.sequence.len(), out.len() - small::GUARD);
+    let (sequence, sequence_len) = pointer(&mut options.sequence, letters);
+    let (out, out_len) = pointer(out, room);
+    // SAFETY: as above.
+    unsafe {
+        longdust_small(
+            sequence,
+            sequence_len,
+            options.kmer,
+            options.window_size,
+            options.score_threshold,
+            set,
+            options.xdrop.unwrap_or(0),
+            options.min_start_cnt,
+            approx,
+            forward_only,
+            out,
+            out_len,
+        )
+    }
 }

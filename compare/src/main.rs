@@ -18,6 +18,7 @@ mod random;
 mod record;
 mod request;
 mod sets;
+mod small;
 #[cfg(test)]
 mod tests;
 
@@ -37,6 +38,8 @@ compare cases              both on the paper's cases
 compare tables             filled tables bit by bit, over k, w and GC
 compare copies SEED COUNT  masked copies, the port's against a plain one, on random requests
 compare copies bench       seconds of both at 100,000,000 letters
+compare small SEED COUNT   the small profile against the original and the filling call, on random requests
+compare small bench        probes a second
 compare large [quick]      windows of 65,535 letters; quick: narrower ones
 compare fasta FILE..       both on every record of FASTA files, with intervals, share masked and seconds;
                            before the files, k=K sets k, and letters=N cuts a record after N letters
@@ -57,6 +60,8 @@ fn main() {
         ["fasta", ref words @ ..] => fasta::command(port(), words).unwrap_or_else(|error| stop(&error)),
         ["copies", "bench"] => return copies::bench(copies_port()),
         ["copies", seed, count] => copies::command(copies_port(), number(seed), number(count)),
+        ["small", "bench"] => return small::bench(small_port(), port()),
+        ["small", seed, count] => small::command(small_port(), port(), number(seed), number(count)),
         ["cases"] => sets::cases(port()),
         ["tables"] => sets::tables(port()),
         ["large"] => sets::large(port(), false),
@@ -77,6 +82,11 @@ fn copies_port() -> copies::Port {
     archive::masked_copy
 }
 
+#[cfg(port)]
+fn small_port() -> small::Port {
+    archive::small
+}
+
 #[cfg(not(port))]
 fn port() -> Port {
     stop(WITHOUT_PORT)
@@ -84,6 +94,11 @@ fn port() -> Port {
 
 #[cfg(not(port))]
 fn copies_port() -> copies::Port {
+    stop(WITHOUT_PORT)
+}
+
+#[cfg(not(port))]
+fn small_port() -> small::Port {
     stop(WITHOUT_PORT)
 }
 
