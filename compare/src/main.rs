@@ -18,6 +18,7 @@ mod random;
 mod record;
 mod request;
 mod sets;
+mod short;
 mod small;
 #[cfg(test)]
 mod tests;
@@ -38,6 +39,8 @@ compare cases              both on the paper's cases
 compare tables             filled tables bit by bit, over k, w and GC
 compare copies SEED COUNT  masked copies, the port's against a plain one, on random requests
 compare copies bench       seconds of both at 100,000,000 letters
+compare short              the table of all short sequences, by the original: crates/short_sequences_table/stdout
+compare short port         the port's call for it, on every size and past the bounds
 compare small SEED COUNT   the small profile against the original and the filling call, on random requests
 compare small bench        probes a second
 compare large [quick]      windows of 65,535 letters; quick: narrower ones
@@ -54,6 +57,8 @@ fn main() {
         ["original", file] => return original(file),
         ["bench"] => return bench::command(port(), false),
         ["bench", "quick"] => return bench::command(port(), true),
+        ["short"] => return print!("{}", short::table()),
+        ["short", "port"] => short::command(short_port()),
         ["record"] => return print!("{}", record::list()),
         ["random", seed, count] => random::command(port(), generate::request, number(seed), number(count)),
         ["long", seed, count] => random::command(port(), generate::long, number(seed), number(count)),
@@ -87,6 +92,11 @@ fn small_port() -> small::Port {
     archive::small
 }
 
+#[cfg(port)]
+fn short_port() -> short::Port {
+    archive::short_sequences
+}
+
 #[cfg(not(port))]
 fn port() -> Port {
     stop(WITHOUT_PORT)
@@ -99,6 +109,11 @@ fn copies_port() -> copies::Port {
 
 #[cfg(not(port))]
 fn small_port() -> small::Port {
+    stop(WITHOUT_PORT)
+}
+
+#[cfg(not(port))]
+fn short_port() -> short::Port {
     stop(WITHOUT_PORT)
 }
 

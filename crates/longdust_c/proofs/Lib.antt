@@ -2,6 +2,7 @@ pub mod Numbers
 pub mod Answers
 pub mod CopyAnswers
 pub mod SmallAnswers
+pub mod ShortAnswers
 pub mod LongdustProcessTablesKinds
 pub mod LongdustProcessTablesReads
 pub mod LongdustProcessKinds

@@ -1,3 +1,4 @@
 pub mod Exported
 pub mod Copies
 pub mod Small
+pub mod Short

@@ -2,6 +2,7 @@
 
 mod copies;
 mod profile;
+mod short;
 
 ghost use mathlib.Core.Path.{_≡_};
 ghost use Prim.Native.Nat.{_<_};

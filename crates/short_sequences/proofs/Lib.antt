@@ -5,5 +5,7 @@ pub mod Writing
 pub mod Tallying
 pub mod Runs
 pub mod Refusals
+pub mod Theorems
+pub mod Examples
 pub mod MaskLettersKinds
 pub mod MaskLettersReads
