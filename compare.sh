@@ -100,12 +100,16 @@ check "cargo test" bash -c 'cd compare && cargo test --release --offline --quiet
 echo "== the recorded list of crates/replay"
 check "compare record" cmp <("$program" record) crates/replay/stdin
 
+echo "== the table of all short sequences"
+check "compare short" cmp <("$program" short) crates/short_sequences_table/stdout
+
 run "$program" cases
 run "$program" tables
 run "$program" random 1 200000
 run "$program" long 1 240
 run "$program" copies 1 200000
 run "$program" small 1 200000
+run "$program" short port
 run "$program" large quick
 echo "$passed passed, $failed failed"
 [[ $failed -eq 0 ]]
