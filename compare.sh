@@ -108,6 +108,9 @@ check "contigs: a full disk" test "$(printf '>a\nAAAAAAAAAAAA\n' | target/bin/co
   = 'contigs: standard output: No space left on device'
 check "compare contigs cases" cmp <("$program" contigs cases) crates/contigs_cases/stdout
 
+echo "== the table of all short sequences"
+check "compare short" cmp <("$program" short) crates/short_sequences_table/stdout
+
 run "$program" cases
 run "$program" tables
 run "$program" random 1 200000
@@ -119,6 +122,7 @@ run "$program" tracks 1 200000
 run compare/bedtools.sh
 run "$program" strongest 1 200000
 run "$program" small 1 200000
+run "$program" short port
 run "$program" large quick
 run host/test
 echo "$passed passed, $failed failed"

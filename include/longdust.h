@@ -1,8 +1,8 @@
 /* Low-complexity masking of a nucleotide sequence: two calls, which differ in who fills the tables. Below, each with
  * its own slices and checks: longdust_masked_copy, which shows a mask in the letters, longdust_questions, which
  * answers questions about a list of intervals, longdust_join_tracks, which joins a list with another,
- * longdust_strongest_stretch, which finds the best-scoring stretch at a letter, and longdust_small, which masks short
- * sequences in work space of its own.
+ * longdust_strongest_stretch, which finds the best-scoring stretch at a letter, longdust_small, which masks short
+ * sequences in work space of its own, and longdust_short_sequences, which masks every short sequence.
  *
  * Link target/staticlib/liblongdust_c.a, which `rt staticlib longdust_c` makes for x86-64. No
  * call allocates, keeps state or reads anything but its arguments, so threads may call at once, each
@@ -255,6 +255,21 @@ int64_t longdust_small(
     uint32_t xdrop_set, uint32_t xdrop_length,
     uint16_t min_start_cnt, uint32_t approx, uint32_t forward_only,
     uint8_t *out, size_t out_len);
+
+/* Runs every sequence of m letters over A C G T N, first letter slowest, with k = 1, w = 8, two strands and
+ * the other options as usual, and counts: tallies[c] is how many have c masked letters, and *refused how many
+ * are too short for a run (all of one letter).
+ *   m        1 to 8
+ *   tallies  m + 1 at least; entries past the first m + 1 do not change
+ *   refused  points to a number, which is always set
+ * It takes about 0.4 microseconds for each sequence (0.14 s for m = 8).
+ *
+ * The result is 5^m, the number of sequences, those refused among them. A negative result is minus the number
+ * of the first check that the request fails; *refused is 0 then, and tallies is not changed:
+ *   22  m is not 1 to 8
+ *   11  tallies is shorter than m + 1
+ */
+int64_t longdust_short_sequences(size_t m, uint32_t *tallies, size_t tallies_len, uint32_t *refused);
 
 #ifdef __cplusplus
 }

@@ -279,3 +279,13 @@ pub fn small(request: &mut small::Request) -> i64 {
         )
     }
 }
+
+extern "C" {
+    fn longdust_short_sequences(m: usize, tallies: *mut u32, tallies_len: usize, refused: *mut u32) -> i64;
+}
+
+pub fn short_sequences(m: usize, tallies: &mut [u32], length: usize, refused: &mut u32) -> i64 {
+    let (tallies, tallies_len) = pointer(tallies, length);
+    // SAFETY: as above.
+    unsafe { longdust_short_sequences(m, tallies, tallies_len, refused) }
+}

@@ -23,6 +23,7 @@ mod record;
 mod request;
 mod sets;
 mod strongest;
+mod short;
 mod small;
 #[cfg(test)]
 mod tests;
@@ -54,6 +55,8 @@ compare tracks SEED COUNT  joined tracks, the port's against a plain join letter
 compare tracks beds FOLDER SEED COUNT  larger pairs as BED files, for compare/bedtools.sh
 compare tracks held FOLDER SEED COUNT  the port on these pairs against what bedtools made of them
 compare strongest SEED COUNT  the strongest stretch at a letter, the port's against a plain search
+compare short              the table of all short sequences, by the original: crates/short_sequences_table/stdout
+compare short port         the port's call for it, on every size and past the bounds
 compare small SEED COUNT   the small profile against the original and the filling call, on random requests
 compare small bench        probes a second
 compare large [quick]      windows of 65,535 letters; quick: narrower ones
@@ -79,6 +82,8 @@ fn main() {
             let made = genome::random(number(seed), number(bytes) as usize, ends == "crlf");
             return made.unwrap_or_else(|error| stop(&error));
         }
+        ["short"] => return print!("{}", short::table()),
+        ["short", "port"] => short::command(short_port()),
         ["record"] => return print!("{}", record::list()),
         ["random", seed, count] => random::command(port(), generate::request, number(seed), number(count)),
         ["long", seed, count] => random::command(port(), generate::long, number(seed), number(count)),
@@ -141,6 +146,11 @@ fn small_port() -> small::Port {
     archive::small
 }
 
+#[cfg(port)]
+fn short_port() -> short::Port {
+    archive::short_sequences
+}
+
 #[cfg(not(port))]
 fn port() -> Port {
     stop(WITHOUT_PORT)
@@ -168,6 +178,11 @@ fn strongest_port() -> strongest::Port {
 
 #[cfg(not(port))]
 fn small_port() -> small::Port {
+    stop(WITHOUT_PORT)
+}
+
+#[cfg(not(port))]
+fn short_port() -> short::Port {
     stop(WITHOUT_PORT)
 }
 

@@ -4,6 +4,7 @@ pub mod CopyAnswers
 pub mod QuestionAnswers
 pub mod TrackAnswers
 pub mod SmallAnswers
+pub mod ShortAnswers
 pub mod LongdustProcessTablesKinds
 pub mod LongdustProcessTablesReads
 pub mod LongdustProcessKinds

@@ -4,3 +4,4 @@ pub mod Questions
 pub mod Tracks
 pub mod Stretches
 pub mod Small
+pub mod Short

@@ -4,6 +4,7 @@ mod copies;
 mod joining;
 mod positions;
 mod profile;
+mod short;
 mod stretches;
 
 ghost use mathlib.Core.Path.{_≡_};

@@ -1,0 +1,11 @@
+pub mod Blocks
+pub mod Sequences
+pub mod Letters
+pub mod Writing
+pub mod Tallying
+pub mod Runs
+pub mod Refusals
+pub mod Theorems
+pub mod Examples
+pub mod MaskLettersKinds
+pub mod MaskLettersReads

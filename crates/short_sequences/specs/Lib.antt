@@ -1,0 +1,3 @@
+pub mod Sequences
+pub mod Tallies
+pub mod Terms
