@@ -1,5 +1,6 @@
 pub mod Profile
 pub mod Bytes
+pub mod Filling
 pub mod Runs
 pub mod Theorems
 pub mod Examples

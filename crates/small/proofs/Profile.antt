@@ -1,4 +1,4 @@
--- What a request inside the profile has: the filling call accepts it in the work space, and its output has room.
+-- What a request inside the profile has: the masking calls accept it in the work space, and its output has room.
 use mathlib.Core.Path.{_≡_, refl, sym, _∙_}
 use mathlib.Core.Bool.{Bool, false, _||_, cond, true≢false}
 use mathlib.Core.Logic.{⊎-elim}
@@ -19,7 +19,7 @@ use Rattle.longdust.specs.Checks.{gcBad, tooShort}
 use Rattle.longdust.specs.Checks.{refusal as callRefusal}
 use Rattle.intervals.proofs.Order.{lt-or-le}
 use Rattle.small.specs.Profile.{notUniform, outside, checks, refusal}
-use Rattle.small.specs.Terms.Run.{lent}
+use Rattle.small.specs.Terms.Run.{lent, Asked}
 use Rattle.checks.proofs.Next.{passes}
 
 -- An eighth of the bytes against so many entries.
@@ -52,7 +52,7 @@ long-enough n k w hn lk hk hw =
     let n-fits = le-ltb 4096 n hn in
     rw (le-ltb 4097 (w + 1) (omega arith), le-ltb 4098 (w + 2) (omega arith), le-ltb 4096 w hw, q, n-fits, r)
 
--- The twelve checks of the filling call, each passed.
+-- The twelve checks of the masking calls, each passed.
 no-refusal : {c1 c2 c13 c3 c4 c5 c6 c7 c8 c9 c10 c11 : Bool} → c1 ≡ false → c2 ≡ false → c13 ≡ false → c3 ≡ false → c4 ≡ false → c5 ≡ false → c6 ≡ false
     → c7 ≡ false → c8 ≡ false → c9 ≡ false → c10 ≡ false → c11 ≡ false
     → _≡_ {A = ℕ} (cond c1 1 (cond c2 2 (cond c13 13 (cond c3 3 (cond c4 4 (cond c5 5 (cond c6 6 (cond c7 7 (cond c8 8 (cond c9 9 (cond c10 10 (cond c11 11 0)))))))))))) 0
@@ -74,8 +74,8 @@ module _ (o : LongdustOptions) (s : List ℕ) (room : ℕ) (e : refusal o s room
   pub kmer-some : 1 ≤ o .kmer
   kmer-some = ltb-false (o .kmer) 1 (neither (ltb (o .kmer) 1) (ltb 12 (o .kmer)) (passed 0) .0)
 
-  -- The filling call accepts the request in the work space.
-  pub call-accepts : callRefusal o s lent ≡ 0
+  -- The masking calls accept the request in the work space.
+  call-accepts : callRefusal o s lent ≡ 0
   unfolding callRefusal
   call-accepts =
       no-refusal
@@ -91,6 +91,9 @@ module _ (o : LongdustOptions) (s : List ℕ) (room : ℕ) (e : refusal o s room
       (passed 8)
       (le-ltb 2147483647 (length s) (omega (arith, inside .2)))
       (long-enough (length s) (o .kmer) (o .«window_size») (inside .2) kmer-some (inside .0) (inside .1))
+
+  pub asked : Asked o s
+  asked = record { accepted = call-accepts; gc = inside .3 }
 
   pub list-room : mostIntervals (length s) (o .kmer) ≤ 2048
   list-room = few-intervals (length s) (o .kmer) (inside .2) kmer-some

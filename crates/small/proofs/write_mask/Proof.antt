@@ -6,7 +6,8 @@ use borrow.Author.Needs.{needs}
 use lib.ListN.{length}
 use lib.Seq.{length-take-le}
 use Rattle.small.specs.Profile.{refusal}
-use Rattle.small.proofs.Runs.{count-held, count-room, bytes-room, bytes-held}
+use Rattle.small.proofs.Profile.{asked}
+use Rattle.small.proofs.Runs.{count-room, bytes-room, bytes-held}
 use Rattle.small.proofs.write_mask.Statement.{statement}
 use Rattle.small.proofs.write_mask.Tie as tie
 
@@ -16,7 +17,10 @@ returns c = record { number = c .before .check .ensures; refused = λ h. (refl, 
 passed : (c : tie.Else1) → let A = c .before .before .before .before .before .args in refusal (A .options) (A .sequence .now) (length (A .out .now)) ≡ 0
 passed c = sym (c .before .check .ensures) ∙ c .if1 .left
 
-counted : (c : tie.After-mask-letters) → c .mask-letters .result .count ≤ length (c .mask-letters .last .1 .1 .0)
+mask-letters-requires : tie.Need-mask-letters-requires
+mask-letters-requires c κs = let a = asked _ _ _ (passed (c .before .before)) in (a, search needs)
+
+counted : (c : tie.After-mask-letters) → c .mask-letters .result ≤ length (c .mask-letters .last .1 .1 .0)
 counted c = let h = count-room (c .mask-letters .ensures) _ (passed (c .before .before .before)) in search needs
 
 returns-2 : tie.Need-returns-2
@@ -28,7 +32,7 @@ returns-2 c =
       number = sym (E .if1 .left) ∙ E .before .check .ensures;
       refused = λ h. absurd (omega arith);
       accepted = λ h.
-          (count-held (R .mask-letters .ensures) _ (passed E), bytes-held (R .mask-letters .ensures) _ (passed E) _ (W .write-list .ensures));
+          (R .mask-letters .ensures .list .count-is, bytes-held (R .mask-letters .ensures) _ (passed E) _ (W .write-list .ensures));
     }
 
 pub write-mask-spec : {M : Type 1} → statement M
@@ -40,7 +44,7 @@ write-mask-spec =
     returns
     (λ c κs. search needs)
     (λ c. search needs)
-    (λ c κs. search needs)
+    mask-letters-requires
     (λ c. counted (c .before))
     (λ c. sym (length-take-le _ _ (counted (c .before .before))))
     (λ c κs. bytes-room (c .before .before .before .mask-letters .ensures) _ (passed (c .before .before .before .before .before .before)))
