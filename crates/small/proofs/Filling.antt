@@ -24,11 +24,11 @@ use Rattle.scans.specs.Setup.{maxTest}
 use Rattle.scans.proofs.Agreeing.{AgreeTo, maxTest-agree, maxTest-longer}
 use Rattle.longdust.specs.declared.LongdustOptions.{LongdustOptions}
 use Rattle.longdust.specs.Mask.{mask}
-use Rattle.longdust.proofs.Accept.{admitted}
 use Rattle.longdust.proofs.Agreeing.{mask-agree}
 use Rattle.small.specs.Profile.{notUniform}
 use Rattle.small.specs.Call.{filledMask}
-use Rattle.small.specs.Terms.Run.{lent, Asked, FilledTo, Serve}
+use Rattle.small.specs.Terms.Run.{Asked, FilledTo, Serve}
+use Rattle.small.proofs.Profile.{window-some, twice}
 
 -- For uniform GC the letters do not matter.
 uniform-density : (k : ℕ) (gc : GcOption) (s : List ℕ) → notUniform gc ≡ false → density k gc s ≡ uniform k
@@ -72,12 +72,6 @@ module _ {o : LongdustOptions} {s : List ℕ} (a : Asked o s) where
   abbrev t : Float
   t = o .«score_threshold»
 
-  pub kmer-fits : k ≤ 12
-  kmer-fits = admitted o s lent (a .accepted) .bounds .kmer-high
-
-  pub window-fits : w ≤ 4096
-  window-fits = omega (arith, admitted o s lent (a .accepted) .enough .ln)
-
   filled-is : mask o s (lnTable w) (fTable k w (uniform k)) ≡ filledMask o s
   unfolding filledMask
   filled-is = ap (λ (d : Density). mask o s (lnTable w) (fTable k w d)) (sym (uniform-density k (o .gc) (codes s) (a .gc)))
@@ -101,8 +95,7 @@ module _ {o : LongdustOptions} {s : List ℕ} (a : Asked o s) where
 
     serve : min w (length s) ≤ m → maxTest w t (take (w + 1) ln′) (take (w + 2) f′) ≡ maxTest w t (lnTable w) (fTable k w (uniform k)) → Serve o s ln′ f′
     serve reach test =
-        let bounds = admitted o s lent (a .accepted) .bounds in
-        record { same-mask = mask-agree o m ln-read f-read test (omega (arith, bounds .window-low)) (bounds .start-low) s reach ∙ filled-is }
+        record { same-mask = mask-agree o m ln-read f-read test (window-some a) (twice a) s reach ∙ filled-is }
 
     -- They decide max_test.
     pub decided-serves : length s ≤ m → maxTest m t ln′ f′ ≢ pos 0 → Serve o s ln′ f′

@@ -17,6 +17,8 @@ use Rattle.tables.specs.declared.GcOption.the-variants.{Uniform, Fixed, Auto}
 use Rattle.longdust.specs.declared.LongdustOptions.{LongdustOptions}
 use Rattle.longdust.specs.Checks.{gcBad, tooShort}
 use Rattle.longdust.specs.Checks.{refusal as callRefusal}
+use Rattle.longdust.specs.Terms.Inner.{Bounds, Enough}
+use Rattle.longdust.proofs.Accept.{admitted}
 use Rattle.intervals.proofs.Order.{lt-or-le}
 use Rattle.small.specs.Profile.{notUniform, outside, checks, refusal}
 use Rattle.small.specs.Terms.Run.{lent, Asked}
@@ -100,3 +102,29 @@ module _ (o : LongdustOptions) (s : List ℕ) (room : ℕ) (e : refusal o s room
 
   pub output-room : 8 * mostIntervals (length s) (o .kmer) ≤ room
   output-room = ltb-false room (8 * mostIntervals (length s) (o .kmer)) (passed 10)
+
+-- What is known of a request that the masking calls accept in the work space.
+module _ {o : LongdustOptions} {s : List ℕ} (a : Asked o s) where
+  bounds : Bounds o
+  bounds = admitted o s lent (a .accepted) .bounds
+
+  enough : Enough (length s) (o .kmer) (o .«window_size») lent
+  enough = admitted o s lent (a .accepted) .enough
+
+  pub kmer-fits : o .kmer ≤ 12
+  kmer-fits = bounds .kmer-high
+
+  pub kmers-fit : 4 ^ (o .kmer) ≤ 4096
+  kmers-fit = enough .window-counts
+
+  pub window-fits : o .«window_size» ≤ 4096
+  window-fits = enough .queue
+
+  pub window-some : 0 < o .«window_size»
+  window-some = omega (arith, bounds .window-low)
+
+  pub letters-fit : length s ≤ 4096
+  letters-fit = enough .codes
+
+  pub twice : 2 ≤ o .«min_start_cnt»
+  twice = bounds .start-low

@@ -11,6 +11,9 @@ ghost use Rattle.small.specs.Profile.{notUniform, outside, refusal};
 ghost use Rattle.small.specs.Bytes.{fourBytes, bytesOf, pairBytes};
 ghost use Rattle.small.specs.Call.{Writes};
 ghost use Rattle.small.specs.Terms.Run.{Asked, FilledTo, Serve, Ran};
+
+mod quiet;
+
 use checks::find_bytes;
 use checks::kmer_outside;
 use checks::min_start_below;
@@ -208,6 +211,12 @@ pub fn write_mask(sequence: &[u8], options: LongdustOptions, out: &mut [u8]) -> 
     let refusal = check(sequence, options, out);
     if refusal != 0 {
         return Written { refusal, count: 0 };
+    }
+    if quiet::is_quiet(sequence, options) {
+        return Written {
+            refusal: 0,
+            count: 0,
+        };
     }
     let mut list = no_intervals();
     let count = mask_letters(sequence, options, &mut list);

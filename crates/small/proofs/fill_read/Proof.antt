@@ -5,7 +5,8 @@ use lib.IntN.{ℤ}
 use mir.Syntax.{w32}
 use mir.Val.{ofZ}
 use borrow.Author.Needs.{needs}
-use Rattle.small.proofs.Filling.{kmer-fits, window-fits, decided-serves, whole-serves}
+use Rattle.small.proofs.Profile.{kmer-fits, window-fits}
+use Rattle.small.proofs.Filling.{decided-serves, whole-serves}
 use Rattle.small.proofs.fill_read.Statement.{statement}
 use Rattle.small.proofs.fill_read.Tie as tie
 
