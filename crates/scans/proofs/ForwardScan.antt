@@ -2,13 +2,13 @@
 use mathlib.Core.Path.{_≡_, refl, sym, ap, _∙_, subst}
 use mathlib.Core.Bool.{Bool, true, false, cond, true≢false}
 use mathlib.Core.List.{List, [], _∷_, _++_}
-use Prim.Native.Nat.{ℕ, zero, suc, _+_, _-_, _/_, _^_, _<_, _≤_}
+use Prim.Native.Nat.{ℕ, _+_, _-_, _/_, _^_, _<_, _≤_}
 use native.Mathlib.Omega.{arith}
 use lib.ListN.{length, getD, drop, replicate, drop-of-length-le}
 use lib.Ieee.{Float, lt}
 use Rattle.floats.specs.Arithmetic.{_⊕_, _⊖_}
 use Rattle.floats.specs.Binary64.{slack}
-use Rattle.letters.specs.Place.{Place, ambiguous, plain}
+use Rattle.letters.specs.Place.{Place}
 use Rattle.letters.specs.Terms.Entry.{decode, decoded}
 use Rattle.letters.proofs.Entries.{decoded-length}
 use Rattle.scans.specs.declared.forward.ForwardState.{ForwardState}

@@ -5,7 +5,7 @@ use mathlib.Core.Bool.{false, true≢false}
 use mathlib.Core.Logic.{_≢_}
 use mathlib.Core.List.{List}
 use native.Mathlib.Omega.{arith}
-use lib.ListN.{length, getD, take, drop, List·getD-append}
+use lib.ListN.{length, take, drop, List·getD-append}
 use lib.Seq.{getD-take}
 use lib.IntN.{pos}
 use lib.Ieee.{Float, nan}

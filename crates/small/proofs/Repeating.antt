@@ -18,7 +18,7 @@ use Rattle.letters.proofs.Codes.{codes-length, reverseComplement-length}
 use Rattle.letters.proofs.Places.{places-length, places-at, place-below}
 use Rattle.letters.proofs.Rolling.{kmer-none, kmer-next, value-small, entry-below, entry-place}
 use Rattle.scans.specs.Setup.{Setup}
-use Rattle.scans.specs.Counts.{hit, count, raise}
+use Rattle.scans.specs.Counts.{count, raise}
 use Rattle.scans.proofs.Counting.{hit-other, count-le, count-snoc, Counted, raise-counted, cleared-counted}
 use Rattle.strand.specs.Step.{intervalsOf}
 use Rattle.strand.proofs.Quiet.{quiet-intervals}

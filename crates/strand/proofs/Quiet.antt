@@ -1,16 +1,14 @@
 -- A strand on which every k-mer stands at fewer than min_start_cnt places is searched from nowhere, and has no interval.
-use mathlib.Core.Path.{_≡_, refl, sym, ap, _∙_, subst}
-use Prim.Native.Nat.{ℕ, zero, suc, _+_, _≤_, _<_}
+use mathlib.Core.Path.{_≡_, refl, sym, ap, _∙_}
+use Prim.Native.Nat.{ℕ, _≤_, _<_}
 use native.Mathlib.Omega.{arith}
-use mathlib.Core.Bool.{Bool, cond}
 use mathlib.Core.List.{List, [], _∷_, _++_, append-nil}
 use lib.ListN.{length}
 use lib.Seq.{append-snoc}
 use lib.Dec.{leb}
-use lib.IntN.{ℤ, negsuc}
+use lib.IntN.{negsuc}
 use borrow.Author.Tests.{lt-leb}
 use Rattle.letters.specs.Place.{Place, ambiguous, plain}
-use Rattle.intervals.specs.Interval.{Interval}
 use Rattle.scans.specs.Setup.{Setup}
 use Rattle.scans.specs.Counts.{count}
 use Rattle.scans.proofs.Test.{by-test}
