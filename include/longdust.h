@@ -239,7 +239,9 @@ int64_t longdust_strongest_stretch(
 
 /* The small profile: masks a short sequence in work space of the call's own, on numbers and bytes alone. k is
  * up to 6, w up to 4,096, n up to 4,096, and GC is uniform; the other numbers are those of longdust_process, and
- * so are the intervals. A call needs 230 KB of stack, and it fills the tables anew: its time grows with w.
+ * so are the intervals. A call needs 230 KB of stack. It fills the tables anew, as far as n letters read them (up to
+ * w if the threshold is so high that n places cannot reach it), and not at all where no k-mer stands min_start_cnt
+ * times in the sequence.
  *   sequence  n letters
  *   out       8 R bytes at least; each interval is two numbers of four bytes, lowest first, its start and its end
  *

@@ -1,11 +1,11 @@
 //! The small profile: the port against the original and against the filling call, on random requests, and how many
 //! probes it masks a second.
 
+use crate::bench::processor_seconds;
 use crate::generate::{self, letters, tandem, Rng};
 use crate::port::{self, Buffers};
 use crate::request::{Answer, Gc, Tables, SLICES};
 use crate::{original, request};
-use std::time::Instant;
 
 /// Bytes that stand behind the output and are no part of it.
 pub const GUARD: usize = 16;
@@ -87,9 +87,24 @@ fn request(seed: u64, number: u64) -> Request {
     Request { options, out: (0..room + GUARD).map(|_| rng.next() as u8).collect() }
 }
 
+/// How far a run needs the tables: up to w, up to n since that decides max_test, or up to w though n is less.
+fn need(options: &request::Request) -> usize {
+    let n = options.sequence.len();
+    if options.window_size <= n {
+        return 0;
+    }
+    let (ln, f) = original::formulas::tables(options);
+    let mut sum = 0.0;
+    let decided = (1..=n).any(|i| {
+        sum += f64::from_bits(ln[i]) - options.score_threshold;
+        sum - f64::from_bits(f[i]) > 0.0
+    });
+    if decided { 1 } else { 2 }
+}
+
 /// The `small` command: every answer, the whole output, and the filling call's intervals.
 pub fn command(port: Port, filling: port::Port, seed: u64, count: u64) -> (u64, u64) {
-    let (mut accepted, mut intervals, mut refused, mut failed) = (0, 0, [0; 32], 0);
+    let (mut accepted, mut intervals, mut needs, mut refused, mut failed) = (0, 0, [[0; 2]; 3], [0; 32], 0);
     for number in 0..count {
         let request = request(seed, number);
         let mut ours = request.clone();
@@ -100,6 +115,7 @@ pub fn command(port: Port, filling: port::Port, seed: u64, count: u64) -> (u64, 
             Ok(mask) => {
                 accepted += 1;
                 intervals += mask.len();
+                needs[need(&request.options)][mask.is_empty() as usize] += 1;
                 let bytes = mask.iter().flat_map(|&(start, end)| [start as u32, end as u32]).flat_map(u32::to_le_bytes);
                 right.out.iter_mut().zip(bytes).for_each(|(byte, new)| *byte = new);
                 if filled(filling, &request.options).as_ref() != Ok(&mask) {
@@ -122,7 +138,11 @@ pub fn command(port: Port, filling: port::Port, seed: u64, count: u64) -> (u64, 
             }
         }
     }
-    println!("accepted {accepted} with {intervals} intervals; refused by number:");
+    println!("accepted {accepted} with {intervals} intervals, by how far a run needs the tables (with intervals, without):");
+    for (way, [some, none]) in ["up to w, n not less", "up to n", "up to w, n less"].iter().zip(needs) {
+        println!("  {way}: {some}, {none}");
+    }
+    println!("refused by number:");
     for (number, times) in refused.iter().enumerate().filter(|(_, &times)| times > 0) {
         println!("  {number}: {times}");
     }
@@ -141,42 +161,46 @@ fn probe(number: usize, n: usize) -> Vec<u8> {
     probe
 }
 
-/// Calls a second for probes of 200 letters at k = 6, over windows: the profile, the filling call on lent buffers, and the
-/// call on tables that were filled before.
+/// Calls a second of processor time for probes of 200 letters at k = 6, over windows: the profile, also on probes that all have a repeat,
+/// the filling call on lent buffers, and the call on tables that were filled before.
 pub fn bench(port: Port, filling: port::Port) {
     const TURNS: usize = 5;
-    println!("w\tprofile\tfilling call\tfilled tables   (calls a second, medians of {TURNS} turns)");
+    const SMALL_CALLS: usize = 10_000;
+    println!("w\tprofile\tall with a repeat\tfilling call\tfilled tables   (calls a second of processor time, medians of {TURNS} turns)");
+    let probes: Vec<_> = (0..100).map(|number| probe(number, 200)).collect();
+    let repeats: Vec<_> = (0..100).map(|number| probe(10 * number, 200)).collect();
     for window_size in [50, 200, 500, 1000, 4096] {
         let options = |tables| request::Request { kmer: MOST_KMER, window_size, tables, ..request::Request::default() };
         let calls = 20_000_000 / (2000 + 40 * window_size);
-        let probes: Vec<_> = (0..100).map(|number| probe(number, 200)).collect();
         let (ln, f) = original::formulas::tables(&options(Tables::Formula));
-        let mut rates = [const { Vec::new() }; 3];
+        let mut rates = [const { Vec::new() }; 4];
         for _ in 0..TURNS {
             let mut small = Request { options: options(Tables::Formula), out: vec![0; 8 * 28 + GUARD] };
-            let start = Instant::now();
-            for call in 0..calls {
-                small.options.sequence.clone_from(&probes[call % probes.len()]);
-                assert!(port(&mut small) >= 0);
+            for (rate, probes) in [(0, &probes), (1, &repeats)] {
+                let start = processor_seconds();
+                for call in 0..SMALL_CALLS {
+                    small.options.sequence.clone_from(&probes[call % probes.len()]);
+                    assert!(port(&mut small) >= 0);
+                }
+                rates[rate].push(SMALL_CALLS as f64 / (processor_seconds() - start));
             }
-            rates[0].push(calls as f64 / start.elapsed().as_secs_f64());
             let given = Tables::Given { ln: ln.clone(), f: f.clone() };
-            for (rate, tables) in [(1, Tables::Formula), (2, given)] {
+            for (rate, tables) in [(2, Tables::Formula), (3, given)] {
                 let request = request::Request { sequence: probes[0].clone(), ..options(tables) };
                 let mut buffers = Buffers::new(&request);
-                let start = Instant::now();
+                let start = processor_seconds();
                 for call in 0..calls {
                     buffers.sequence.clone_from(&probes[call % probes.len()]);
                     assert!(filling(&request, &mut buffers).0 >= 0);
                 }
-                rates[rate].push(calls as f64 / start.elapsed().as_secs_f64());
+                rates[rate].push(calls as f64 / (processor_seconds() - start));
             }
         }
         let median = |rates: &mut Vec<f64>| {
             rates.sort_by(f64::total_cmp);
             rates[rates.len() / 2]
         };
-        let [profile, filling, tables] = rates.each_mut().map(median);
-        println!("{window_size}\t{profile:.0}\t{filling:.0}\t{tables:.0}");
+        let [profile, repeats, filling, tables] = rates.each_mut().map(median);
+        println!("{window_size}\t{profile:.0}\t{repeats:.0}\t{filling:.0}\t{tables:.0}");
     }
 }

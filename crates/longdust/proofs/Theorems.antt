@@ -37,7 +37,7 @@ use Rattle.longdust.specs.Call.{lnRead, fRead, listed, listedMarks, Answ
 use Rattle.longdust.proofs.Accept.{admitted}
 use Rattle.longdust.proofs.Masks.{other-shape, mask-ranges}
 use Rattle.longdust.proofs.Marking.{marked-mask-mirror, marks-backwards, marks-held}
-use Rattle.longdust.proofs.Agreeing.{agree-equal, agree-take, mask-agree, marked-agree}
+use Rattle.longdust.proofs.Agreeing.{agree-equal, agree-take, mask-agree, marked-agree, same-test}
 
 -- For any tables, any float bits.
 pub mask-mirror : (S : Setup) (s : List ℕ) → 0 < S .kmer → maskOf S false (reverseComplement s) ≡ backwards (length s) (maskOf S false s)
@@ -126,17 +126,19 @@ module _ (o : LongdustOptions) (s t : List ℕ) (both : o .«forward_only» ≡ 
       → (listed q c′ ≡ backwards (length s) (listed r b′)) × (listedMarks q c′ ≡ backwardsMarks (listedMarks r b′))
   unfolding mask markedMask setup
   mirror {Tables} {b} {b′} {c} {c′} {r} {q} A B ra rb ln f =
+      let w = o .«window_size» in
+      let test = same-test o ln f in
       let S = setup o (lnRead o b′) (fRead o b′) in
       let bounds = admitted o s _ (sym (A .number) ∙ ra) .bounds in
       let one = wrote-list (A .accepted ra .buffers .list) ∙ ap (λ (k : Bool). maskOf S k (codes s)) both in
       let two = marks-are A ra ∙ ap (λ (k : Bool). marksOf (markedMaskOf S k (codes s))) both in (
         wrote-list (B .accepted rb .buffers .list)
-            ∙ mask-agree o ln f (omega (arith, bounds .window-low)) (bounds .start-low) t
+            ∙ mask-agree o w ln f test (omega (arith, bounds .window-low)) (bounds .start-low) t (omega arith)
             ∙ ap₂ (λ (k : Bool) (z : List ℕ). maskOf S k z) both other
             ∙ mask-mirror S (codes s) (bounds .kmer-low)
             ∙ ap₂ (λ (n : ℕ) (z : List Interval). backwards n z) (codes-length s) (sym one),
         marks-are B rb
-            ∙ ap (λ (ms : List Marked). marksOf ms) (marked-agree o ln f (omega (arith, bounds .window-low)) (bounds .start-low) t)
+            ∙ ap (λ (ms : List Marked). marksOf ms) (marked-agree o w ln f test (omega (arith, bounds .window-low)) (bounds .start-low) t (omega arith))
             ∙ ap₂ (λ (k : Bool) (z : List ℕ). marksOf (markedMaskOf S k z)) both other
             ∙ ap (λ (ms : List Marked). marksOf ms) (marked-mask-mirror S (codes s) (bounds .kmer-low))
             ∙ marks-backwards (length (codes s)) (markedMaskOf S false (codes s))

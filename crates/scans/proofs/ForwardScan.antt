@@ -2,13 +2,13 @@
 use mathlib.Core.Path.{_≡_, refl, sym, ap, _∙_, subst}
 use mathlib.Core.Bool.{Bool, true, false, cond, true≢false}
 use mathlib.Core.List.{List, [], _∷_, _++_}
-use Prim.Native.Nat.{ℕ, zero, suc, _+_, _-_, _/_, _^_, _<_, _≤_}
+use Prim.Native.Nat.{ℕ, _+_, _-_, _/_, _^_, _<_, _≤_}
 use native.Mathlib.Omega.{arith}
-use lib.ListN.{length, getD, set, drop, replicate, drop-of-length-le}
+use lib.ListN.{length, getD, drop, replicate, drop-of-length-le}
 use lib.Ieee.{Float, lt}
 use Rattle.floats.specs.Arithmetic.{_⊕_, _⊖_}
 use Rattle.floats.specs.Binary64.{slack}
-use Rattle.letters.specs.Place.{Place, ambiguous, plain}
+use Rattle.letters.specs.Place.{Place}
 use Rattle.letters.specs.Terms.Entry.{decode, decoded}
 use Rattle.letters.proofs.Entries.{decoded-length}
 use Rattle.scans.specs.declared.forward.ForwardState.{ForwardState}
@@ -19,7 +19,8 @@ use Rattle.scans.specs.Counts.{raise}
 use Rattle.scans.specs.Scans.{value, ForwardSums, Forward, forwardStart, forwardJudged, forwardFrom, dustForward}
 use Rattle.scans.specs.Terms.Window.{countedValue, CountsEntry}
 use Rattle.scans.specs.Terms.Parts.{Coded, UpTo, forwardOf, ForwardPart, Finds}
-use Rattle.scans.proofs.Counting.{raise-length, cleared-counted}
+use Rattle.scans.proofs.Counting.{raise-length}
+use Rattle.scans.proofs.ScanCounts.{up-to-raise}
 use Rattle.scans.proofs.Walk.{rest-cons, rest-none}
 use Rattle.scans.proofs.Values.{raised-value, decode-below}
 
@@ -36,24 +37,6 @@ forward-turn : (S : Setup) (limit : Float) (es : List Place) (l i : ℕ) (a : Fo
     (forwardFrom S limit es (l + 1) (i + 1) (forwardJudged a (nextSum S a v) (nextScore S l a v) i) (raise counts e))
 unfolding forwardFrom
 forward-turn S limit es l i a counts e v pv = rw pv
-
--- ---- Counts that are at most as many as the entries passed.
-up-to-set : (counts : List ℕ) (x c n : ℕ) → UpTo n counts → c ≤ n → (y : ℕ) → getD (set counts x c) y 0 ≤ n
-up-to-set [] x c n w h y = omega arith
-up-to-set (b ∷ counts) zero c n w h zero = h
-up-to-set (b ∷ counts) zero c n w h (suc y) = w .at-most (suc y)
-up-to-set (b ∷ counts) (suc x) c n w h zero = w .at-most zero
-up-to-set (b ∷ counts) (suc x) c n w h (suc y) = up-to-set counts x c n (record { at-most = λ z. w .at-most (suc z) }) h y
-
-pub up-to-cleared : (counts : List ℕ) (m n : ℕ) → counts ≡ replicate m 0 → UpTo n counts
-up-to-cleared counts m n e = rw e (record { at-most = λ x. omega (arith, cleared-counted m .counted x) })
-
-up-to-more : (counts : List ℕ) (n : ℕ) → UpTo n counts → UpTo (n + 1) counts
-up-to-more counts n w = record { at-most = λ x. omega (arith, w .at-most x) }
-
-up-to-raise : (counts : List ℕ) (e : Place) (n : ℕ) → UpTo n counts → UpTo (n + 1) (raise counts e)
-up-to-raise counts ambiguous n w = up-to-more counts n w
-up-to-raise counts (plain x) n w = record { at-most = up-to-set counts x (getD counts x 0 + 1) (n + 1) (up-to-more counts n w) (omega (arith, w .at-most x)) }
 
 -- ---- The code's loop over the entries of a part: what is left of the scan is the whole scan.
 pub record Forwarding (S : Setup) (limit : Float) (start from : ℕ) (part : List ℕ) (a : ForwardState) (counts₀ : List ℕ) (i : ℕ) (b : ForwardState) (counts : List ℕ) : Type 0 where

@@ -1,8 +1,6 @@
 -- Made by tools/lift from the prover's `Kinds` of `mask_letters` over a slice of `[u64; 2]`; not to be edited.
 use Rattle.longdust.proofs.LongdustOptions
 use Rattle.longdust.proofs.LongdustOptions.Laws
-use Rattle.small.proofs.Masked
-use Rattle.small.proofs.Masked.Laws as Laws'
 use borrow.Fn.Kinds
 use borrow.Kind.MutSlice
 use borrow.Kind.ShrSlice
@@ -13,7 +11,7 @@ use borrow.Table.Rows
 use denote.Array
 use denote.Exit
 use denote.Struct.Declared
-use denote.Struct.Laws as Laws''
+use denote.Struct.Laws as Laws'
 use mathlib.Core.List
 use mathlib.Core.Path as Path'
 use mir.Syntax
@@ -25,16 +23,16 @@ ps =
     (List._∷_ (Value.pVal record {
       ty = Declared.row LongdustOptions.the-type;
       one = Path'.refl;
-      val = Laws''.val LongdustOptions.the-type Laws.the-laws;
-      tells = Laws''.tells LongdustOptions.the-type Laws.the-laws;
-      still = Laws''.still LongdustOptions.the-type Laws.the-copy Exit.yes;
+      val = Laws'.val LongdustOptions.the-type Laws.the-laws;
+      tells = Laws'.tells LongdustOptions.the-type Laws.the-laws;
+      still = Laws'.still LongdustOptions.the-type Laws.the-copy Exit.yes;
       row = Rows.whole (Declared.row LongdustOptions.the-type);
       rd = λ x. x;
       mk = λ x. x;
     } λ M 𝓤 H A W. record {
-      copies = Laws''.copy LongdustOptions.the-type Laws.the-copy 𝓤 H A W;
-      lawful = Laws''.lawful LongdustOptions.the-type Laws.the-laws 𝓤 H A W;
-      makes = Laws''.makes LongdustOptions.the-type Laws.the-plain 𝓤 H A;
+      copies = Laws'.copy LongdustOptions.the-type Laws.the-copy 𝓤 H A W;
+      lawful = Laws'.lawful LongdustOptions.the-type Laws.the-laws 𝓤 H A W;
+      makes = Laws'.makes LongdustOptions.the-type Laws.the-plain 𝓤 H A;
       in-mem = Local.mem-whole 𝓤 H A W (Declared.row LongdustOptions.the-type);
       of-mem = Local.whole-mem 𝓤 H A W (Declared.row LongdustOptions.the-type);
     })
@@ -43,19 +41,4 @@ ps =
     List.[]))
 
 abbrev pub r : Kinds.RK 2
-r = Value.rVal record {
-  ty = Declared.row Masked.the-type;
-  one = Path'.refl;
-  val = Laws''.val Masked.the-type Laws'.the-laws;
-  tells = Laws''.tells Masked.the-type Laws'.the-laws;
-  still = Laws''.still Masked.the-type Laws'.the-copy Exit.yes;
-  row = Rows.whole (Declared.row Masked.the-type);
-  rd = λ x. x;
-  mk = λ x. x;
-} λ M 𝓤 H A W. record {
-  copies = Laws''.copy Masked.the-type Laws'.the-copy 𝓤 H A W;
-  lawful = Laws''.lawful Masked.the-type Laws'.the-laws 𝓤 H A W;
-  makes = Laws''.makes Masked.the-type Laws'.the-plain 𝓤 H A;
-  in-mem = Local.mem-whole 𝓤 H A W (Declared.row Masked.the-type);
-  of-mem = Local.whole-mem 𝓤 H A W (Declared.row Masked.the-type);
-}
+r = Kinds.rNum Syntax.w64

@@ -1,4 +1,4 @@
--- What a request inside the profile has: the filling call accepts it in the work space, and its output has room.
+-- What a request inside the profile has: the masking calls accept it in the work space, and its output has room.
 use mathlib.Core.Path.{_≡_, refl, sym, _∙_}
 use mathlib.Core.Bool.{Bool, false, _||_, cond, true≢false}
 use mathlib.Core.Logic.{⊎-elim}
@@ -17,9 +17,11 @@ use Rattle.tables.specs.declared.GcOption.the-variants.{Uniform, Fixed, Auto}
 use Rattle.longdust.specs.declared.LongdustOptions.{LongdustOptions}
 use Rattle.longdust.specs.Checks.{gcBad, tooShort}
 use Rattle.longdust.specs.Checks.{refusal as callRefusal}
+use Rattle.longdust.specs.Terms.Inner.{Bounds, Enough}
+use Rattle.longdust.proofs.Accept.{admitted}
 use Rattle.intervals.proofs.Order.{lt-or-le}
 use Rattle.small.specs.Profile.{notUniform, outside, checks, refusal}
-use Rattle.small.specs.Terms.Run.{lent}
+use Rattle.small.specs.Terms.Run.{lent, Asked}
 use Rattle.checks.proofs.Next.{passes}
 
 -- An eighth of the bytes against so many entries.
@@ -52,7 +54,7 @@ long-enough n k w hn lk hk hw =
     let n-fits = le-ltb 4096 n hn in
     rw (le-ltb 4097 (w + 1) (omega arith), le-ltb 4098 (w + 2) (omega arith), le-ltb 4096 w hw, q, n-fits, r)
 
--- The twelve checks of the filling call, each passed.
+-- The twelve checks of the masking calls, each passed.
 no-refusal : {c1 c2 c13 c3 c4 c5 c6 c7 c8 c9 c10 c11 : Bool} → c1 ≡ false → c2 ≡ false → c13 ≡ false → c3 ≡ false → c4 ≡ false → c5 ≡ false → c6 ≡ false
     → c7 ≡ false → c8 ≡ false → c9 ≡ false → c10 ≡ false → c11 ≡ false
     → _≡_ {A = ℕ} (cond c1 1 (cond c2 2 (cond c13 13 (cond c3 3 (cond c4 4 (cond c5 5 (cond c6 6 (cond c7 7 (cond c8 8 (cond c9 9 (cond c10 10 (cond c11 11 0)))))))))))) 0
@@ -74,8 +76,8 @@ module _ (o : LongdustOptions) (s : List ℕ) (room : ℕ) (e : refusal o s room
   pub kmer-some : 1 ≤ o .kmer
   kmer-some = ltb-false (o .kmer) 1 (neither (ltb (o .kmer) 1) (ltb 12 (o .kmer)) (passed 0) .0)
 
-  -- The filling call accepts the request in the work space.
-  pub call-accepts : callRefusal o s lent ≡ 0
+  -- The masking calls accept the request in the work space.
+  call-accepts : callRefusal o s lent ≡ 0
   unfolding callRefusal
   call-accepts =
       no-refusal
@@ -92,8 +94,37 @@ module _ (o : LongdustOptions) (s : List ℕ) (room : ℕ) (e : refusal o s room
       (le-ltb 2147483647 (length s) (omega (arith, inside .2)))
       (long-enough (length s) (o .kmer) (o .«window_size») (inside .2) kmer-some (inside .0) (inside .1))
 
+  pub asked : Asked o s
+  asked = record { accepted = call-accepts; gc = inside .3 }
+
   pub list-room : mostIntervals (length s) (o .kmer) ≤ 2048
   list-room = few-intervals (length s) (o .kmer) (inside .2) kmer-some
 
   pub output-room : 8 * mostIntervals (length s) (o .kmer) ≤ room
   output-room = ltb-false room (8 * mostIntervals (length s) (o .kmer)) (passed 10)
+
+-- What is known of a request that the masking calls accept in the work space.
+module _ {o : LongdustOptions} {s : List ℕ} (a : Asked o s) where
+  bounds : Bounds o
+  bounds = admitted o s lent (a .accepted) .bounds
+
+  enough : Enough (length s) (o .kmer) (o .«window_size») lent
+  enough = admitted o s lent (a .accepted) .enough
+
+  pub kmer-fits : o .kmer ≤ 12
+  kmer-fits = bounds .kmer-high
+
+  pub kmers-fit : 4 ^ (o .kmer) ≤ 4096
+  kmers-fit = enough .window-counts
+
+  pub window-fits : o .«window_size» ≤ 4096
+  window-fits = enough .queue
+
+  pub window-some : 0 < o .«window_size»
+  window-some = omega (arith, bounds .window-low)
+
+  pub letters-fit : length s ≤ 4096
+  letters-fit = enough .codes
+
+  pub twice : 2 ≤ o .«min_start_cnt»
+  twice = bounds .start-low

@@ -10,7 +10,10 @@ ghost use Rattle.intervals.specs.Interval.{interval, listOf};
 ghost use Rattle.small.specs.Profile.{notUniform, outside, refusal};
 ghost use Rattle.small.specs.Bytes.{fourBytes, bytesOf, pairBytes};
 ghost use Rattle.small.specs.Call.{Writes};
-ghost use Rattle.small.specs.Terms.Run.{Ran};
+ghost use Rattle.small.specs.Terms.Run.{Asked, FilledTo, Serve, Ran};
+
+mod quiet;
+
 use checks::find_bytes;
 use checks::kmer_outside;
 use checks::min_start_below;
@@ -34,12 +37,6 @@ const LIST_ROOM: usize = 2048;
 
 // The refusal number and 0, or 0 and how many intervals were written.
 pub struct Written {
-    pub refusal: u32,
-    pub count: usize,
-}
-
-// What a run answers: the refusal number, 0 for an accepted request, and the interval count.
-pub struct Masked {
     pub refusal: u32,
     pub count: usize,
 }
@@ -140,8 +137,39 @@ fn no_intervals() -> [[u32; 2]; LIST_ROOM] {
     [[0, 0]; LIST_ROOM]
 }
 
-// Masks the letters in work buffers of its own. The intervals go to the front of the list.
-pub fn mask_letters(letters: &[u8], options: LongdustOptions, list: &mut [[u32; 2]]) -> Masked
+// Fills the tables up to m, for uniform GC.
+fn fill_up_to(m: usize, k: usize, ln: &mut [f64], f: &mut [f64])
+    requires { ⌜ (m ≤ 4096) × (k ≤ 12) ⌝ }
+    requires { ⌜ (length (now ln) ≡ 4097) × (length (now f) ≡ 4098) ⌝ }
+    ensures { λ _. ⌜ FilledTo m k (now (ln .entry)) (now (f .entry)) (now (ln .exit)) (now (f .exit)) ⌝ }
+{
+    let no_letters = [0u8; 1];
+    tables::fill_tables(ln, f, k, m, GcOption::Uniform, &no_letters);
+}
+
+// Fills the tables as far as a run over the letters reads them: up to n or w, or up to w where n entries do not decide max_test.
+fn fill_read(letters: &[u8], options: LongdustOptions, ln: &mut [f64], f: &mut [f64])
+    requires { ⌜ Asked options (now letters) ⌝ }
+    requires { ⌜ (length (now ln) ≡ 4097) × (length (now f) ≡ 4098) ⌝ }
+    ensures { λ _. ⌜ Serve options (now (letters .entry)) (now (ln .exit)) (now (f .exit)) ⌝ }
+{
+    let n = letters.len();
+    let k = options.kmer;
+    let w = options.window_size;
+    if w <= n {
+        fill_up_to(w, k, ln, f);
+        return;
+    }
+    fill_up_to(n, k, ln, f);
+    if scans::max_test(ln, f, n as u32, options.score_threshold) != 0 {
+        return;
+    }
+    fill_up_to(w, k, ln, f);
+}
+
+// Masks the letters in work buffers of its own; the intervals go to the front of the list. Answers how many there are.
+pub fn mask_letters(letters: &[u8], options: LongdustOptions, list: &mut [[u32; 2]]) -> usize
+    requires { ⌜ Asked options (now letters) ⌝ }
     requires { ⌜ length (now list) ≡ 2048 ⌝ }
     ensures { λ r. ⌜ Ran options (now (letters .entry)) (now (list .entry)) (now (list .exit)) r ⌝ }
 {
@@ -156,11 +184,12 @@ pub fn mask_letters(letters: &[u8], options: LongdustOptions, list: &mut [[u32; 
     let mut forward_list = no_intervals();
     let mut reverse_list = no_intervals();
     let mut marks = [0u8; LIST_ROOM];
-    let answer = longdust::process(
+    fill_read(letters, options, &mut ln, &mut f);
+    let answer = longdust::process_tables(
         letters,
         options,
-        &mut ln,
-        &mut f,
+        &ln,
+        &f,
         &mut queue,
         &mut window_counts,
         &mut scan_counts,
@@ -172,10 +201,7 @@ pub fn mask_letters(letters: &[u8], options: LongdustOptions, list: &mut [[u32; 
         list,
         &mut marks,
     );
-    Masked {
-        refusal: answer.refusal,
-        count: answer.count,
-    }
+    answer.count
 }
 
 // Writes the mask of the sequence to the front of `out`, each interval as its start and its end, four bytes each, lowest first.
@@ -186,9 +212,14 @@ pub fn write_mask(sequence: &[u8], options: LongdustOptions, out: &mut [u8]) -> 
     if refusal != 0 {
         return Written { refusal, count: 0 };
     }
+    if quiet::is_quiet(sequence, options) {
+        return Written {
+            refusal: 0,
+            count: 0,
+        };
+    }
     let mut list = no_intervals();
-    let run = mask_letters(sequence, options, &mut list);
-    let count = run.count;
+    let count = mask_letters(sequence, options, &mut list);
     write_list(&list[..count], out);
     Written { refusal: 0, count }
 }

@@ -6,6 +6,7 @@ pub mod Evidence
 pub mod Shorter
 pub mod Range
 pub mod Agreeing
+pub mod Quiet
 pub mod Theorems
 pub mod Examples
 pub mod Signed

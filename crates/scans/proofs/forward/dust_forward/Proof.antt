@@ -9,7 +9,8 @@ use Rattle.scans.specs.Terms.Parts.{UpTo}
 use Rattle.scans.proofs.Ring.{window-length}
 use Rattle.scans.proofs.Parts.{Split, ordered, older, newer, older-length, newer-length, older-coded, newer-coded, both-parts}
 use Rattle.scans.proofs.Walk.{queued-as}
-use Rattle.scans.proofs.ForwardScan.{up-to-cleared, forward-stopped, forward-both}
+use Rattle.scans.proofs.ScanCounts.{up-to-cleared}
+use Rattle.scans.proofs.ForwardScan.{forward-stopped, forward-both}
 use Rattle.scans.proofs.forward.dust_forward.Statement.{statement}
 use Rattle.scans.proofs.forward.dust_forward.Tie as tie
 
