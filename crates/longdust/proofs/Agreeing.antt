@@ -10,7 +10,7 @@ use native.Mathlib.Omega.{arith}
 use Rattle.letters.specs.Code.{codes, reverseComplement}
 use Rattle.scans.specs.Setup.{Setup}
 use Rattle.scans.proofs.Agreeing.{AgreeTo, Agree, maxTest-agree}
-use Rattle.strand.specs.Range.{inRange}
+use Rattle.scans.specs.Range.{inRange}
 use Rattle.strand.proofs.Agreeing.{inRange-agree, intervals-agree}
 use Rattle.longdust.specs.declared.LongdustOptions.{LongdustOptions}
 use Rattle.longdust.specs.Mask.{setup, maskOf, mask, markedMaskOf, markedMask}

@@ -17,7 +17,7 @@ use Rattle.intervals.proofs.Slice.{wrote-list, length-entries}
 use Rattle.scans.specs.declared.Params.{Params}
 use Rattle.scans.specs.Setup.{Setup}
 use Rattle.scans.specs.Terms.Numbers.{setupOf}
-use Rattle.strand.specs.Range.{inRange, CheckedSetup}
+use Rattle.scans.specs.Range.{inRange, CheckedSetup}
 use Rattle.longdust.specs.declared.LongdustOptions.{LongdustOptions}
 use Rattle.longdust.specs.declared.Answer.{Answer}
 use Rattle.longdust.specs.Mask.{setup, maskOf, mask, markedMaskOf, markedMask}

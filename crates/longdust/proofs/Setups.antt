@@ -13,7 +13,7 @@ use Rattle.checks.specs.Tests.{thresholdBad}
 use Rattle.scans.specs.declared.Params.{Params}
 use Rattle.scans.specs.Setup.{Setup, dropLimit, maxTest}
 use Rattle.scans.specs.Terms.Numbers.{setupOf}
-use Rattle.strand.specs.Range.{CheckedSetup}
+use Rattle.scans.specs.Range.{CheckedSetup}
 use Rattle.longdust.specs.declared.LongdustOptions.{LongdustOptions}
 use Rattle.longdust.specs.Mask.{setup}
 use Rattle.longdust.specs.Terms.Inner.{Bounds, Prepared}

@@ -6,7 +6,7 @@ ghost use lib.ListN.{length, take};
 ghost use Rattle.intervals.specs.Interval.{listOf};
 ghost use Rattle.intervals.specs.Merge.{mergeMarked, WroteMarked, backwards};
 ghost use Rattle.scans.specs.Terms.Numbers.{setupOf};
-ghost use Rattle.strand.specs.Range.{tableInRange, inRange};
+ghost use Rattle.scans.specs.Range.{tableInRange, inRange};
 ghost use Rattle.longdust.specs.Buffers.{buffers, lengths};
 ghost use Rattle.longdust.specs.Mask.{markedMaskOf};
 ghost use Rattle.longdust.specs.Terms.Inner.{Bounds, Admitted, Prepared, ReverseLent, Exact, otherIntervals, Scanned};

@@ -1,5 +1,6 @@
 pub mod Numbers
 pub mod Counted
+pub mod Shape
 pub mod Window
 pub mod Parts
 pub mod Carry

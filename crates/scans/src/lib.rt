@@ -27,6 +27,7 @@ pub use counts::count_entry;
 pub use counts::lower_entry;
 pub use dust::dust_backward;
 pub use limits::drop_limit;
+pub use limits::is_usual;
 pub use limits::max_test;
 pub use queue::clear_from;
 pub use queue::ring_index;
@@ -48,6 +49,8 @@ pub struct Params {
     pub drop_limit: f64,
     pub approx: bool,
     pub max_test: i32,
+    // Whether the tables are in range and of the usual shape; only then are scans left out.
+    pub usual: bool,
 }
 
 // The sum and the best score of the last find's forward scan, carried on to the newest entry while `on`.

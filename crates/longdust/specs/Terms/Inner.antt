@@ -14,7 +14,7 @@ use Rattle.scans.specs.declared.Params.{Params}
 use Rattle.scans.specs.Setup.{Setup}
 use Rattle.scans.specs.Terms.Numbers.{setupOf}
 use Rattle.strand.specs.Step.{intervalsOf}
-use Rattle.strand.specs.Range.{CheckedSetup}
+use Rattle.scans.specs.Range.{CheckedSetup}
 use Rattle.strand.specs.Terms.Running.{StrandLent}
 use Rattle.longdust.specs.declared.LongdustOptions.{LongdustOptions}
 use Rattle.longdust.specs.declared.Lent.{Lent}

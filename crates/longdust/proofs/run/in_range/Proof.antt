@@ -4,7 +4,7 @@ use mathlib.Core.Bool.{Bool, _&&_}
 use lib.Ieee.{le}
 use borrow.Author.Needs.{needs}
 use Rattle.floats.specs.Binary64.{sixteen}
-use Rattle.strand.specs.Range.{inRange}
+use Rattle.scans.specs.Range.{inRange}
 use Rattle.longdust.proofs.run.in_range.Statement.{statement}
 use Rattle.longdust.proofs.run.in_range.Tie as tie
 

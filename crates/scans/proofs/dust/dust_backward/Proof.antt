@@ -24,7 +24,7 @@ searched c = c .before .before .before
 find-quickly-requires : tie.Need-find-quickly-requires
 find-quickly-requires c κs =
     let s = c .before .before .before .before .before .before .pre in
-    (s .0, ((s .1 .1 .0 .0, s .1 .0 .f-long, s .1 .1 .0 .1), s .1 .1 .1))
+    (s .0, ((s .1 .1 .0 .0, s .1 .0 .f-long, s .1 .1 .0 .1), s .1 .1 .1 .0))
 
 returns : tie.Need-returns
 returns c = c .before .before .before .before .find-quickly .ensures .tells (c .if1 .taken)

@@ -202,7 +202,7 @@ abbrev e18 : Row.Entry
 e18 = (0, Rows.sc-here z0)
 
 abbrev y17 : Syntax.Ty
-y17 = Syntax.tyStruct (115 ∷ 99 ∷ 97 ∷ 110 ∷ 115 ∷ 58 ∷ 58 ∷ 80 ∷ 97 ∷ 114 ∷ 97 ∷ 109 ∷ 115 ∷ []) (Syntax.tcons y1 (Syntax.tcons y1 (Syntax.tcons y6 (Syntax.tcons y0 (Syntax.tcons y0 (Syntax.tcons Syntax.tyBool (Syntax.tcons y3 Syntax.tnil)))))))
+y17 = Syntax.tyStruct (115 ∷ 99 ∷ 97 ∷ 110 ∷ 115 ∷ 58 ∷ 58 ∷ 80 ∷ 97 ∷ 114 ∷ 97 ∷ 109 ∷ 115 ∷ []) (Syntax.tcons y1 (Syntax.tcons y1 (Syntax.tcons y6 (Syntax.tcons y0 (Syntax.tcons y0 (Syntax.tcons Syntax.tyBool (Syntax.tcons y3 (Syntax.tcons Syntax.tyBool Syntax.tnil))))))))
 
 abbrev e19 : Row.Entry
 e19 = (1, Rows.any-gone y17)

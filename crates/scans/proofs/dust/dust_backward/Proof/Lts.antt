@@ -229,7 +229,7 @@ abbrev e25 : Row.Entry
 e25 = (0, Rows.whole q5)
 
 abbrev y18 : Syntax.Ty
-y18 = Syntax.tyStruct (115 ∷ 99 ∷ 97 ∷ 110 ∷ 115 ∷ 58 ∷ 58 ∷ 80 ∷ 97 ∷ 114 ∷ 97 ∷ 109 ∷ 115 ∷ []) (Syntax.tcons y0 (Syntax.tcons y0 (Syntax.tcons y4 (Syntax.tcons y1 (Syntax.tcons y1 (Syntax.tcons Syntax.tyBool (Syntax.tcons y11 Syntax.tnil)))))))
+y18 = Syntax.tyStruct (115 ∷ 99 ∷ 97 ∷ 110 ∷ 115 ∷ 58 ∷ 58 ∷ 80 ∷ 97 ∷ 114 ∷ 97 ∷ 109 ∷ 115 ∷ []) (Syntax.tcons y0 (Syntax.tcons y0 (Syntax.tcons y4 (Syntax.tcons y1 (Syntax.tcons y1 (Syntax.tcons Syntax.tyBool (Syntax.tcons y11 (Syntax.tcons Syntax.tyBool Syntax.tnil))))))))
 
 abbrev e26 : Row.Entry
 e26 = (1, Rows.any-gone y18)
