@@ -5,3 +5,4 @@ pub mod Window
 pub mod Parts
 pub mod Carry
 pub mod Search
+pub mod Fails

@@ -14,6 +14,8 @@ use crate::Params;
 use crate::Scanned;
 use crate::candidates::scan_backward;
 use crate::candidates::try_candidates;
+use crate::carried::nothing;
+use crate::fails::none_ends;
 use crate::quick::find_quickly;
 
 // One past the index in the window from which a forward scan ends best at the newest entry, 0 where there is none, from cleared counts.
@@ -54,7 +56,7 @@ pub fn dust_backward(
     if quick.found != 0 {
         return quick;
     }
-    let noted = scan_backward(
+    let searched = scan_backward(
         p,
         queue,
         head,
@@ -65,5 +67,9 @@ pub fn dust_backward(
         scan_counts,
         candidates,
     );
+    if none_ends(p, searched, queue, head, len, ln, f, scan_counts) {
+        return nothing();
+    }
+    let noted = searched.noted;
     try_candidates(p, queue, head, len, noted, ln, f, candidates, scan_counts)
 }

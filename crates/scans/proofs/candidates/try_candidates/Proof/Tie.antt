@@ -312,7 +312,6 @@ module _ {M : Type 1} where
       Reads'3.Pre Reads'3.Post Inv μ answer answer' answer'' answer'3 answer'4 answer'5 answer'6
       answer'7 answer'8
 
-  -- antt refused `close` as it was built: the module's report says why
   pub close : Lts.Closed (
     Reads.Asked,
     Reads.Learnt,
