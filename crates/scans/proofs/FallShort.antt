@@ -1,6 +1,6 @@
--- Tables in range and of the usual shape. From the newest place back: what the l newest places of the window add to a stretch from place a, in exact numbers, is at most their T and what f grows by
--- over the last l places of a stretch from place z, less a margin. Then no forward scan from a place between a and z is best at the newest place (`none-ends`).
--- A float sum that lies 2^-10 below the floats' difference tells it (`told-short`).
+-- Tables in range and of the usual shape. Where the l newest places of a window add less to a stretch from place a than their T and what f grows by over the last l places of a stretch
+-- from place z, with a margin, no forward scan from a place between a and z is best at the newest place (`none-ends`).
+-- A float sum from the newest place back that lies 2^-10 below the difference of the f entries tells it (`told-short`).
 use mathlib.Core.Path.{_≡_, refl, sym, ap, _∙_, subst}
 use Prim.Native.Nat.{ℕ, suc, _+_, _*_, _-_, _≤_, _<_}
 use native.Mathlib.Nat.{mul-le-mul-right}
@@ -26,10 +26,10 @@ use Rattle.scans.specs.Counts.{count, lower}
 use Rattle.scans.specs.Scans.{dustForward}
 use Rattle.scans.specs.Terms.Window.{countedValue}
 use Rattle.scans.specs.Terms.Fails.{NoneEnds}
-use Rattle.scans.proofs.Counting.{count-append, count-snoc, hit-self, below-right, below-drop, below-take, Counted, lower-counted}
+use Rattle.scans.proofs.Counting.{count-append, count-snoc, hit-self, below-right, below-drop, below-take, Counted, lower-newest}
 use Rattle.scans.proofs.Exact.{added}
-use Rattle.scans.proofs.ForwardScore.{forward-inside, forward-shorter}
-use Rattle.scans.proofs.Gain.{InRange, gain, loss, added-ranged, gain-snoc}
+use Rattle.scans.proofs.ForwardScore.{forward-shorter}
+use Rattle.scans.proofs.Gain.{InRange, gain, added-ranged, gain-snoc}
 use Rattle.scans.proofs.Rising.{gain-rise}
 use Rattle.scans.proofs.Shape.{margin, margin-eps, unevenness, unevenness-eps, UsualShape, f-widens}
 
@@ -37,7 +37,10 @@ use Rattle.scans.proofs.Shape.{margin, margin-eps, unevenness, unevenne
 abbrev pub certain : Float
 certain = ofBits binary64 0x3f50_0000_0000_0000
 
-certain-sized : Sized false (17592186044416 * eps) certain
+abbrev certain-units : ℕ
+certain-units = 17592186044416 * eps
+
+certain-sized : Sized false certain-units certain
 unfolding ofBits fits magnitude eps
 certain-sized = record { ok = record { finite = tt; fits = tt }; sign-is = refl; units = refl }
 
@@ -45,19 +48,15 @@ certain-sized = record { ok = record { finite = tt; fits = tt }; sign-is = refl;
 after-shift : {s : Float} {i P N : ℕ} (Q R : ℕ) → After i s P N → P + R ≡ Q + N → After i s Q R
 after-shift Q R a e = record { near = near-as (a .near) e (omega arith); high = omega (arith, a .high); low = omega (arith, a .low) }
 
--- The newest place leaves the counts.
-lower-newest : (m : ℕ) (counts : List ℕ) (q : List Place) (e : Place) → BelowAt m e → Counted m counts (q ++ e ∷ []) → Counted m (lower counts e) q
-lower-newest m counts q e b c = lower-counted m counts e q b (record { long = c .long; counted = λ x. c .counted x ∙ count-snoc x q e })
-
 -- The difference of two f entries, less 2^-10.
-less-certain : (s : Float) (P N : ℕ) → Near binary64 s P N (1048576 * eps) → P ≤ 1048576 * one → N ≤ 1048576 * one → Near binary64 (s ⊖ certain) P (N + 17592186044416 * eps) (3145728 * eps)
+less-certain : (s : Float) (P N : ℕ) → Near binary64 s P N (1048576 * eps) → P ≤ 1048576 * one → N ≤ 1048576 * one → Near binary64 (s ⊖ certain) P (N + certain-units) (3145728 * eps)
 less-certain s P N d p n =
     let c = certain-sized in
     let cp = sized-parts c in
-    let small : 1048576 * eps + 17592186044416 * eps ≤ one = let oe = one-eps in omega arith in
+    let small : 1048576 * eps + certain-units ≤ one = let oe = one-eps in omega arith in
     near-as (count-sub 21 (lit≤ tt) d (c .ok) (omega (arith, cp .0, cp .1)) (omega (arith, cp .0, cp .1))) (omega (arith, cp .0, cp .1)) (omega arith)
 
-between : (x y : Float) → Ranged 1048576 x → Ranged 1048576 y → Near binary64 (x ⊖ y ⊖ certain) (pos64 x) (pos64 y + 17592186044416 * eps) (3145728 * eps)
+between : (x y : Float) → Ranged 1048576 x → Ranged 1048576 y → Near binary64 (x ⊖ y ⊖ certain) (pos64 x) (pos64 y + certain-units) (3145728 * eps)
 between x y X Y =
     let xl = X .low in
     let yl = Y .low in
@@ -77,7 +76,7 @@ weighed D U A W t F G P Q l rest size e k short less wide best =
     let se : size * eps ≤ 65535 * eps = mul-le-mul-right eps k in
     omega arith
 
-settled : (A Y Z W l : ℕ) → l ≤ 65535 → A + (Y + 17592186044416 * eps) < Z + W + (err l + 3145728 * eps) → A + Y + margin ≤ W + Z
+settled : (A Y Z W l : ℕ) → l ≤ 65535 → A + (Y + certain-units) < Z + W + (err l + 3145728 * eps) → A + Y + margin ≤ W + Z
 settled A Y Z W l k h = let m = margin-eps in let le : l * eps ≤ 65535 * eps = mul-le-mul-right eps k in omega arith
 
 -- The places of q from a on but for the l newest.
@@ -97,7 +96,7 @@ module _ (S : Setup) (R : InRange S) (shape : UsualShape S) (q : List Place) (b 
   abbrev t : Float
   t = S .score-threshold
 
-  -- All but the l newest places add no more to a later start: m and r places stand before these.
+  -- The l newest places add no more to a later start; m and r places stand before them, from a and from j on.
   less-added : (a d j l m r : ℕ) → a + d ≡ j → a + m + l ≡ n → j + r + l ≡ n → gain S (drop j q) + gain S (take m (drop a q)) ≤ gain S (drop a q) + gain S (take r (drop j q))
   less-added a d j l m r ad am jr =
       let u : List Place = take r (drop j q) in
@@ -196,7 +195,7 @@ module _ (S : Setup) (R : InRange S) (shape : UsualShape S) (q : List Place) (b 
       abbrev limit : Float
       limit = fAt S (n - z) ⊖ fAt S (n - z - (l + 1)) ⊖ certain
 
-      limit-near : Near binary64 limit (pos64 (fAt S (n - z))) (pos64 (fAt S (n - z - (l + 1))) + 17592186044416 * eps) (3145728 * eps)
+      limit-near : Near binary64 limit (pos64 (fAt S (n - z))) (pos64 (fAt S (n - z - (l + 1))) + certain-units) (3145728 * eps)
       limit-near =
           let x = R .f-ranged (n - z) (omega arith) (omega arith) in
           let y = R .f-ranged (n - z - (l + 1)) (omega arith) (omega arith) in

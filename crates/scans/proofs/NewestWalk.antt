@@ -1,6 +1,6 @@
 -- The walk over the newest entries of a ring, a turn at a time, and what it tells.
 use mathlib.Core.Path.{_≡_, sym, ap, _∙_, subst}
-use mathlib.Core.Bool.{Bool, true, false, true≢false}
+use mathlib.Core.Bool.{true, false, true≢false}
 use mathlib.Core.List.{List, _++_}
 use Prim.Native.Nat.{ℕ, _+_, _-_, _/_, _^_, _<_, _≤_}
 use native.Mathlib.Omega.{arith}
@@ -9,7 +9,7 @@ use lib.Dec.{T}
 use lib.Ieee.{Float, lt}
 use Rattle.floats.specs.Arithmetic.{_⊕_, _⊖_}
 use Rattle.floats.specs.Binary64.{zero64}
-use Rattle.letters.specs.Place.{Place, ambiguous, Below}
+use Rattle.letters.specs.Place.{Place, ambiguous}
 use Rattle.letters.specs.Terms.Entry.{decode}
 use Rattle.scans.specs.declared.Params.{Params}
 use Rattle.scans.specs.Setup.{Setup, fAt}
@@ -18,12 +18,12 @@ use Rattle.scans.specs.Terms.Counted.{Counted}
 use Rattle.scans.specs.Terms.Numbers.{setupOf}
 use Rattle.scans.specs.Terms.Shape.{Usual}
 use Rattle.scans.specs.Terms.Window.{At, ringIndex, queue, window, countedValue}
-use Rattle.scans.specs.Terms.Parts.{Queued, Ringed}
+use Rattle.scans.specs.Terms.Parts.{Queued}
 use Rattle.scans.specs.Terms.Carry.{Touched}
 use Rattle.scans.specs.Terms.Fails.{FallsShort}
 use Rattle.scans.proofs.Counting.{count-append, count-le}
 use Rattle.scans.proofs.Ring.{ring-index-at, queue-at, window-at, window-length}
-use Rattle.scans.proofs.Walk.{queued-below, queued-as}
+use Rattle.scans.proofs.Walk.{queued-below}
 use Rattle.scans.proofs.Shape.{usual-range, usual-shape}
 use Rattle.scans.proofs.FallShort.{certain, without, Back, back-start, back-next, told-short, none-ends}
 

@@ -12,7 +12,7 @@ use borrow.Author.Tests.{eqb-false}
 use Rattle.letters.specs.Place.{Place}
 use Rattle.scans.specs.Setup.{Setup}
 use Rattle.scans.specs.Counts.{cleared}
-use Rattle.scans.specs.Scans.{none, at, Outcome, Forward, dustForward, Candidate, noCandidate, Backward, withBest, tryFrom, tried, dustBackward}
+use Rattle.scans.specs.Scans.{none, at, Outcome, Forward, dustForward, Candidate, noCandidate, withBest, tryFrom, tried, dustBackward}
 use Rattle.scans.specs.declared.candidates.Searched.{Searched}
 use Rattle.scans.specs.Terms.Search.{candidatesOf, SearchedAll}
 use Rattle.scans.specs.Terms.Fails.{NoneEnds, FallsShort, TellsNone}

@@ -1,6 +1,5 @@
 // Whether no candidate's forward scan can be best at the newest entry, which a walk over the newest entries may tell before any candidate is tried.
 
-ghost use mathlib.Core.Path.{_≡_};
 ghost use Prim.Native.Nat.{_^_, _<_, _≤_};
 ghost use lib.ListN.{length, drop};
 ghost use Rattle.scans.specs.Terms.Counted.{Counted};
