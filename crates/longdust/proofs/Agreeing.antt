@@ -11,8 +11,8 @@ use Rattle.letters.specs.Code.{codes, reverseComplement}
 use Rattle.letters.proofs.Codes.{codes-length, reverseComplement-length}
 use Rattle.scans.specs.Setup.{Setup, maxTest}
 use Rattle.scans.proofs.Agreeing.{AgreeTo, Agree, maxTest-agree}
+use Rattle.scans.specs.Range.{inRange}
 use Rattle.strand.specs.Step.{intervalsOf}
-use Rattle.strand.specs.Range.{inRange}
 use Rattle.strand.proofs.Agreeing.{inRange-agree, intervals-agree}
 use Rattle.longdust.specs.declared.LongdustOptions.{LongdustOptions}
 use Rattle.longdust.specs.Mask.{setup, maskOf, mask, markedMaskOf, markedMask}

@@ -17,7 +17,7 @@ use Rattle.intervals.proofs.Slice.{wrote-list, length-entries}
 use Rattle.scans.specs.declared.Params.{Params}
 use Rattle.scans.specs.Setup.{Setup}
 use Rattle.scans.specs.Terms.Numbers.{setupOf}
-use Rattle.strand.specs.Range.{inRange, CheckedSetup}
+use Rattle.scans.specs.Range.{inRange, CheckedSetup}
 use Rattle.longdust.specs.declared.LongdustOptions.{LongdustOptions}
 use Rattle.longdust.specs.declared.Answer.{Answer}
 use Rattle.longdust.specs.Mask.{setup, maskOf, mask, markedMaskOf, markedMask}
@@ -64,7 +64,7 @@ module _ (o : LongdustOptions) (cs : List ℕ) (m : ℕ) (b : Buffers) (a : Admi
   abbrev after : Buffers
   after = back (o .«window_size») m (length cs) ((length cs + 1) / (o .kmer + 1)) b y
 
-  pub ran : (p : Params) → Prepared o (lnRead o b) (fRead o b) p → (flag : Bool) → flag ≡ inRange (setupOf p (lnRead o b) (fRead o b)) → (count : ℕ)
+  pub ran : (p : Params) → Prepared o (lnRead o b) (fRead o b) p → (flag : Bool) → flag ≡ inRange (setup o (lnRead o b) (fRead o b)) → (count : ℕ)
       → WroteMarked (markedMaskOf (setupOf p (lnRead o b) (fRead o b)) (o .«forward_only») cs) (take ((length cs + 1) / (o .kmer + 1)) (b .list)) (y .list)
       (take ((length cs + 1) / (o .kmer + 1)) (b .marks)) (y .marks) count
       → (r : Answer) → r ≡ accepted count flag → Ran o cs b after r
@@ -92,7 +92,7 @@ module _ (o : LongdustOptions) (cs : List ℕ) (m : ℕ) (b : Buffers) (a : Admi
             omega (arith, length-map all markOf, length-map all range, ap (λ (is : List Interval). length is) ranges-are, room, R-codes) in
             let free = whole o n m b a e y t in
             subst (λ (z : Answer). Accepted o s b after z) (sym answer)
-            (accepted-by o s b after (accepted count flag) (a .bounds) (omega (arith, a .letters-high, n-is)) (q .floats) (f ∙ ap inRange (q .setup-is))
+            (accepted-by o s b after (accepted count flag) (a .bounds) (omega (arith, a .letters-high, n-is)) (q .floats) f
             (record {
               list = wrote-part R list (omega (arith, room, R-codes)) (a .enough .list);
               marks = ap (λ (z : List ℕ). z ++ drop R (b .marks)) (held .marks-are) ∙ put-part R (marksOf all) (b .marks) few (a .enough .marks);

@@ -20,7 +20,7 @@ use Rattle.intervals.proofs.Backward.{backwards-canonical, backwards-covers}
 use Rattle.intervals.proofs.Marks.{every-map, merge-told, merge-letters, marked-mirror}
 use Rattle.scans.specs.Setup.{Setup}
 use Rattle.strand.specs.Step.{intervalsOf}
-use Rattle.strand.specs.Range.{inRange, CheckedSetup}
+use Rattle.scans.specs.Range.{inRange, CheckedSetup}
 use Rattle.strand.proofs.Theorems.{strand-shape, strand-evidence}
 use Rattle.longdust.specs.Mask.{markedMaskOf, OtherStrand, EvidentMarked, exchanged, backwardsMarks}
 use Rattle.longdust.specs.Terms.Inner.{otherIntervals}

@@ -18,7 +18,7 @@ use Rattle.intervals.proofs.Theorems.{merge-alone}
 use Rattle.intervals.proofs.Marks.{forward-ranges, merged-ranges, marked-alone}
 use Rattle.scans.specs.Setup.{Setup}
 use Rattle.strand.specs.Step.{intervalsOf}
-use Rattle.strand.specs.Range.{inRange, CheckedSetup}
+use Rattle.scans.specs.Range.{inRange, CheckedSetup}
 use Rattle.strand.proofs.Theorems.{strand-shape, strand-evidence, strand-no-better-shorter}
 use Rattle.longdust.specs.Mask.{maskOf, markedMaskOf, Evident, ScansFindNoBetterShorter}
 use Rattle.longdust.specs.Terms.Inner.{otherIntervals}

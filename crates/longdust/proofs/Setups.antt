@@ -1,24 +1,26 @@
--- The setup that a run's numbers make is that of the options, and its floats are such as the evidence asks for.
-use mathlib.Core.Path.{_≡_, ap}
+-- The setup that a run's numbers make is that of the options, its floats are such as the evidence asks for, and its tables of the usual shape where the numbers say so.
+use mathlib.Core.Path.{_≡_, sym, ap, subst, _∙_}
 use mathlib.Core.Bool.{Bool, true, false, not, _&&_}
 use mathlib.Core.List.{List}
-use Prim.Native.Nat.{ℕ}
+use Prim.Native.Nat.{ℕ, _-_}
 use native.Mathlib.Omega.{arith}
 use lib.IntN.{ℤ}
 use lib.ListN.{getD}
 use lib.Dec.{T}
 use lib.Ieee.{Float, nan, inf, binary64, fits, lt}
+use lib.Ieee.Fits.{and-l, and-r}
 use Rattle.floats.specs.Binary64.{zero64}
 use Rattle.checks.specs.Tests.{thresholdBad}
 use Rattle.scans.specs.declared.Params.{Params}
 use Rattle.scans.specs.Setup.{Setup, dropLimit, maxTest}
+use Rattle.scans.specs.Range.{inRange, CheckedSetup}
 use Rattle.scans.specs.Terms.Numbers.{setupOf}
-use Rattle.strand.specs.Range.{CheckedSetup}
+use Rattle.scans.specs.Terms.Shape.{usualTo, Usual, Shaped}
 use Rattle.longdust.specs.declared.LongdustOptions.{LongdustOptions}
 use Rattle.longdust.specs.Mask.{setup}
 use Rattle.longdust.specs.Terms.Inner.{Bounds, Prepared}
 
-pub prepared : (o : LongdustOptions) (ln f : List Float) (limit : Float) (test test′ : ℤ) → test′ ≡ test
+pub prepared : (o : LongdustOptions) (ln f : List Float) (limit : Float) (test test′ : ℤ) (usual : Bool) → test′ ≡ test
     → limit ≡ dropLimit (o .xdrop) (o .«window_size») (o .«score_threshold»)
     → test ≡ maxTest (o .«window_size») (o .«score_threshold») ln f
     → setupOf
@@ -30,12 +32,13 @@ pub prepared : (o : LongdustOptions) (ln f : List Float) (limit : Float) (test t
       «drop_limit» = limit;
       approx = o .approx;
       «max_test» = test′;
+      usual = usual;
     })
     ln
     f
     ≡ setup o ln f
 unfolding setup
-prepared o ln f limit test test′ e l t = rw (e, l, t)
+prepared o ln f limit test test′ usual e l t = rw (e, l, t)
 
 module _ {o : LongdustOptions} {ln f : List Float} {p : Params} (q : Prepared o ln f p) where
   pub prepared-kmer : p .kmer ≡ o .kmer
@@ -65,4 +68,16 @@ float-bits o ln f b t x y =
       t-above = above-zero (o .«score_threshold») (b .threshold-good);
       ln-fits = λ c h. x c;
       f-fits = λ l h. y l;
+    }
+
+pub shaped-by : (o : LongdustOptions) (ln f : List Float) (p : Params) (flag long : Bool) → flag ≡ inRange (setup o ln f)
+    → p .usual ≡ (flag && (long && usualTo ln f (o .«window_size» - 1))) → setupOf p ln f ≡ setup o ln f → CheckedSetup (setup o ln f) → Shaped p ln f
+unfolding setup
+shaped-by o ln f p flag long ranged usual same checked =
+    let shape : Bool = usualTo ln f (o .«window_size» - 1) in
+    record {
+      told = λ e.
+          let t : T (flag && (long && shape)) = subst T (sym e ∙ usual) tt in
+          subst Usual (sym same)
+          (record { checked = checked; ranged = subst T ranged (and-l flag (long && shape) t); shaped = and-r long shape (and-r flag (long && shape) t) });
     }

@@ -19,7 +19,7 @@ use Rattle.intervals.proofs.Theorems.{merge-mirror}
 use Rattle.scans.specs.Setup.{Setup}
 use Rattle.scans.proofs.Agreeing.{AgreeTo}
 use Rattle.strand.specs.Step.{intervalsOf}
-use Rattle.strand.specs.Range.{inRange}
+use Rattle.scans.specs.Range.{inRange}
 use Rattle.strand.proofs.Theorems.{strand-shape}
 use Rattle.tables.specs.declared.Density.{Density}
 use Rattle.tables.specs.Density.{density}

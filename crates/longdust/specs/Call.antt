@@ -12,7 +12,7 @@ use Rattle.letters.specs.Code.{codes}
 use Rattle.intervals.specs.Interval.{Interval, Canonical, Covers, listOf, Wrote}
 use Rattle.intervals.specs.Merge.{marksOf}
 use Rattle.intervals.specs.Marks.{Every}
-use Rattle.strand.specs.Range.{inRange}
+use Rattle.scans.specs.Range.{inRange}
 use Rattle.tables.specs.Density.{density}
 use Rattle.tables.specs.Tables.{lnTable, fTable}
 use Rattle.longdust.specs.declared.LongdustOptions.{LongdustOptions}

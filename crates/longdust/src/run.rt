@@ -1,14 +1,17 @@
 // The run of an accepted request: its numbers, its flag, and both strands.
 
 ghost use mathlib.Core.Path.{_≡_};
-ghost use Prim.Native.Nat.{_<_};
+ghost use mathlib.Core.Bool.{_&&_};
+ghost use Prim.Native.Nat.{_-_, _<_};
 ghost use lib.ListN.{length, take};
+ghost use lib.Dec.{ltb};
 ghost use Rattle.intervals.specs.Interval.{listOf};
 ghost use Rattle.intervals.specs.Merge.{mergeMarked, WroteMarked, backwards};
+ghost use Rattle.scans.specs.Range.{tableInRange, inRange};
 ghost use Rattle.scans.specs.Terms.Numbers.{setupOf};
-ghost use Rattle.strand.specs.Range.{tableInRange, inRange};
+ghost use Rattle.scans.specs.Terms.Shape.{usualTo, Shaped};
 ghost use Rattle.longdust.specs.Buffers.{buffers, lengths};
-ghost use Rattle.longdust.specs.Mask.{markedMaskOf};
+ghost use Rattle.longdust.specs.Mask.{setup, markedMaskOf};
 ghost use Rattle.longdust.specs.Terms.Inner.{Bounds, Admitted, Prepared, ReverseLent, Exact, otherIntervals, Scanned};
 ghost use Rattle.longdust.specs.Terms.Inner.{Mergeable, accepted, Ran};
 use crate::Answer;
@@ -19,26 +22,6 @@ use scans::Params;
 const LN_END: f64 = 16.0;
 
 const F_END: f64 = 1048576.0;
-
-// The numbers that a run goes by.
-fn prepare(options: LongdustOptions, ln: &[f64], f: &[f64]) -> Params
-    requires { ⌜ Bounds options ⌝ }
-    requires { ⌜ (options .«window_size» < length (now ln)) × (options .«window_size» < length (now f)) ⌝ }
-    ensures { λ r. ⌜ Prepared options (now (ln .entry)) (now (f .entry)) r ⌝ }
-{
-    let w = options.window_size as u32;
-    let threshold = options.score_threshold;
-    let xdrop = options.xdrop;
-    Params {
-        kmer: options.kmer,
-        window_size: options.window_size,
-        min_start_cnt: options.min_start_cnt,
-        score_threshold: threshold,
-        drop_limit: scans::drop_limit(xdrop, w, threshold),
-        approx: options.approx,
-        max_test: scans::max_test(ln, f, w, threshold),
-    }
-}
 
 // Whether entries 1..w of a table lie in 0..high.
 fn table_in_range(table: &[f64], w: usize, high: f64) -> bool
@@ -56,13 +39,49 @@ fn table_in_range(table: &[f64], w: usize, high: f64) -> bool
 }
 
 // The flag.
-fn in_range(p: Params, ln: &[f64], f: &[f64]) -> bool
-    requires { ⌜ (p .«window_size» < length (now ln)) × (p .«window_size» < length (now f)) ⌝ }
-    ensures { λ r. ⌜ r ≡ inRange (setupOf p (now (ln .entry)) (now (f .entry))) ⌝ }
+fn in_range(options: LongdustOptions, ln: &[f64], f: &[f64]) -> bool
+    requires { ⌜ (options .«window_size» < length (now ln)) × (options .«window_size» < length (now f)) ⌝ }
+    ensures { λ r. ⌜ r ≡ inRange (setup options (now (ln .entry)) (now (f .entry))) ⌝ }
 {
-    let ln_ok = table_in_range(ln, p.window_size, LN_END);
-    let f_ok = table_in_range(f, p.window_size, F_END);
-    (p.score_threshold <= LN_END) & (ln_ok & f_ok)
+    let ln_ok = table_in_range(ln, options.window_size, LN_END);
+    let f_ok = table_in_range(f, options.window_size, F_END);
+    (options.score_threshold <= LN_END) & (ln_ok & f_ok)
+}
+
+// Whether the tables are in range and of the usual shape. The shape is tested only for sequences longer than the window, where the test is little of the work.
+fn usual_tables(in_range: bool, n: usize, w: usize, ln: &[f64], f: &[f64]) -> bool
+    requires { ⌜ (0 < w) × (w < length (now ln)) × (w < length (now f)) ⌝ }
+    ensures { λ r. ⌜ r ≡ («in_range» && (ltb w n && usualTo (now (ln .entry)) (now (f .entry)) (w - 1))) ⌝ }
+{
+    if !in_range {
+        return false;
+    }
+    if n <= w {
+        return false;
+    }
+    scans::is_usual(ln, f, w)
+}
+
+// The numbers that a run over n letters goes by.
+fn prepare(options: LongdustOptions, in_range: bool, n: usize, ln: &[f64], f: &[f64]) -> Params
+    requires { ⌜ Bounds options ⌝ }
+    requires { ⌜ (options .«window_size» < length (now ln)) × (options .«window_size» < length (now f)) ⌝ }
+    requires { ⌜ «in_range» ≡ inRange (setup options (now ln) (now f)) ⌝ }
+    ensures { λ r. ⌜ Prepared options (now (ln .entry)) (now (f .entry)) r ⌝ }
+{
+    let w = options.window_size as u32;
+    let threshold = options.score_threshold;
+    let xdrop = options.xdrop;
+    Params {
+        kmer: options.kmer,
+        window_size: options.window_size,
+        min_start_cnt: options.min_start_cnt,
+        score_threshold: threshold,
+        drop_limit: scans::drop_limit(xdrop, w, threshold),
+        approx: options.approx,
+        max_test: scans::max_test(ln, f, w, threshold),
+        usual: usual_tables(in_range, n, options.window_size, ln, f),
+    }
 }
 
 // The list of the reverse complement, in the front of `reverse_list`; answers how many intervals it has. A forward-only run has none.
@@ -82,6 +101,7 @@ pub fn reverse_strand(
     requires { ⌜ ReverseLent p (length (now codes)) (length (now ln)) (length (now f)) (length (now queue))
         (length (now «window_counts»)) (length (now «scan_counts»)) (length (now candidates)) (length (now «reverse_codes»))
         (length (now «reverse_list»)) ⌝ }
+    requires { ⌜ Shaped p (now ln) (now f) ⌝ }
     ensures { λ r. ⌜ Scanned (otherIntervals (setupOf p (now (ln .entry)) (now (f .entry))) «forward_only» (now (codes .entry)))
         (now («reverse_list» .exit)) r ⌝ }
 {
@@ -143,6 +163,7 @@ pub fn both_strands(
         (buffers (now ln) (now f) (now queue) (now «window_counts») (now «scan_counts»)
         (now candidates) (now codes) (now «reverse_codes»)
         (now «forward_list») (now «reverse_list») (now list) (now marks))) ⌝ }
+    requires { ⌜ Shaped p (now ln) (now f) ⌝ }
     ensures { λ r. ⌜ WroteMarked (markedMaskOf (setupOf p (now (ln .entry)) (now (f .entry))) «forward_only» (now (codes .entry)))
         (now (list .entry)) (now (list .exit)) (now (marks .entry)) (now (marks .exit)) r ⌝ }
 {
@@ -228,8 +249,8 @@ pub fn mask_encoded(
     let rows = (n + 1) / (k + 1);
     let ln = &ln[..w + 1];
     let f = &f[..w + 2];
-    let p = prepare(options, ln, f);
-    let flag = in_range(p, ln, f);
+    let flag = in_range(options, ln, f);
+    let p = prepare(options, flag, n, ln, f);
     let count = both_strands(
         p,
         options.forward_only,

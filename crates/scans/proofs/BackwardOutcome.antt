@@ -10,6 +10,7 @@ use Rattle.letters.specs.Place.{Place}
 use Rattle.scans.specs.declared.Params.{Params}
 use Rattle.scans.specs.declared.ForwardPosition.{ForwardPosition}
 use Rattle.scans.specs.declared.Scanned.{Scanned}
+use Rattle.scans.specs.declared.candidates.Searched.{Searched}
 use Rattle.scans.specs.Setup.{Setup}
 use Rattle.scans.specs.Counts.{cleared}
 use Rattle.scans.specs.Scans.{none, Outcome, Candidate, noCandidate, backwardStart, Backward, backwardFrom, withBest, tryFrom, tried, dustBackward}
@@ -28,7 +29,7 @@ roomy-as counts′ n′ ec e r = record { f-long = r .f-long; counts-is = ec ∙
 pub ringed : {p : Params} {ring : List ℕ} {head len : ℕ} {window-counts : List ℕ} {n m k : ℕ} → k ≡ 4 ^ p .kmer → p .«window_size» < m → Windowed p ring head len window-counts n → Ringed ring head len n m k
 ringed e l w = record { queued = windowed-queued w e; ln-long = omega (arith, w .ring-is, w .ln-long); f-long = omega (arith, w .ring-is) }
 
-below-at : (n : ℕ) (cs : List Candidate) (j : ℕ) → AllBelow n cs → j < length cs → getD cs j noCandidate .place < n
+pub below-at : (n : ℕ) (cs : List Candidate) (j : ℕ) → AllBelow n cs → j < length cs → getD cs j noCandidate .place < n
 below-at n [] j h l = absurd (let b : ⊥ = omega arith in b)
 below-at n (c ∷ cs) zero h l = h .0
 below-at n (c ∷ cs) (suc j) h l = below-at n cs j (h .1) (omega arith)
@@ -43,8 +44,8 @@ to-tried S q b r counts t = go (eqb (b .found) 0) (withBest (b .best) (b .found)
     go false cs a = a
 
 -- What the slice holds can be tried.
-pub all-held : (S : Setup) (q : List Place) (len n : ℕ) (counts : List ℕ) (records : List ForwardPosition) → ScansBackward S q counts (candidatesIn n records) → length q ≡ len → 0 < len → len ≤ length records → HoldsCandidates len n records
-all-held S q len n counts records h l some room =
+pub all-held : (S : Setup) (q : List Place) (len n : ℕ) (r : Searched) (counts : List ℕ) (records : List ForwardPosition) → ScansBackward S q r counts (candidatesIn n records) → length q ≡ len → 0 < len → len ≤ length records → HoldsCandidates len n records
+all-held S q len n r counts records h l some room =
     let k = candidates-length n records in
     let fit : (length (candidatesIn n records) ≤ length q) × AllBelow (length q) (candidatesIn n records) = rw (h .all) (to-try-fit S q (omega arith)) in
     record {
@@ -55,9 +56,9 @@ all-held S q len n counts records h l some room =
     }
 
 -- The outcome of all tries is the definition's, but for counts that a search without a find leaves.
-pub answers-tried : (S : Setup) (q : List Place) (n : ℕ) (counts₁ : List ℕ) (cs : List Candidate) → ScansBackward S q counts₁ cs → length cs ≡ n → (r : Scanned) (counts : List ℕ)
+pub answers-tried : (S : Setup) (q : List Place) (n : ℕ) (s : Searched) (counts₁ : List ℕ) (cs : List Candidate) → ScansBackward S q s counts₁ cs → length cs ≡ n → (r : Scanned) (counts : List ℕ)
     → ((before : List ℕ) → Answers S q (tryFrom S q cs n 0 before) r counts) → Answers S q (dustBackward S q) r counts
 unfolding dustBackward
-answers-tried S q n counts₁ cs h l r counts t =
+answers-tried S q n s counts₁ cs h l r counts t =
     let b : Backward = backwardFrom S q (length q) 1 backwardStart (cleared S) [] in
     to-tried S q b r counts (subst (λ (o : Outcome). Answers S q o r counts) (ap₂ (λ (x : List Candidate) (m : ℕ). tryFrom S q x m 0 (b .counts)) (h .all) (sym l ∙ ap length (h .all))) (t (b .counts)))

@@ -2,6 +2,8 @@
 use Rattle.scans.proofs.ForwardPosition as Rec·type
 use Rattle.scans.proofs.Params
 use Rattle.scans.proofs.Params.Laws
+use Rattle.scans.proofs.candidates.Searched
+use Rattle.scans.proofs.candidates.Searched.Laws as Laws'
 use borrow.Fn.Kinds
 use borrow.Kind.MutSlice
 use borrow.Kind.ShrSlice
@@ -12,7 +14,7 @@ use borrow.Table.Rows
 use denote.Array
 use denote.Exit
 use denote.Struct.Declared
-use denote.Struct.Laws as Laws'
+use denote.Struct.Laws as Laws''
 use lib.Ieee
 use mathlib.Core.List
 use mathlib.Core.Path as Path'
@@ -22,16 +24,16 @@ abbrev pub ps : List.List (Kinds.PK 6)
 ps = List._∷_ (Value.pVal record {
   ty = Declared.row Params.the-type;
   one = Path'.refl;
-  val = Laws'.val Params.the-type Laws.the-laws;
-  tells = Laws'.tells Params.the-type Laws.the-laws;
-  still = Laws'.still Params.the-type Laws.the-copy Exit.yes;
+  val = Laws''.val Params.the-type Laws.the-laws;
+  tells = Laws''.tells Params.the-type Laws.the-laws;
+  still = Laws''.still Params.the-type Laws.the-copy Exit.yes;
   row = Rows.whole (Declared.row Params.the-type);
   rd = λ x. x;
   mk = λ x. x;
 } λ M 𝓤 H A W. record {
-  copies = Laws'.copy Params.the-type Laws.the-copy 𝓤 H A W;
-  lawful = Laws'.lawful Params.the-type Laws.the-laws 𝓤 H A W;
-  makes = Laws'.makes Params.the-type Laws.the-plain 𝓤 H A;
+  copies = Laws''.copy Params.the-type Laws.the-copy 𝓤 H A W;
+  lawful = Laws''.lawful Params.the-type Laws.the-laws 𝓤 H A W;
+  makes = Laws''.makes Params.the-type Laws.the-plain 𝓤 H A;
   in-mem = Local.mem-whole 𝓤 H A W (Declared.row Params.the-type);
   of-mem = Local.whole-mem 𝓤 H A W (Declared.row Params.the-type);
 })
@@ -54,4 +56,19 @@ ps = List._∷_ (Value.pVal record {
     List.[]))))))))
 
 abbrev pub r : Kinds.RK 6
-r = Kinds.rNum Syntax.w64
+r = Value.rVal record {
+  ty = Declared.row Searched.the-type;
+  one = Path'.refl;
+  val = Laws''.val Searched.the-type Laws'.the-laws;
+  tells = Laws''.tells Searched.the-type Laws'.the-laws;
+  still = Laws''.still Searched.the-type Laws'.the-copy Exit.yes;
+  row = Rows.whole (Declared.row Searched.the-type);
+  rd = λ x. x;
+  mk = λ x. x;
+} λ M 𝓤 H A W. record {
+  copies = Laws''.copy Searched.the-type Laws'.the-copy 𝓤 H A W;
+  lawful = Laws''.lawful Searched.the-type Laws'.the-laws 𝓤 H A W;
+  makes = Laws''.makes Searched.the-type Laws'.the-plain 𝓤 H A;
+  in-mem = Local.mem-whole 𝓤 H A W (Declared.row Searched.the-type);
+  of-mem = Local.whole-mem 𝓤 H A W (Declared.row Searched.the-type);
+}

@@ -108,6 +108,10 @@ module _ (m : ℕ) (counts : List ℕ) where
         counted = λ y. lower-at counts x y (omega (arith, c .long)) (eqb y x) refl ∙ omega (arith, c .counted y);
       }
 
+  -- The newest place leaves.
+  pub lower-newest : (q : List Place) (e : Place) → BelowAt m e → Counted m counts (q ++ e ∷ []) → Counted m (lower counts e) q
+  lower-newest q e b c = lower-counted e q b (record { long = c .long; counted = λ x. c .counted x ∙ count-snoc x q e })
+
 replicate-zero : (m x : ℕ) → _≡_ {A = ℕ} (getD (replicate m 0) x 0) 0
 replicate-zero zero x = refl
 replicate-zero (suc m) zero = refl

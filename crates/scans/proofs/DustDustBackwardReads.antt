@@ -275,6 +275,55 @@ module _ (κs : Lifetimes.Lfts 6) where
       (λ w. Path'.refl)
       λ w. Path'.refl
 
+  abbrev pub requires-5·read :
+      (a : World.ArgsD dust_backward.signature κs) →
+      (g : Ghost) →
+      Read.Read
+      (World.In dust_backward.signature κs a)
+      Read.no-know
+      λ w. dust_backward.requires-5
+      (w .𝓤)
+      (w .H)
+      κs
+      (w .𝓖 .A)
+      (w .𝓜 .mem)
+      (w .𝓡 .run)
+      (a .0)
+      (a .1 .0)
+      (a .1 .1 .0)
+      (a .1 .1 .1 .0)
+      (a .1 .1 .1 .1 .0)
+      (a .1 .1 .1 .1 .1 .0)
+      (a .1 .1 .1 .1 .1 .1 .0)
+      (a .1 .1 .1 .1 .1 .1 .1 .0)
+      (a .1 .1 .1 .1 .1 .1 .1 .1 .0)
+      (a .1 .1 .1 .1 .1 .1 .1 .1 .1 .0)
+      (a .1 .1 .1 .1 .1 .1 .1 .1 .1 .1 .0)
+  requires-5·read =
+      λ a g. Read.all-models
+      (λ w. dust_backward.requires-5
+      (w .𝓤)
+      (w .H)
+      κs
+      (w .𝓖 .A)
+      (w .𝓜 .mem)
+      (w .𝓡 .run)
+      (a .0)
+      (a .1 .0)
+      (a .1 .1 .0)
+      (a .1 .1 .1 .0)
+      (a .1 .1 .1 .1 .0)
+      (a .1 .1 .1 .1 .1 .0)
+      (a .1 .1 .1 .1 .1 .1 .0)
+      (a .1 .1 .1 .1 .1 .1 .1 .0)
+      (a .1 .1 .1 .1 .1 .1 .1 .1 .0)
+      (a .1 .1 .1 .1 .1 .1 .1 .1 .1 .0)
+      (a .1 .1 .1 .1 .1 .1 .1 .1 .1 .1 .0))
+      (λ w. Read.r-last _)
+      (λ w. Path'.refl)
+      (λ w. Path'.refl)
+      λ w. Path'.refl
+
   abbrev pub pre-read :
       (a : World.ArgsD dust_backward.signature κs) →
       (g : Ghost) →
@@ -339,6 +388,8 @@ module _ (κs : Lifetimes.Lfts 6) where
       (a .1 .1 .1 .1 .1 .1 .1 .1 .0)
       (a .1 .1 .1 .1 .1 .1 .1 .1 .1 .0)
       (a .1 .1 .1 .1 .1 .1 .1 .1 .1 .1 .0))
+      (Logic.sep
+      (w .𝓤)
       (dust_backward.requires-4
       (w .𝓤)
       (w .H)
@@ -356,7 +407,25 @@ module _ (κs : Lifetimes.Lfts 6) where
       (a .1 .1 .1 .1 .1 .1 .1 .0)
       (a .1 .1 .1 .1 .1 .1 .1 .1 .0)
       (a .1 .1 .1 .1 .1 .1 .1 .1 .1 .0)
-      (a .1 .1 .1 .1 .1 .1 .1 .1 .1 .1 .0))))
+      (a .1 .1 .1 .1 .1 .1 .1 .1 .1 .1 .0))
+      (dust_backward.requires-5
+      (w .𝓤)
+      (w .H)
+      κs
+      (w .𝓖 .A)
+      (w .𝓜 .mem)
+      (w .𝓡 .run)
+      (a .0)
+      (a .1 .0)
+      (a .1 .1 .0)
+      (a .1 .1 .1 .0)
+      (a .1 .1 .1 .1 .0)
+      (a .1 .1 .1 .1 .1 .0)
+      (a .1 .1 .1 .1 .1 .1 .0)
+      (a .1 .1 .1 .1 .1 .1 .1 .0)
+      (a .1 .1 .1 .1 .1 .1 .1 .1 .0)
+      (a .1 .1 .1 .1 .1 .1 .1 .1 .1 .0)
+      (a .1 .1 .1 .1 .1 .1 .1 .1 .1 .1 .0)))))
       (requires-1·read a g)
       (Read.read-join
       (λ w. dust_backward.requires-2
@@ -397,6 +466,8 @@ module _ (κs : Lifetimes.Lfts 6) where
       (a .1 .1 .1 .1 .1 .1 .1 .1 .0)
       (a .1 .1 .1 .1 .1 .1 .1 .1 .1 .0)
       (a .1 .1 .1 .1 .1 .1 .1 .1 .1 .1 .0))
+      (Logic.sep
+      (w .𝓤)
       (dust_backward.requires-4
       (w .𝓤)
       (w .H)
@@ -414,7 +485,25 @@ module _ (κs : Lifetimes.Lfts 6) where
       (a .1 .1 .1 .1 .1 .1 .1 .0)
       (a .1 .1 .1 .1 .1 .1 .1 .1 .0)
       (a .1 .1 .1 .1 .1 .1 .1 .1 .1 .0)
-      (a .1 .1 .1 .1 .1 .1 .1 .1 .1 .1 .0)))
+      (a .1 .1 .1 .1 .1 .1 .1 .1 .1 .1 .0))
+      (dust_backward.requires-5
+      (w .𝓤)
+      (w .H)
+      κs
+      (w .𝓖 .A)
+      (w .𝓜 .mem)
+      (w .𝓡 .run)
+      (a .0)
+      (a .1 .0)
+      (a .1 .1 .0)
+      (a .1 .1 .1 .0)
+      (a .1 .1 .1 .1 .0)
+      (a .1 .1 .1 .1 .1 .0)
+      (a .1 .1 .1 .1 .1 .1 .0)
+      (a .1 .1 .1 .1 .1 .1 .1 .0)
+      (a .1 .1 .1 .1 .1 .1 .1 .1 .0)
+      (a .1 .1 .1 .1 .1 .1 .1 .1 .1 .0)
+      (a .1 .1 .1 .1 .1 .1 .1 .1 .1 .1 .0))))
       (requires-2·read a g)
       (Read.read-join
       (λ w. dust_backward.requires-3
@@ -435,6 +524,46 @@ module _ (κs : Lifetimes.Lfts 6) where
       (a .1 .1 .1 .1 .1 .1 .1 .1 .0)
       (a .1 .1 .1 .1 .1 .1 .1 .1 .1 .0)
       (a .1 .1 .1 .1 .1 .1 .1 .1 .1 .1 .0))
+      (λ w. Logic.sep
+      (w .𝓤)
+      (dust_backward.requires-4
+      (w .𝓤)
+      (w .H)
+      κs
+      (w .𝓖 .A)
+      (w .𝓜 .mem)
+      (w .𝓡 .run)
+      (a .0)
+      (a .1 .0)
+      (a .1 .1 .0)
+      (a .1 .1 .1 .0)
+      (a .1 .1 .1 .1 .0)
+      (a .1 .1 .1 .1 .1 .0)
+      (a .1 .1 .1 .1 .1 .1 .0)
+      (a .1 .1 .1 .1 .1 .1 .1 .0)
+      (a .1 .1 .1 .1 .1 .1 .1 .1 .0)
+      (a .1 .1 .1 .1 .1 .1 .1 .1 .1 .0)
+      (a .1 .1 .1 .1 .1 .1 .1 .1 .1 .1 .0))
+      (dust_backward.requires-5
+      (w .𝓤)
+      (w .H)
+      κs
+      (w .𝓖 .A)
+      (w .𝓜 .mem)
+      (w .𝓡 .run)
+      (a .0)
+      (a .1 .0)
+      (a .1 .1 .0)
+      (a .1 .1 .1 .0)
+      (a .1 .1 .1 .1 .0)
+      (a .1 .1 .1 .1 .1 .0)
+      (a .1 .1 .1 .1 .1 .1 .0)
+      (a .1 .1 .1 .1 .1 .1 .1 .0)
+      (a .1 .1 .1 .1 .1 .1 .1 .1 .0)
+      (a .1 .1 .1 .1 .1 .1 .1 .1 .1 .0)
+      (a .1 .1 .1 .1 .1 .1 .1 .1 .1 .1 .0)))
+      (requires-3·read a g)
+      (Read.read-join
       (λ w. dust_backward.requires-4
       (w .𝓤)
       (w .H)
@@ -453,8 +582,26 @@ module _ (κs : Lifetimes.Lfts 6) where
       (a .1 .1 .1 .1 .1 .1 .1 .1 .0)
       (a .1 .1 .1 .1 .1 .1 .1 .1 .1 .0)
       (a .1 .1 .1 .1 .1 .1 .1 .1 .1 .1 .0))
-      (requires-3·read a g)
-      (requires-4·read a g)))
+      (λ w. dust_backward.requires-5
+      (w .𝓤)
+      (w .H)
+      κs
+      (w .𝓖 .A)
+      (w .𝓜 .mem)
+      (w .𝓡 .run)
+      (a .0)
+      (a .1 .0)
+      (a .1 .1 .0)
+      (a .1 .1 .1 .0)
+      (a .1 .1 .1 .1 .0)
+      (a .1 .1 .1 .1 .1 .0)
+      (a .1 .1 .1 .1 .1 .1 .0)
+      (a .1 .1 .1 .1 .1 .1 .1 .0)
+      (a .1 .1 .1 .1 .1 .1 .1 .1 .0)
+      (a .1 .1 .1 .1 .1 .1 .1 .1 .1 .0)
+      (a .1 .1 .1 .1 .1 .1 .1 .1 .1 .1 .0))
+      (requires-4·read a g)
+      (requires-5·read a g))))
 
   abbrev pub ensures-1·read :
       (a : World.ArgsD dust_backward.signature κs) →

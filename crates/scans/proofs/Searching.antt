@@ -18,10 +18,10 @@ use Rattle.scans.specs.Counts.{cleared}
 use Rattle.scans.specs.Terms.Counted.{Counted}
 use Rattle.scans.specs.Scans.{Candidate, candidate, noCandidate, BackwardSums, backwardStart, Backward, backwardFrom, withBest}
 use Rattle.scans.specs.Terms.Parts.{backwardOf, restOf, GoesOn}
-use Rattle.scans.specs.Terms.Search.{candidateOf, candidatesIn, FreshSearch, notingAt, restingAt, goneOn, finishedOf, toTry, withFresh, resumed, sought, Noted, Searches, NextCandidate, ScansBackward}
+use Rattle.scans.specs.Terms.Search.{candidateOf, noPosition, candidatesIn, candidatesOf, FreshSearch, notingAt, restingAt, goneOn, finishedOf, toTry, withFresh, resumed, sought, Noted, Searches, Ended, NextCandidate, ScansBackward}
 use Rattle.scans.proofs.Test.{by-test, neither}
 use Rattle.scans.proofs.Noting.{AllBelow, backward-scanned, candidates-fit}
-use Rattle.scans.proofs.Slices.{candidates-length, candidates-push}
+use Rattle.scans.proofs.Slices.{candidates-length, candidates-at, candidates-push}
 use Rattle.scans.proofs.BackwardScan.{withPeak, backs-start, backward-goes}
 
 no-entries : (l : List Candidate) → length l ≡ 0 → l ≡ []
@@ -86,8 +86,8 @@ module _ (S : Setup) (q : List Place) (a : Search) (counts : List ℕ) (c : Sear
     abbrev rests : Search
     rests = restingAt a (a .scan) false
 
-    pub next-finished : (b : Search) (counts′ : List ℕ) → b ≡ finishedOf a → counts′ ≡ cleared S → NextCandidate S q a b counts counts′
-    next-finished b counts′ z clear =
+    pub next-finished : (b : Search) → b ≡ finishedOf a → NextCandidate S q a b counts counts
+    next-finished b z =
         rw z
         (go (eqb (a .scan .found) 0) refl (eqb (a .noted) 0 || ltb (a .scan .found) (a .last .pos + 1)) refl)
       where
@@ -97,14 +97,14 @@ module _ (S : Setup) (q : List Place) (a : Search) (counts : List ℕ) (c : Sear
         turns-left true false h = omega arith
 
         go : (t : Bool) → eqb (a .scan .found) 0 ≡ t → (j : Bool) → eqb (a .noted) 0 || ltb (a .scan .found) (a .last .pos + 1) ≡ j
-            → NextCandidate S q a (cond t rests (cond j (notingAt rests (a .scan .found)) rests)) counts counts′
+            → NextCandidate S q a (cond t rests (cond j (notingAt rests (a .scan .found)) rests)) counts counts
         go true h j k =
             record {
               same = λ cs n. begun cs ∙ ap toTry (resumed-ended cs) ∙ rw h (sym (no-entries cs (n .many ∙ c .none (eqb-true (a .scan .found) 0 h))));
               noted = λ cs n. noted-same a cs n (a .scan) false;
               less = turns-left (a .on) (a .scan .done) (c .on);
               next = λ f. absurd (true≢false (sym f));
-              clear = λ _. clear;
+              ended = λ _. record { low-in = c .scan .low-in; counted = c .scan .counted; last-read = c .last-read };
             }
         go false h true k =
             record {
@@ -112,7 +112,9 @@ module _ (S : Setup) (q : List Place) (a : Search) (counts : List ℕ) (c : Sear
               noted = λ cs n. noted-more a cs n (a .scan) false (a .scan .found);
               less = turns-left (a .on) (a .scan .done) (c .on);
               next = λ f. absurd (true≢false (sym f));
-              clear = λ _. clear;
+              ended = λ _.
+                  let d : a .scan .found ≢ 0 = eqb-false (a .scan .found) 0 h in
+                  record { low-in = c .scan .low-in; counted = c .scan .counted; last-read = λ _. omega (arith, c .scan .best-read (omega arith)) };
             }
         go false h false k =
             record {
@@ -120,7 +122,7 @@ module _ (S : Setup) (q : List Place) (a : Search) (counts : List ℕ) (c : Sear
               noted = λ cs n. noted-same a cs n (a .scan) false;
               less = turns-left (a .on) (a .scan .done) (c .on);
               next = λ f. absurd (true≢false (sym f));
-              clear = λ _. clear;
+              ended = λ _. record { low-in = c .scan .low-in; counted = c .scan .counted; last-read = c .last-read };
             }
 
   -- The scan goes on.
@@ -155,8 +157,9 @@ module _ (S : Setup) (q : List Place) (a : Search) (counts : List ℕ) (c : Sear
                 scan = k .here;
                 few = omega (arith, c .few, k .less);
                 none = λ f. absurd (k .peaked refl p f);
+                last-read = λ _. omega arith;
               };
-              clear = λ f. absurd (true≢false (sym (c .on) ∙ f));
+              ended = λ f. absurd (true≢false (sym (c .on) ∙ f));
             }
         go false p =
             record {
@@ -168,13 +171,14 @@ module _ (S : Setup) (q : List Place) (a : Search) (counts : List ℕ) (c : Sear
                 scan = k .here;
                 few = omega (arith, c .few, k .less);
                 none = λ f. c .none (k .kept f);
+                last-read = λ s. omega (arith, c .last-read s, k .less);
               };
-              clear = λ f. absurd (true≢false (sym (c .on) ∙ f));
+              ended = λ f. absurd (true≢false (sym (c .on) ∙ f));
             }
 
 -- ---- All the turns: what the slice holds are the candidates noted so far.
 -- All candidates to try are places of the window, and no more than it has.
-pub to-try-fit : (S : Setup) (q : List Place) → 0 < length q → (length (toTry (backwardFrom S q (length q) 1 backwardStart (cleared S) [])) ≤ length q) × AllBelow (length q) (toTry (backwardFrom S q (length q) 1 backwardStart (cleared S) []))
+pub to-try-fit : (S : Setup) (q : List Place) → 0 < length q → (length (candidatesOf S q) ≤ length q) × AllBelow (length q) (candidatesOf S q)
 to-try-fit S q some =
     let b : Backward = backwardFrom S q (length q) 1 backwardStart (cleared S) [] in
     by-test (λ (l : List Candidate). (length l ≤ length q) × AllBelow (length q) l) (eqb (b .found) 0) [] (withBest (b .best) (b .found) (b .candidates))
@@ -184,9 +188,9 @@ pub record Seeking (S : Setup) (q : List Place) (counts₀ : List ℕ) (records�
   pub same-counts : length counts ≡ length counts₀
   pub same-records : length records ≡ length records₀
   pub next : a .on ≡ true → Searches (kmers S) q a counts
-  pub clear : a .on ≡ false → counts ≡ cleared S
+  pub ended : a .on ≡ false → Ended (kmers S) q a counts
   pub noted : Noted a (candidatesIn (a .noted) records)
-  pub rest : toTry (backwardFrom S q (length q) 1 backwardStart (cleared S) []) ≡ sought S q a counts (candidatesIn (a .noted) records)
+  pub rest : candidatesOf S q ≡ sought S q a counts (candidatesIn (a .noted) records)
 
 module _ (S : Setup) (q : List Place) (counts₀ : List ℕ) (records₀ : List ForwardPosition) where
   pub seeking-start : (len : ℕ) → length q ≡ len → (a : Search) → FreshSearch len a → counts₀ ≡ cleared S → Seeking S q counts₀ records₀ a counts₀ records₀
@@ -202,15 +206,31 @@ module _ (S : Setup) (q : List Place) (counts₀ : List ℕ) (records₀ : List 
           scan = backs-start q len (kmers S) (a .scan) counts₀ l (f .scan) clear;
           few = omega (arith, f .none-noted);
           none = λ _. f .none-noted;
+          last-read = λ s. absurd (let n : ⊥ = omega (arith, f .none-noted) in n);
         };
-        clear = λ e. absurd (true≢false (sym (f .on) ∙ e));
+        ended = λ e. absurd (true≢false (sym (f .on) ∙ e));
         noted = record { many = candidates-length (a .noted) records₀; last-is = λ s. absurd (let n : ⊥ = omega (arith, f .none-noted) in n) };
         rest = rw (f .on, f .scan .going .1, low, one, f .scan .sums-are, clear, f .none-noted);
       }
 
   module _ (a : Search) (counts : List ℕ) (records : List ForwardPosition) (c : Seeking S q counts₀ records₀ a counts records) where
-    pub seeking-end : a .on ≡ false → ScansBackward S q counts (candidatesIn (a .noted) records)
-    seeking-end e = record { all = sym (c .rest ∙ rw e); clear = c .clear e }
+    pub seeking-end : a .on ≡ false → (first : ForwardPosition) → first ≡ getD records 0 noPosition
+        → ScansBackward S q (record { noted = a .noted; low = a .scan .low; oldest = a .last .pos; newest = first .pos }) counts (candidatesIn (a .noted) records)
+    seeking-end e first f =
+        let l : List Candidate = candidatesIn (a .noted) records in
+        let all : l ≡ candidatesOf S q = sym (c .rest ∙ rw e) in
+        let over = c .ended e in
+        record {
+          all = all;
+          searched = record {
+            many = ap length (sym all) ∙ c .noted .many;
+            low-in = over .low-in;
+            counted = over .counted;
+            oldest-read = over .last-read;
+            oldest-is = λ s. subst (λ (z : List Candidate). getD z (length z - 1) noCandidate .place ≡ a .last .pos) all (ap (λ (d : Candidate). d .place) (c .noted .last-is s));
+            newest-is = λ s. subst (λ (z : List Candidate). getD z 0 noCandidate .place ≡ first .pos) all (ap (λ (d : Candidate). d .place) (candidates-at (a .noted) records 0 s) ∙ ap (λ (d : ForwardPosition). d .pos) (sym f));
+          };
+        }
 
     module _ (b : Search) (counts′ : List ℕ) (k : NextCandidate S q a b counts counts′) (same : length counts′ ≡ length counts) where
       abbrev cs : List Candidate
@@ -223,7 +243,7 @@ module _ (S : Setup) (q : List Place) (counts₀ : List ℕ) (records₀ : List 
             same-counts = same ∙ c .same-counts;
             same-records = l ∙ c .same-records;
             next = k .next;
-            clear = k .clear;
+            ended = k .ended;
             noted = subst (λ (l : List Candidate). Noted b l) (sym e) (k .noted cs (c .noted));
             rest = c .rest ∙ k .same cs (c .noted) ∙ ap (λ (l : List Candidate). sought S q b counts′ l) (sym e);
           }
@@ -251,7 +271,7 @@ module _ (S : Setup) (q : List Place) (counts₀ : List ℕ) (records₀ : List 
             go : (t : Bool) → b .on ≡ t → b .noted ≤ length q
             go true e = omega (arith, k .next e .few)
             go false e =
-                let l : toTry (backwardFrom S q (length q) 1 backwardStart (cleared S) []) ≡ withFresh b cs = c .rest ∙ k .same cs (c .noted) ∙ rw e in
+                let l : candidatesOf S q ≡ withFresh b cs = c .rest ∙ k .same cs (c .noted) ∙ rw e in
                 omega (arith, k .noted cs (c .noted) .many, ap length l, to-try-fit S q some .0)
 
         pub seeking-put : (records′ : List ForwardPosition) → length records′ ≡ length records → b .noted - 1 < length records → records′ ≡ set records (b .noted - 1) (b .last) → Seeking S q counts₀ records₀ b counts′ records′

@@ -20,6 +20,15 @@ use crate::carried::nothing;
 use crate::forward::dust_forward;
 use crate::queue::clear_from;
 
+// What a search for candidates answers: how many it noted, the oldest entry that its scan read,
+// and the places of the oldest and the newest candidate where there is one.
+pub struct Searched {
+    pub noted: usize,
+    pub low: usize,
+    pub oldest: usize,
+    pub newest: usize,
+}
+
 // The search for candidates: the backward scan, how many candidates it has noted, the last of them,
 // whether that one is still to be put to the others, and whether there may be more.
 struct Search {
@@ -94,7 +103,7 @@ impl Search {
         self.noting(found)
     }
 
-    // The search goes on to the next candidate, or to the end of the ring's part; once the scan is over, the counts are cleared.
+    // The search goes on to the next candidate, or to the end of the ring's part.
     fn next(
         self,
         p: Params,
@@ -114,8 +123,6 @@ impl Search {
     {
         let scan = self.scan;
         if scan.ended() {
-            let low = scan.low;
-            clear_from(queue, head, len, low, scan_counts);
             return self.finished();
         }
         let on = backward_on(
@@ -148,7 +155,7 @@ pub fn set_candidate(candidates: &mut [ForwardPosition], i: usize, c: ForwardPos
     candidates[i] = c;
 }
 
-// The candidates to try, from cleared counts, and how many; the counts are cleared again.
+// The candidates to try, from cleared counts; the counts are then those of the entries from `low` on.
 pub fn scan_backward(
     p: Params,
     queue: &[u32],
@@ -159,12 +166,12 @@ pub fn scan_backward(
     f: &[f64],
     scan_counts: &mut [u16],
     candidates: &mut [ForwardPosition],
-) -> usize
+) -> Searched
     requires { ⌜ Windowed p (now queue) head len (now «window_counts») (length (now ln)) ⌝ }
     requires { ⌜ Roomy p (length (now f)) (length (now «scan_counts»)) (length (now candidates)) ⌝ }
     requires { ⌜ (0 < len) × (now «scan_counts» ≡ replicate (4 ^ p .kmer) 0) ⌝ }
-    ensures { λ r. ⌜ ScansBackward (setupOf p (now (ln .entry)) (now (f .entry))) (window (now (queue .entry)) head len)
-        (now («scan_counts» .exit)) (candidatesIn r (now (candidates .exit))) ⌝ }
+    ensures { λ r. ⌜ ScansBackward (setupOf p (now (ln .entry)) (now (f .entry))) (window (now (queue .entry)) head len) r
+        (now («scan_counts» .exit)) (candidatesIn (r .noted) (now (candidates .exit))) ⌝ }
 {
     let mut seek = Search::new(len);
     while seek.on {
@@ -173,7 +180,13 @@ pub fn scan_backward(
             set_candidate(candidates, seek.noted - 1, seek.last);
         }
     }
-    seek.noted
+    let newest = candidate_at(candidates, 0);
+    Searched {
+        noted: seek.noted,
+        low: seek.scan.low,
+        oldest: seek.last.pos as usize,
+        newest: newest.pos as usize,
+    }
 }
 
 fn max(a: usize, b: usize) -> usize

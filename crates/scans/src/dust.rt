@@ -5,6 +5,7 @@ ghost use Prim.Native.Nat.{_-_, _^_, _<_};
 ghost use lib.ListN.{length, drop, replicate};
 ghost use Rattle.scans.specs.Terms.Numbers.{setupOf};
 ghost use Rattle.scans.specs.Scans.{dustBackward};
+ghost use Rattle.scans.specs.Terms.Shape.{Shaped};
 ghost use Rattle.scans.specs.Terms.Window.{window, Windowed, Roomy};
 ghost use Rattle.scans.specs.Terms.Carry.{Carried, Answers};
 use crate::Carry;
@@ -13,6 +14,8 @@ use crate::Params;
 use crate::Scanned;
 use crate::candidates::scan_backward;
 use crate::candidates::try_candidates;
+use crate::carried::nothing;
+use crate::fails::none_ends;
 use crate::quick::find_quickly;
 
 // One past the index in the window from which a forward scan ends best at the newest entry, 0 where there is none, from cleared counts.
@@ -34,6 +37,7 @@ pub fn dust_backward(
     requires { ⌜ Roomy p (length (now f)) (length (now «scan_counts»)) (length (now candidates)) ⌝ }
     requires { ⌜ (0 < len) × (now «scan_counts» ≡ replicate (4 ^ p .kmer) 0) ⌝ }
     requires { ⌜ Carried (setupOf p (now ln) (now f)) (drop start (window (now queue) head (len - 1))) carry ⌝ }
+    requires { ⌜ Shaped p (now ln) (now f) ⌝ }
     ensures { λ r. ⌜ (let S = setupOf p (now (ln .entry)) (now (f .entry)) in let q = window (now (queue .entry)) head len in
         Answers S q (dustBackward S q) r (now («scan_counts» .exit))) ⌝ }
 {
@@ -52,7 +56,7 @@ pub fn dust_backward(
     if quick.found != 0 {
         return quick;
     }
-    let noted = scan_backward(
+    let searched = scan_backward(
         p,
         queue,
         head,
@@ -63,5 +67,9 @@ pub fn dust_backward(
         scan_counts,
         candidates,
     );
+    if none_ends(p, searched, queue, head, len, ln, f, scan_counts) {
+        return nothing();
+    }
+    let noted = searched.noted;
     try_candidates(p, queue, head, len, noted, ln, f, candidates, scan_counts)
 }

@@ -9,7 +9,7 @@
 // | `dust_backward`, its xdrop | limits: `drop_limit` |
 // | `dust_backward`, its clearing of the scan counts | queue: `clear_from`, where a scan touched them |
 // | `dust_backward`, its first loop | candidates: `scan_backward`; backward: `backward_on` from peak to peak, a `backward_part` at a time |
-// | `dust_backward`, its second loop | candidates: `try_candidates` |
+// | `dust_backward`, its second loop | candidates: `try_candidates`, unless fails: `none_ends` tells that it finds nothing |
 // | `dust_backward` as a whole | dust: `dust_backward`, which first asks quick: `find_quickly`, a fast form for the letters after a find |
 
 mod backward;
@@ -17,6 +17,7 @@ mod candidates;
 mod carried;
 mod counts;
 mod dust;
+mod fails;
 mod forward;
 mod limits;
 mod queue;
@@ -27,6 +28,7 @@ pub use counts::count_entry;
 pub use counts::lower_entry;
 pub use dust::dust_backward;
 pub use limits::drop_limit;
+pub use limits::is_usual;
 pub use limits::max_test;
 pub use queue::clear_from;
 pub use queue::ring_index;
@@ -48,6 +50,8 @@ pub struct Params {
     pub drop_limit: f64,
     pub approx: bool,
     pub max_test: i32,
+    // Whether the tables are in range and of the usual shape; only then are scans left out.
+    pub usual: bool,
 }
 
 // The sum and the best score of the last find's forward scan, carried on to the newest entry while `on`.

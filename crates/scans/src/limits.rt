@@ -1,10 +1,11 @@
-// What the options give a run: the drop limit, max_test, and how far the back check reads.
+// What the options and the tables give a run: the drop limit, max_test, whether the tables are of the usual shape, and how far the back check reads.
 
 ghost use mathlib.Core.Path.{_≡_};
-ghost use Prim.Native.Nat.{_<_, _≤_};
+ghost use Prim.Native.Nat.{_-_, _<_, _≤_};
 ghost use lib.ListN.{length};
 ghost use Rattle.scans.specs.Setup.{dropLimit, maxTest};
 ghost use Rattle.scans.specs.Scans.{maxSteps};
+ghost use Rattle.scans.specs.Terms.Shape.{usualTo};
 use crate::Params;
 use crate::Xdrop;
 
@@ -34,6 +35,23 @@ pub fn max_test(ln: &[f64], f: &[f64], window: u32, threshold: f64) -> i32
         i += 1;
     }
     0
+}
+
+// Whether the tables are of the usual shape: neither the ln entries 1..w nor the steps from f entry to f entry fall, the first step being f entry 1.
+pub fn is_usual(ln: &[f64], f: &[f64], w: usize) -> bool
+    requires { ⌜ (0 < w) × (w < length (now ln)) × (w < length (now f)) ⌝ }
+    ensures { λ r. ⌜ r ≡ usualTo (now (ln .entry)) (now (f .entry)) (w - 1) ⌝ }
+{
+    let mut ok = true;
+    let mut step = f[1];
+    let mut m = 0;
+    while m + 1 < w {
+        m += 1;
+        let next = f[m + 1] - f[m];
+        ok = ok & ((ln[m] <= ln[m + 1]) & (step <= next));
+        step = next;
+    }
+    ok
 }
 
 impl Params {

@@ -21,7 +21,7 @@ use Rattle.scans.proofs.Counting.{hit-self, count-le, count-snoc}
 use Rattle.scans.proofs.ScanCounts.{up-to-cleared, up-to-more, up-to-raise, up-to-lower, dust-up-to}
 use Rattle.scans.proofs.Agreeing.{AgreeTo, Agree, withTables, agree-as, extends-agree, ifBackward-agree, dustBackward-agree}
 use Rattle.strand.specs.Step.{Run, begin, sumWithout, countsWithout, withoutOldest, leave, sumWith, join, windowScore, extendTried, search, foundBy, found, look, runFrom, run, intervalsOfPlaces, intervalsOf}
-use Rattle.strand.specs.Range.{tableInRange, inRange}
+use Rattle.scans.specs.Range.{tableInRange, inRange}
 use Rattle.strand.specs.ScanFind.{lookedFrom}
 use Rattle.strand.proofs.Placing.{placed-below, placed-lengths, leave-placed, joined-placed, run-placed, run-looks}
 

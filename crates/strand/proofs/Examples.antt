@@ -15,7 +15,7 @@ use Rattle.scans.specs.Setup.{Setup, lnAt, fAt}
 use Rattle.scans.specs.Scans.{ifBackwardFrom, ifBackward, extends, backwardFrom, forwardFrom, dustForward, tryFrom, tried, dustBackward}
 use Rattle.scans.proofs.Examples.{tied, twice}
 use Rattle.strand.specs.Step.{begin, leave, join, windowScore, extendTried, search, foundBy, found, look, step, runFrom, run, intervalsOfPlaces, intervalsOf}
-use Rattle.strand.specs.Range.{tableInRange, inRange, CheckedSetup}
+use Rattle.scans.specs.Range.{tableInRange, inRange, CheckedSetup}
 use Rattle.strand.specs.ScanFind.{lookedFrom, FoundByScan}
 use Rattle.strand.specs.Dropping.{foundDropping, stepDropping, runDropping, intervalsDropping}
 use Rattle.strand.specs.Terms.Searching.{lookBy}

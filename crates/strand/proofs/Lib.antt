@@ -4,7 +4,6 @@ pub mod WindowSum
 pub mod Placing
 pub mod Evidence
 pub mod Shorter
-pub mod Range
 pub mod Agreeing
 pub mod Quiet
 pub mod Theorems

@@ -12,11 +12,11 @@ use Rattle.intervals.proofs.Shape.{canonical-room}
 use Rattle.scans.specs.Setup.{Setup}
 use Rattle.scans.specs.Score.{stretch, Evidence, NoBetterShorter}
 use Rattle.strand.specs.Step.{intervalsOf}
-use Rattle.strand.specs.Range.{inRange, CheckedSetup}
+use Rattle.scans.specs.Range.{inRange, CheckedSetup}
 use Rattle.strand.specs.ScanFind.{FoundByScan}
 use Rattle.strand.proofs.Shape.{places-canonical}
 use Rattle.strand.proofs.Evidence.{places-evidence}
-use Rattle.strand.proofs.Range.{in-range}
+use Rattle.scans.proofs.Range.{in-range}
 use Rattle.strand.proofs.Shorter.{found-no-better-shorter}
 
 pub strand-shape : (S : Setup) (codes : List ℕ) → Canonical (length codes) (S .kmer) (intervalsOf S codes)

@@ -22,6 +22,7 @@ ghost use Rattle.letters.specs.Terms.Rolling.{entryOf};
 ghost use Rattle.intervals.specs.Interval.{Interval};
 ghost use Rattle.scans.specs.Terms.Numbers.{setupOf};
 ghost use Rattle.scans.specs.Counts.{raise, lower};
+ghost use Rattle.scans.specs.Terms.Shape.{Shaped};
 ghost use Rattle.scans.specs.Terms.Window.{findOf, window, Windowed};
 ghost use Rattle.scans.specs.Terms.Parts.{Queued};
 ghost use Rattle.strand.specs.Step.{whole, lastQWithout, isAt, firstLetter, startAfter, saveFrom, savedAfter};
@@ -626,6 +627,7 @@ pub fn inner_process(
     requires { ⌜ StrandLent p (length (now codes)) (length (now ln)) (length (now f)) (length (now queue))
         (length (now «window_counts»)) (length (now «scan_counts»)) (length (now candidates))
         (length (now list)) ⌝ }
+    requires { ⌜ Shaped p (now ln) (now f) ⌝ }
     ensures { λ r. ⌜ StrandList (setupOf p (now (ln .entry)) (now (f .entry))) (now (codes .entry)) (now (list .exit)) r ⌝ }
 {
     let mut st = begin(window_counts, scan_counts);

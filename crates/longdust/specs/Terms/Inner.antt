@@ -12,9 +12,10 @@ use Rattle.intervals.specs.Terms.Bounds.{Inside}
 use Rattle.intervals.specs.Merge.{merge, backwards}
 use Rattle.scans.specs.declared.Params.{Params}
 use Rattle.scans.specs.Setup.{Setup}
+use Rattle.scans.specs.Range.{CheckedSetup}
 use Rattle.scans.specs.Terms.Numbers.{setupOf}
+use Rattle.scans.specs.Terms.Shape.{Shaped}
 use Rattle.strand.specs.Step.{intervalsOf}
-use Rattle.strand.specs.Range.{CheckedSetup}
 use Rattle.strand.specs.Terms.Running.{StrandLent}
 use Rattle.longdust.specs.declared.LongdustOptions.{LongdustOptions}
 use Rattle.longdust.specs.declared.Lent.{Lent}
@@ -61,10 +62,11 @@ pub record Admitted (o : LongdustOptions) (n : ℕ) (b : Lent) : Type 0 where
   pub enough : Enough n (o .kmer) (o .«window_size») b
 
 -- ---- The run.
--- The numbers p make the setup of the options; every float that it reads is one of 64 bits.
+-- The numbers p make the setup of the options; every float that it reads is one of 64 bits; and the tables are of the usual shape if p says so.
 pub record Prepared (o : LongdustOptions) (ln f : List Float) (p : Params) : Type 0 where
   pub setup-is : setupOf p ln f ≡ setup o ln f
   pub floats : CheckedSetup (setup o ln f)
+  pub shaped : Shaped p ln f
 
 -- The first count entries of a slice hold the list.
 pub record Scanned (is : List Interval) (xs : List (List ℕ)) (count : ℕ) : Type 0 where

@@ -3,16 +3,18 @@ use mathlib.Core.Path.{_≡_}
 use mathlib.Core.Bool.{Bool, true, false, cond, _||_}
 use mathlib.Core.List.{List, [], _∷_, _++_}
 use Prim.Native.Nat.{ℕ, zero, suc, _+_, _-_, _<_, _≤_}
-use lib.ListN.{length, getD}
+use lib.ListN.{length, getD, drop}
 use lib.Dec.{eqb, ltb}
 use lib.Ieee.{nan}
 use Rattle.letters.specs.Place.{Place}
 use Rattle.scans.specs.declared.ForwardPosition.{ForwardPosition}
 use Rattle.scans.specs.declared.backward.BackwardState.{BackwardState}
 use Rattle.scans.specs.declared.candidates.Search.{Search}
+use Rattle.scans.specs.declared.candidates.Searched.{Searched}
 use Rattle.scans.specs.declared.candidates.Trial.{Trial}
 use Rattle.scans.specs.Setup.{Setup, kmers}
 use Rattle.scans.specs.Counts.{cleared}
+use Rattle.scans.specs.Terms.Counted.{Counted}
 use Rattle.scans.specs.Scans.{Outcome, Candidate, candidate, noCandidate, backwardStart, Backward, backwardFrom, withBest, tryFrom}
 use Rattle.scans.specs.Terms.Parts.{backwardOf, Fresh, restOf, Backs}
 use Rattle.scans.specs.Terms.Carry.{Answers}
@@ -78,12 +80,19 @@ pub record Noted (a : Search) (cs : List Candidate) : Type 0 where
   pub many : length cs ≡ a .noted
   pub last-is : 0 < a .noted → getD cs (length cs - 1) noCandidate ≡ candidateOf (a .last)
 
--- A search that may go on: no more candidates than entries read are noted, and none without a best place.
+-- A search that may go on: no more candidates than entries read are noted, and none without a best place; the last noted is one of the entries read.
 pub record Searches (m : ℕ) (q : List Place) (a : Search) (counts : List ℕ) : Type 0 where
   pub on : a .on ≡ true
   pub scan : Backs m q (restOf (a .scan) counts)
   pub few : a .noted + a .scan .low ≤ length q
   pub none : a .scan .found ≡ 0 → a .noted ≡ 0
+  pub last-read : 0 < a .noted → a .scan .low ≤ a .last .pos
+
+-- A search that is over: the counts are those of the entries read.
+pub record Ended (m : ℕ) (q : List Place) (a : Search) (counts : List ℕ) : Type 0 where
+  pub low-in : a .scan .low ≤ length q
+  pub counted : Counted m counts (drop (a .scan .low) q)
+  pub last-read : 0 < a .noted → a .scan .low ≤ a .last .pos
 
 -- How many turns a search has left at most.
 abbrev pub turns : Search → ℕ
@@ -95,12 +104,25 @@ pub record NextCandidate (S : Setup) (q : List Place) (a b : Search) (counts cou
   pub noted : (cs : List Candidate) → Noted a cs → Noted b (withFresh b cs)
   pub less : turns b < turns a
   pub next : b .on ≡ true → Searches (kmers S) q b counts′
-  pub clear : b .on ≡ false → counts′ ≡ cleared S
+  pub ended : b .on ≡ false → Ended (kmers S) q b counts′
+
+-- All candidates of a window, in the order noted.
+abbrev pub candidatesOf : Setup → List Place → List Candidate
+candidatesOf S q = toTry (backwardFrom S q (length q) 1 backwardStart (cleared S) [])
+
+-- What a whole search answers; the counts are those of the entries read.
+pub record SearchedAll (S : Setup) (q : List Place) (r : Searched) (counts : List ℕ) : Type 0 where
+  pub many : length (candidatesOf S q) ≡ r .noted
+  pub low-in : r .low ≤ length q
+  pub counted : Counted (kmers S) counts (drop (r .low) q)
+  pub oldest-read : 0 < r .noted → r .low ≤ r .oldest
+  pub oldest-is : 0 < r .noted → getD (candidatesOf S q) (length (candidatesOf S q) - 1) noCandidate .place ≡ r .oldest
+  pub newest-is : 0 < r .noted → getD (candidatesOf S q) 0 noCandidate .place ≡ r .newest
 
 -- The whole search has found cs.
-pub record ScansBackward (S : Setup) (q : List Place) (counts : List ℕ) (cs : List Candidate) : Type 0 where
-  pub all : cs ≡ toTry (backwardFrom S q (length q) 1 backwardStart (cleared S) [])
-  pub clear : counts ≡ cleared S
+pub record ScansBackward (S : Setup) (q : List Place) (r : Searched) (counts : List ℕ) (cs : List Candidate) : Type 0 where
+  pub all : cs ≡ candidatesOf S q
+  pub searched : SearchedAll S q r counts
 
 -- ---- The candidates are tried.
 -- A slice holds n candidates or more, the first n being places of the window.

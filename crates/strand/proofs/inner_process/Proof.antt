@@ -54,14 +54,14 @@ scanned c = c .before .before .before .before .before
 loop-holds : tie.Need-loop-holds Inv-loop μ-loop
 loop-holds c =
     let b = c .before .before .before .before in
-    let l = b .before .before .before .before .before .before .before .before .before .pre in
+    let l = b .before .before .before .before .before .before .before .before .before .pre .0 in
     record { inv = inv-start l (b .begin .ensures); counts-are = b .begin .kept .1 .0 ∙ l .part .counts-is; same-candidates = refl; same-list = refl }
 
 until-scan-requires : tie.Need-until-scan-requires Inv-loop μ-loop
 until-scan-requires c κs =
     let g = c .before .before .before .before in
     let h = g .loop .inv in
-    (part-lent (start g .pre) (h .counts-are) (h .same-list), h .inv)
+    (part-lent (start g .pre .0) (h .counts-are) (h .same-list), h .inv)
 
 close-requires : tie.Need-close-requires Inv-loop μ-loop
 close-requires c κs =
@@ -77,13 +77,14 @@ dust-backward-requires c κs =
     let x = i .before in
     let u = reached (x .before) in
     let g = looping u in
-    let l = start g .pre in
+    let s = start g .pre in
+    let l = s .0 in
     let d = u .until-scan .ensures .due (x .if1 .left) in
     let counts-are = u .until-scan .kept .1 .1 .1 .1 .1 .1 .1 .0 ∙ g .loop .inv .counts-are in (
       d .windowed,
       (
         record { f-long = l .part .f-long; counts-is = counts-are; candidates-long = omega (arith, g .loop .inv .same-candidates, l .candidates-long) },
-        ((d .some, d .clear), rw (i .last-q-index .ensures) (d .carried)),
+        ((d .some, d .clear), (rw (i .last-q-index .ensures) (d .carried), s .1)),
       ),
     )
 
@@ -92,7 +93,7 @@ answered-requires c κs =
     let b = c .before .before .before .before in
     let x = scanning b in
     let u = reached (x .before) in
-    let l = start (looping u) .pre .part in
+    let l = start (looping u) .pre .0 .part in
     let d = u .until-scan .ensures .due (x .if1 .left) in
     ((omega (arith, x .if1 .left, l .letters-in), omega (arith, d .windowed .len-in, d .windowed .small), d .within _ _ (b .dust-backward .ensures), l .kmer-small), d .saving)
 
@@ -120,9 +121,9 @@ pub inner-process-spec : {M : Type 1} → statement M
 inner-process-spec =
     tie.close
     (tie.spec Inv-loop μ-loop (λ c κs. tt) loop-holds until-scan-requires close-requires
-    (λ c. ended c .until-scan .kept .1 .1 .1 .1 .1 .0 ∙ looping (ended c) .loop .inv .inv .read .windowed .ring-is ∙ sym (start (looping (ended c)) .pre .ring-is))
-    (λ c. ended c .until-scan .kept .1 .1 .1 .1 .1 .1 .0 ∙ looping (ended c) .loop .inv .inv .read .windowed .counts-long ∙ sym (start (looping (ended c)) .pre .window-counts-are))
-    (λ c. ended c .until-scan .kept .1 .1 .1 .1 .1 .1 .1 .0 ∙ looping (ended c) .loop .inv .counts-are ∙ sym (start (looping (ended c)) .pre .part .counts-is))
+    (λ c. ended c .until-scan .kept .1 .1 .1 .1 .1 .0 ∙ looping (ended c) .loop .inv .inv .read .windowed .ring-is ∙ sym (start (looping (ended c)) .pre .0 .ring-is))
+    (λ c. ended c .until-scan .kept .1 .1 .1 .1 .1 .1 .0 ∙ looping (ended c) .loop .inv .inv .read .windowed .counts-long ∙ sym (start (looping (ended c)) .pre .0 .window-counts-are))
+    (λ c. ended c .until-scan .kept .1 .1 .1 .1 .1 .1 .1 .0 ∙ looping (ended c) .loop .inv .counts-are ∙ sym (start (looping (ended c)) .pre .0 .part .counts-is))
     (λ c. looping (ended c) .loop .inv .same-candidates)
     (λ c. closed c .close .kept .1 .0 ∙ ended c .until-scan .kept .1 .1 .1 .1 .1 .1 .1 .1 .0 ∙ looping (ended c) .loop .inv .same-list)
     returns

@@ -73,33 +73,32 @@ freed c =
 abbrev done : tie.After-accepted → tie.After-both-strands
 done c = c .before .before .before .before .before .before .before .before .before .before .before .before .before .before .before
 
-prepare-requires : tie.Need-prepare-requires
-prepare-requires c κs =
-    let s = start (c .before .before) in
-    let g = s .pre .enough in
-    (s .pre .bounds, (omega (arith, length-take-le _ (s .args .ln .now) (g .ln)), omega (arith, length-take-le _ (s .args .f .now) (g .f))))
-
 in-range-requires : tie.Need-in-range-requires
 in-range-requires c κs =
-    let w = prepared-window (c .prepare .ensures) in
-    let s = start (c .before .before .before) in
+    let s = start (c .before .before) in
     let g = s .pre .enough in
     (omega (arith, length-take-le _ (s .args .ln .now) (g .ln)), omega (arith, length-take-le _ (s .args .f .now) (g .f)))
+
+prepare-requires : tie.Need-prepare-requires
+prepare-requires c κs =
+    let s = start (c .before .before .before) in
+    let g = s .pre .enough in
+    (s .pre .bounds, ((omega (arith, length-take-le _ (s .args .ln .now) (g .ln)), omega (arith, length-take-le _ (s .args .f .now) (g .f))), c .in-range .ensures))
 
 both-strands-requires : tie.Need-both-strands-requires
 both-strands-requires c κs =
     let k = c .before .before .before .before .before .before .before .before .before .before .before .before .before in
     let s = start k in
-    let q = c .before .before .before .before .before .before .before .before .before .before .prepare in
-    exact (s .args .options) (letters s) (k .n-kmers .result) (entry s) (s .pre) (k .n-kmers .ensures) (q .result) (prepared-kmer (q .ensures)) (prepared-window (q .ensures))
+    let q = c .before .before .before .before .before .before .before .before .before .prepare in
+    (exact (s .args .options) (letters s) (k .n-kmers .result) (entry s) (s .pre) (k .n-kmers .ensures) (q .result) (prepared-kmer (q .ensures)) (prepared-window (q .ensures)), q .ensures .shaped)
 
 returns : tie.Need-returns
 returns c =
     let t = done c in
     let k = counted t in
     let s = start k in
-    let q = t .before .before .before .before .before .before .before .before .before .before .before .prepare in
-    let g = t .before .before .before .before .before .before .before .before .before .before .in-range in
+    let q = t .before .before .before .before .before .before .before .before .before .before .prepare in
+    let g = t .before .before .before .before .before .before .before .before .before .before .before .in-range in
     ran (s .args .options) (s .args .codes .now) (k .n-kmers .result) (entry s) (s .pre) (k .n-kmers .ensures) (left t) (returned t) (q .result) (q .ensures)
     (g .result) (g .ensures) (t .both-strands .result) (t .both-strands .ensures) (c .accepted .result) (c .accepted .ensures)
 
@@ -115,8 +114,8 @@ mask-encoded-spec =
     (λ c. sym (length-take-le _ _ (start (c .before) .pre .enough .ln)))
     (λ c. search needs)
     (λ c. sym (length-take-le _ _ (start (c .before .before) .pre .enough .f)))
-    prepare-requires
     in-range-requires
+    prepare-requires
     (λ c. start (c .before .before .before .before) .pre .enough .queue)
     (λ c. sym (length-take-le _ _ (start (c .before .before .before .before .before) .pre .enough .queue)))
     (λ c. windows-within (c .before .before .before .before .before))

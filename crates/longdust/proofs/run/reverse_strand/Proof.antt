@@ -15,7 +15,7 @@ start c = c .before .before .before .before .before .before .before .before .bef
 
 reversed : (c : tie.After-reverse-complement-encoded-sequence)
     → c .reverse-complement-encoded-sequence .last .1 .0 ≡ reverseComplement (start c .args .codes .now)
-reversed c = reversed-whole (start c .args .codes .now) (start c .args .reverse-codes .now) _ (c .reverse-complement-encoded-sequence .ensures) (start c .pre .codes)
+reversed c = reversed-whole (start c .args .codes .now) (start c .args .reverse-codes .now) _ (c .reverse-complement-encoded-sequence .ensures) (start c .pre .0 .codes)
 
 abbrev scan : tie.After-reverse-list → tie.After-inner-process
 scan c = c .before .before .before .before .before .before .before .before
@@ -26,7 +26,7 @@ turned c = c .before .before .before .before .before .before .before .before .be
 inner-process-requires : tie.Need-inner-process-requires
 inner-process-requires c κs =
     let r = c .before .before .before .before .before .before .before .before in
-    lent-as (start r .pre .lent) (r .reverse-complement-encoded-sequence .kept .1 .0 ∙ start r .pre .codes) refl refl refl refl
+    (lent-as (start r .pre .0 .lent) (r .reverse-complement-encoded-sequence .kept .1 .0 ∙ start r .pre .0 .codes) refl refl refl refl, start r .pre .1)
 
 -- R entries of the list are lent for the reverse complement, which has as many letters.
 long : (c : tie.After-inner-process)
@@ -36,8 +36,8 @@ long c =
     let r = turned c in
     let s = start r in
     let n : length (r .reverse-complement-encoded-sequence .last .1 .0) ≡ length (s .args .codes .now) =
-    r .reverse-complement-encoded-sequence .kept .1 .0 ∙ s .pre .codes in
-    rw n (s .pre .lent .part .list-long)
+    r .reverse-complement-encoded-sequence .kept .1 .0 ∙ s .pre .0 .codes in
+    rw n (s .pre .0 .lent .part .list-long)
 
 returns-2 : tie.Need-returns-2
 returns-2 c =

@@ -4,7 +4,7 @@ use Prim.Native.Nat.{ℕ, _≤_, _-_}
 use native.Mathlib.Omega.{arith}
 use native.Mathlib.Numerals.{add-one}
 use borrow.Author.Needs.{needs}
-use Rattle.strand.specs.Range.{tableInRange}
+use Rattle.scans.specs.Range.{tableInRange}
 use Rattle.longdust.proofs.run.table_in_range.Statement.{statement}
 use Rattle.longdust.proofs.run.table_in_range.Tie as tie
 

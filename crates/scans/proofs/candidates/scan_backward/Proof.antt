@@ -78,14 +78,26 @@ loop-again-2 c =
     let n = c .before .before .before in
     seeking-kept _ _ _ _ _ _ _ (at-loop n .loop .inv) _ _ (n .next .ensures) (n .next .kept .1 .1 .1 .1 .1 .1 .1 .1 .0) (c .if1 .left)
 
+abbrev over : tie.After-candidate-at Inv-loop μ-loop → tie.After-loop Inv-loop μ-loop
+over c = c .before .before
+
+candidate-at-requires : tie.Need-candidate-at-requires Inv-loop μ-loop
+candidate-at-requires c κs =
+    let a = c .before .before in
+    let s = start a .pre in
+    omega (arith, a .loop .inv .same-records, s .1 .0 .candidates-long, s .0 .wide)
+
 same-length : tie.Need-same-length Inv-loop μ-loop
-same-length c = c .before .loop .inv .same-counts
+same-length c = over (c .before .before) .before .loop .inv .same-counts
 
 same-length-2 : tie.Need-same-length-2 Inv-loop μ-loop
-same-length-2 c = c .before .loop .inv .same-records
+same-length-2 c = over (c .before .before) .before .loop .inv .same-records
 
 returns : tie.Need-returns Inv-loop μ-loop
-returns c = seeking-end _ _ _ _ _ _ _ (c .before .loop .inv) (c .loop-test .left)
+returns c =
+    let n = c .before .before in
+    let l = over n in
+    seeking-end _ _ _ _ _ _ _ (l .before .loop .inv) (l .loop-test .left) _ (n .candidate-at .ensures)
 
 pub scan-backward-spec : {M : Type 1} → statement M
 scan-backward-spec =
@@ -102,6 +114,9 @@ scan-backward-spec =
     loop-again
     loop-less-2
     loop-again-2
+    candidate-at-requires
+    (λ c. search needs)
+    (λ c. search needs)
     same-length
     same-length-2
     returns)

@@ -54,7 +54,7 @@ returns c =
     let m = c .before .before .before in
     let s = halved m in
     let r = start s .pre in
-    forward-stopped _ _ _ _ (decoded (older (split s))) (decoded (newer (split s))) _ _ (window-length _ _ _ (r .0 .queued .head-in) (r .0 .queued .len-in)) (both-parts (split s)) _ _ refl _ _ _ _ (m .before .before .before .new .ensures .0) (r .1 .0) (m .forward-part .ensures) (c .if1 .taken)
+    forward-stopped (start s .args .p) _ _ _ (decoded (older (split s))) (decoded (newer (split s))) _ _ (window-length _ _ _ (r .0 .queued .head-in) (r .0 .queued .len-in)) (both-parts (split s)) _ _ refl _ _ _ _ (m .before .before .before .new .ensures .0) (r .1 .0) (m .forward-part .ensures) (c .if1 .taken)
 
 forward-part-requires-2 : tie.Need-forward-part-requires-2
 forward-part-requires-2 c κs =
@@ -83,7 +83,7 @@ returns-2 c =
     let m = scanned d in
     let s = halved m in
     let r = start s .pre in
-    forward-both _ _ _ _ (decoded (older (split s))) (decoded (newer (split s))) _ _ (window-length _ _ _ (r .0 .queued .head-in) (r .0 .queued .len-in)) (both-parts (split s)) _ _ refl _ _ _ _ (m .before .before .before .new .ensures .0) (r .1 .0) (m .forward-part .ensures) (d .if1 .left)
+    forward-both (start s .args .p) _ _ _ (decoded (older (split s))) (decoded (newer (split s))) _ _ (window-length _ _ _ (r .0 .queued .head-in) (r .0 .queued .len-in)) (both-parts (split s)) _ _ refl _ _ _ _ (m .before .before .before .new .ensures .0) (r .1 .0) (m .forward-part .ensures) (d .if1 .left)
     _ (ap (λ (z : ℕ). start s .args .start + z) (sym (older-size s))) _ _ (e .forward-part2 .ensures)
 
 pub dust-forward-spec : {M : Type 1} → statement M

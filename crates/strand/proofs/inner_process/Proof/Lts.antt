@@ -333,7 +333,7 @@ abbrev e39 : Row.Entry
 e39 = (0, Rows.sc-here z0)
 
 abbrev y31 : Syntax.Ty
-y31 = Syntax.tyStruct (115 ∷ 99 ∷ 97 ∷ 110 ∷ 115 ∷ 58 ∷ 58 ∷ 80 ∷ 97 ∷ 114 ∷ 97 ∷ 109 ∷ 115 ∷ []) (Syntax.tcons y1 (Syntax.tcons y1 (Syntax.tcons y9 (Syntax.tcons y3 (Syntax.tcons y3 (Syntax.tcons Syntax.tyBool (Syntax.tcons y0 Syntax.tnil)))))))
+y31 = Syntax.tyStruct (115 ∷ 99 ∷ 97 ∷ 110 ∷ 115 ∷ 58 ∷ 58 ∷ 80 ∷ 97 ∷ 114 ∷ 97 ∷ 109 ∷ 115 ∷ []) (Syntax.tcons y1 (Syntax.tcons y1 (Syntax.tcons y9 (Syntax.tcons y3 (Syntax.tcons y3 (Syntax.tcons Syntax.tyBool (Syntax.tcons y0 (Syntax.tcons Syntax.tyBool Syntax.tnil))))))))
 
 abbrev e40 : Row.Entry
 e40 = (1, Rows.any-gone y31)

@@ -331,7 +331,7 @@ abbrev e49 : Row.Entry
 e49 = (0, Rows.sc-here z0)
 
 abbrev y29 : Syntax.Ty
-y29 = Syntax.tyStruct (115 ∷ 99 ∷ 97 ∷ 110 ∷ 115 ∷ 58 ∷ 58 ∷ 80 ∷ 97 ∷ 114 ∷ 97 ∷ 109 ∷ 115 ∷ []) (Syntax.tcons y1 (Syntax.tcons y1 (Syntax.tcons y4 (Syntax.tcons y17 (Syntax.tcons y17 (Syntax.tcons Syntax.tyBool (Syntax.tcons y0 Syntax.tnil)))))))
+y29 = Syntax.tyStruct (115 ∷ 99 ∷ 97 ∷ 110 ∷ 115 ∷ 58 ∷ 58 ∷ 80 ∷ 97 ∷ 114 ∷ 97 ∷ 109 ∷ 115 ∷ []) (Syntax.tcons y1 (Syntax.tcons y1 (Syntax.tcons y4 (Syntax.tcons y17 (Syntax.tcons y17 (Syntax.tcons Syntax.tyBool (Syntax.tcons y0 (Syntax.tcons Syntax.tyBool Syntax.tnil))))))))
 
 abbrev e50 : Row.Entry
 e50 = (1, Rows.any-gone y29)

@@ -97,7 +97,7 @@ abbrev y5 : Syntax.Ty
 y5 = Syntax.tyInt Syntax.w32
 
 abbrev y6 : Syntax.Ty
-y6 = Syntax.tyStruct (115 ∷ 99 ∷ 97 ∷ 110 ∷ 115 ∷ 58 ∷ 58 ∷ 80 ∷ 97 ∷ 114 ∷ 97 ∷ 109 ∷ 115 ∷ []) (Syntax.tcons y0 (Syntax.tcons y0 (Syntax.tcons y4 (Syntax.tcons y1 (Syntax.tcons y1 (Syntax.tcons Syntax.tyBool (Syntax.tcons y5 Syntax.tnil)))))))
+y6 = Syntax.tyStruct (115 ∷ 99 ∷ 97 ∷ 110 ∷ 115 ∷ 58 ∷ 58 ∷ 80 ∷ 97 ∷ 114 ∷ 97 ∷ 109 ∷ 115 ∷ []) (Syntax.tcons y0 (Syntax.tcons y0 (Syntax.tcons y4 (Syntax.tcons y1 (Syntax.tcons y1 (Syntax.tcons Syntax.tyBool (Syntax.tcons y5 (Syntax.tcons Syntax.tyBool Syntax.tnil))))))))
 
 abbrev y7 : Syntax.Ty
 y7 = Syntax.tyRef Syntax.erased Syntax.mut y5
@@ -244,10 +244,10 @@ abbrev e20 : Row.Entry
 e20 = (20, Rows.any-gone y3)
 
 abbrev e21 : Row.Entry
-e21 = (21, Rows.any-gone y6)
+e21 = (21, Rows.any-gone Syntax.tyBool)
 
 abbrev e22 : Row.Entry
-e22 = (22, Rows.any-gone Syntax.tyBool)
+e22 = (22, Rows.any-gone y6)
 
 abbrev e23 : Row.Entry
 e23 = (23, Rows.any-gone y0)
@@ -415,13 +415,13 @@ abbrev c18 : List.List Row.Entry
 c18 = e50 ∷ e51 ∷ e54 ∷ e56 ∷ e58 ∷ e21 ∷ e22 ∷ e23 ∷ []
 
 abbrev e59 : Row.Entry
-e59 = (21, Rows.whole q6)
+e59 = (21, Rows.sc-here Row.sBool)
 
 abbrev c19 : List.List Row.Entry
 c19 = e50 ∷ e51 ∷ e54 ∷ e56 ∷ e58 ∷ e59 ∷ e22 ∷ e23 ∷ []
 
 abbrev e60 : Row.Entry
-e60 = (22, Rows.sc-here Row.sBool)
+e60 = (22, Rows.whole q6)
 
 abbrev c20 : List.List Row.Entry
 c20 = e50 ∷ e51 ∷ e54 ∷ e56 ∷ e58 ∷ e59 ∷ e60 ∷ e23 ∷ []
@@ -640,7 +640,7 @@ abbrev c54 : List.List Row.Entry
 c54 = e0 ∷ e47 ∷ e2 ∷ e3 ∷ e4 ∷ e61 ∷ e64 ∷ e67 ∷ []
 
 abbrev c55 : List.List Row.Entry
-c55 = e50 ∷ e51 ∷ e54 ∷ e19 ∷ e20 ∷ e21 ∷ e60 ∷ e88 ∷ []
+c55 = e50 ∷ e51 ∷ e54 ∷ e19 ∷ e20 ∷ e59 ∷ e22 ∷ e88 ∷ []
 
 abbrev c56 : List.List Row.Entry
 c56 = e0 ∷ e47 ∷ e2 ∷ e3 ∷ e4 ∷ e5 ∷ e64 ∷ e67 ∷ []
@@ -688,13 +688,13 @@ abbrev c70 : List.List Row.Entry
 c70 = e8 ∷ e9 ∷ e10 ∷ e11 ∷ e12 ∷ e13 ∷ e14 ∷ e49 ∷ []
 
 abbrev c71 : List.List Row.Entry
-c71 = e16 ∷ e51 ∷ e54 ∷ e19 ∷ e20 ∷ e21 ∷ e60 ∷ e88 ∷ []
+c71 = e16 ∷ e51 ∷ e54 ∷ e19 ∷ e20 ∷ e59 ∷ e22 ∷ e88 ∷ []
 
 abbrev c72 : List.List Row.Entry
-c72 = e16 ∷ e17 ∷ e54 ∷ e19 ∷ e20 ∷ e21 ∷ e60 ∷ e88 ∷ []
+c72 = e16 ∷ e17 ∷ e54 ∷ e19 ∷ e20 ∷ e59 ∷ e22 ∷ e88 ∷ []
 
 abbrev c73 : List.List Row.Entry
-c73 = e16 ∷ e17 ∷ e18 ∷ e19 ∷ e20 ∷ e21 ∷ e60 ∷ e88 ∷ []
+c73 = e16 ∷ e17 ∷ e18 ∷ e19 ∷ e20 ∷ e59 ∷ e22 ∷ e88 ∷ []
 
 abbrev c74 : List.List Row.Entry
 c74 = e16 ∷ e17 ∷ e18 ∷ e19 ∷ e20 ∷ e21 ∷ e22 ∷ e88 ∷ []
@@ -778,7 +778,7 @@ abbrev pub r : Kinds.RK 12
 r = Value.rVal record { ty = q5; one = Path'.refl; val = Laws'3.val Answer.the-type Laws.the-laws; tells = Laws'3.tells Answer.the-type Laws.the-laws; still = Laws'3.still Answer.the-type Laws.the-copy Exit.yes; row = Rows.whole q5; rd = λ x. x; mk = λ x. x } λ M 𝓤 H A W. record { copies = Laws'3.copy Answer.the-type Laws.the-copy 𝓤 H A W; lawful = Laws'3.lawful Answer.the-type Laws.the-laws 𝓤 H A W; makes = Laws'3.makes Answer.the-type Laws.the-plain 𝓤 H A; in-mem = Local.mem-whole 𝓤 H A W q5; of-mem = Local.whole-mem 𝓤 H A W q5 }
 
 abbrev pub xs : List.List Syntax.Ty
-xs = y0 ∷ y0 ∷ y0 ∷ y0 ∷ y0 ∷ y3 ∷ y3 ∷ y6 ∷ Syntax.tyBool ∷ y0 ∷ y0 ∷ y0 ∷ y2 ∷ y2 ∷ y7 ∷ y8 ∷ y9 ∷ y10 ∷ y9 ∷ y10 ∷ y11 ∷ y12 ∷ y14 ∷ y15 ∷ y16 ∷ y17 ∷ y16 ∷ y17 ∷ y16 ∷ y17 ∷ y14 ∷ y15 ∷ []
+xs = y0 ∷ y0 ∷ y0 ∷ y0 ∷ y0 ∷ y3 ∷ y3 ∷ Syntax.tyBool ∷ y6 ∷ y0 ∷ y0 ∷ y0 ∷ y2 ∷ y2 ∷ y7 ∷ y8 ∷ y9 ∷ y10 ∷ y9 ∷ y10 ∷ y11 ∷ y12 ∷ y14 ∷ y15 ∷ y16 ∷ y17 ∷ y16 ∷ y17 ∷ y16 ∷ y17 ∷ y14 ∷ y15 ∷ []
 
 abbrev pub m : Nat.ℕ
 m = 9
@@ -793,13 +793,13 @@ abbrev pub ps·1 : List.List (Kinds.PK 2)
 ps·1 = (Value.pVal record { ty = q0; one = Path'.refl; val = Laws'3.val LongdustOptions.the-type Laws'.the-laws; tells = Laws'3.tells LongdustOptions.the-type Laws'.the-laws; still = Laws'3.still LongdustOptions.the-type Laws'.the-copy Exit.yes; row = Rows.whole q0; rd = λ x. x; mk = λ x. x } λ M 𝓤 H A W. record { copies = Laws'3.copy LongdustOptions.the-type Laws'.the-copy 𝓤 H A W; lawful = Laws'3.lawful LongdustOptions.the-type Laws'.the-laws 𝓤 H A W; makes = Laws'3.makes LongdustOptions.the-type Laws'.the-plain 𝓤 H A; in-mem = Local.mem-whole 𝓤 H A W q0; of-mem = Local.whole-mem 𝓤 H A W q0 }) ∷ (ShrSlice.pShrS q2 0 tt) ∷ (ShrSlice.pShrS q2 1 tt) ∷ []
 
 abbrev pub r·1 : Kinds.RK 2
-r·1 = Value.rVal record { ty = q6; one = Path'.refl; val = Laws'3.val Params.the-type Laws''.the-laws; tells = Laws'3.tells Params.the-type Laws''.the-laws; still = Laws'3.still Params.the-type Laws''.the-copy Exit.yes; row = Rows.whole q6; rd = λ x. x; mk = λ x. x } λ M 𝓤 H A W. record { copies = Laws'3.copy Params.the-type Laws''.the-copy 𝓤 H A W; lawful = Laws'3.lawful Params.the-type Laws''.the-laws 𝓤 H A W; makes = Laws'3.makes Params.the-type Laws''.the-plain 𝓤 H A; in-mem = Local.mem-whole 𝓤 H A W q6; of-mem = Local.whole-mem 𝓤 H A W q6 }
+r·1 = Bool.rBool
 
 abbrev pub ps·2 : List.List (Kinds.PK 2)
-ps·2 = (Value.pVal record { ty = q6; one = Path'.refl; val = Laws'3.val Params.the-type Laws''.the-laws; tells = Laws'3.tells Params.the-type Laws''.the-laws; still = Laws'3.still Params.the-type Laws''.the-copy Exit.yes; row = Rows.whole q6; rd = λ x. x; mk = λ x. x } λ M 𝓤 H A W. record { copies = Laws'3.copy Params.the-type Laws''.the-copy 𝓤 H A W; lawful = Laws'3.lawful Params.the-type Laws''.the-laws 𝓤 H A W; makes = Laws'3.makes Params.the-type Laws''.the-plain 𝓤 H A; in-mem = Local.mem-whole 𝓤 H A W q6; of-mem = Local.whole-mem 𝓤 H A W q6 }) ∷ (ShrSlice.pShrS q2 0 tt) ∷ (ShrSlice.pShrS q2 1 tt) ∷ []
+ps·2 = (Value.pVal record { ty = q0; one = Path'.refl; val = Laws'3.val LongdustOptions.the-type Laws'.the-laws; tells = Laws'3.tells LongdustOptions.the-type Laws'.the-laws; still = Laws'3.still LongdustOptions.the-type Laws'.the-copy Exit.yes; row = Rows.whole q0; rd = λ x. x; mk = λ x. x } λ M 𝓤 H A W. record { copies = Laws'3.copy LongdustOptions.the-type Laws'.the-copy 𝓤 H A W; lawful = Laws'3.lawful LongdustOptions.the-type Laws'.the-laws 𝓤 H A W; makes = Laws'3.makes LongdustOptions.the-type Laws'.the-plain 𝓤 H A; in-mem = Local.mem-whole 𝓤 H A W q0; of-mem = Local.whole-mem 𝓤 H A W q0 }) ∷ Bool.pBool ∷ (Num.pNum Syntax.w64) ∷ (ShrSlice.pShrS q2 0 tt) ∷ (ShrSlice.pShrS q2 1 tt) ∷ []
 
 abbrev pub r·2 : Kinds.RK 2
-r·2 = Bool.rBool
+r·2 = Value.rVal record { ty = q6; one = Path'.refl; val = Laws'3.val Params.the-type Laws''.the-laws; tells = Laws'3.tells Params.the-type Laws''.the-laws; still = Laws'3.still Params.the-type Laws''.the-copy Exit.yes; row = Rows.whole q6; rd = λ x. x; mk = λ x. x } λ M 𝓤 H A W. record { copies = Laws'3.copy Params.the-type Laws''.the-copy 𝓤 H A W; lawful = Laws'3.lawful Params.the-type Laws''.the-laws 𝓤 H A W; makes = Laws'3.makes Params.the-type Laws''.the-plain 𝓤 H A; in-mem = Local.mem-whole 𝓤 H A W q6; of-mem = Local.whole-mem 𝓤 H A W q6 }
 
 abbrev pub ps·3 : List.List (Kinds.PK 12)
 ps·3 = (Value.pVal record { ty = q6; one = Path'.refl; val = Laws'3.val Params.the-type Laws''.the-laws; tells = Laws'3.tells Params.the-type Laws''.the-laws; still = Laws'3.still Params.the-type Laws''.the-copy Exit.yes; row = Rows.whole q6; rd = λ x. x; mk = λ x. x } λ M 𝓤 H A W. record { copies = Laws'3.copy Params.the-type Laws''.the-copy 𝓤 H A W; lawful = Laws'3.lawful Params.the-type Laws''.the-laws 𝓤 H A W; makes = Laws'3.makes Params.the-type Laws''.the-plain 𝓤 H A; in-mem = Local.mem-whole 𝓤 H A W q6; of-mem = Local.whole-mem 𝓤 H A W q6 }) ∷ Bool.pBool ∷ (ShrSlice.pShrS q1 0 tt) ∷ (ShrSlice.pShrS q2 1 tt) ∷ (ShrSlice.pShrS q2 2 tt) ∷ (MutSlice.pMutS q3 3 tt) ∷ (MutSlice.pMutS q4 4 tt) ∷ (MutSlice.pMutS q4 5 tt) ∷ (MutSlice.pMutS Rec·type.the-row 6 tt) ∷ (MutSlice.pMutS q1 7 tt) ∷ (MutSlice.pMutS (Array.Array q3 2) 8 tt) ∷ (MutSlice.pMutS (Array.Array q3 2) 9 tt) ∷ (MutSlice.pMutS (Array.Array q3 2) 10 tt) ∷ (MutSlice.pMutS q1 11 tt) ∷ []
@@ -856,10 +856,10 @@ abbrev b12 : Syntax.Body
 b12 = Syntax.assign (Syntax.place 20 List.[]) (Syntax.aggregate ((Syntax.copy (Syntax.place 27 List.[])) ∷ (Syntax.copy (Syntax.place 25 List.[])) ∷ []))
 
 abbrev b13 : Syntax.Body
-b13 = Syntax.call "longdust::run::prepare" ((Syntax.copy (Syntax.place 1 List.[])) ∷ (Syntax.copy (Syntax.place 19 List.[])) ∷ (Syntax.copy (Syntax.place 20 List.[])) ∷ []) (Syntax.place 21 List.[])
+b13 = Syntax.call "longdust::run::in_range" ((Syntax.copy (Syntax.place 1 List.[])) ∷ (Syntax.copy (Syntax.place 19 List.[])) ∷ (Syntax.copy (Syntax.place 20 List.[])) ∷ []) (Syntax.place 21 List.[])
 
 abbrev b14 : Syntax.Body
-b14 = Syntax.call "longdust::run::in_range" ((Syntax.copy (Syntax.place 21 List.[])) ∷ (Syntax.copy (Syntax.place 19 List.[])) ∷ (Syntax.copy (Syntax.place 20 List.[])) ∷ []) (Syntax.place 22 List.[])
+b14 = Syntax.call "longdust::run::prepare" ((Syntax.copy (Syntax.place 1 List.[])) ∷ (Syntax.copy (Syntax.place 21 List.[])) ∷ (Syntax.copy (Syntax.place 14 List.[])) ∷ (Syntax.copy (Syntax.place 19 List.[])) ∷ (Syntax.copy (Syntax.place 20 List.[])) ∷ []) (Syntax.place 22 List.[])
 
 abbrev b15 : Syntax.Body
 b15 = Syntax.assign (Syntax.place 28 List.[]) (Syntax.addrOf (Syntax.place 5 ((Syntax.field 0) ∷ (Syntax.deref y5) ∷ [])))
@@ -916,10 +916,10 @@ abbrev b32 : Syntax.Body
 b32 = Syntax.assign (Syntax.place 45 List.[]) (Syntax.aggregate ((Syntax.copy (Syntax.place 44 List.[])) ∷ (Syntax.copy (Syntax.place 18 List.[])) ∷ []))
 
 abbrev b33 : Syntax.Body
-b33 = Syntax.call "longdust::run::both_strands" ((Syntax.copy (Syntax.place 21 List.[])) ∷ (Syntax.copy (Syntax.place 1 ((Syntax.field 7) ∷ []))) ∷ (Syntax.copy (Syntax.place 2 List.[])) ∷ (Syntax.copy (Syntax.place 19 List.[])) ∷ (Syntax.copy (Syntax.place 20 List.[])) ∷ (Syntax.copy (Syntax.place 29 List.[])) ∷ (Syntax.copy (Syntax.place 31 List.[])) ∷ (Syntax.copy (Syntax.place 33 List.[])) ∷ (Syntax.copy (Syntax.place 35 List.[])) ∷ (Syntax.copy (Syntax.place 37 List.[])) ∷ (Syntax.copy (Syntax.place 39 List.[])) ∷ (Syntax.copy (Syntax.place 41 List.[])) ∷ (Syntax.copy (Syntax.place 43 List.[])) ∷ (Syntax.copy (Syntax.place 45 List.[])) ∷ []) (Syntax.place 23 List.[])
+b33 = Syntax.call "longdust::run::both_strands" ((Syntax.copy (Syntax.place 22 List.[])) ∷ (Syntax.copy (Syntax.place 1 ((Syntax.field 7) ∷ []))) ∷ (Syntax.copy (Syntax.place 2 List.[])) ∷ (Syntax.copy (Syntax.place 19 List.[])) ∷ (Syntax.copy (Syntax.place 20 List.[])) ∷ (Syntax.copy (Syntax.place 29 List.[])) ∷ (Syntax.copy (Syntax.place 31 List.[])) ∷ (Syntax.copy (Syntax.place 33 List.[])) ∷ (Syntax.copy (Syntax.place 35 List.[])) ∷ (Syntax.copy (Syntax.place 37 List.[])) ∷ (Syntax.copy (Syntax.place 39 List.[])) ∷ (Syntax.copy (Syntax.place 41 List.[])) ∷ (Syntax.copy (Syntax.place 43 List.[])) ∷ (Syntax.copy (Syntax.place 45 List.[])) ∷ []) (Syntax.place 23 List.[])
 
 abbrev b34 : Syntax.Body
-b34 = Syntax.call "longdust::run::accepted" ((Syntax.copy (Syntax.place 23 List.[])) ∷ (Syntax.copy (Syntax.place 22 List.[])) ∷ []) (Syntax.place 0 List.[])
+b34 = Syntax.call "longdust::run::accepted" ((Syntax.copy (Syntax.place 23 List.[])) ∷ (Syntax.copy (Syntax.place 21 List.[])) ∷ []) (Syntax.place 0 List.[])
 
 abbrev b35 : Syntax.Body
 b35 = Syntax.return
@@ -1574,10 +1574,10 @@ module _ (claims· : Claims) where
   s24 = Scalar.n-room T25 25 y0
 
   abbrev s25 : Typed.Both T26 T27
-  s25 = Call.callB ps·1 r·1 (claims· .2) (claims· .3) T26 (record { pos = 1; st = List.[]; d = 0; at = λ x. x }, (record { pos = 19; ty = y2; ref = λ x. x }, (record { pos = 20; ty = y2; ref = λ x. x }, tt))) 21 (1 ∷ 2 ∷ []) y6
+  s25 = Call.callB ps·1 r·1 (claims· .2) (claims· .3) T26 (record { pos = 1; st = List.[]; d = 0; at = λ x. x }, (record { pos = 19; ty = y2; ref = λ x. x }, (record { pos = 20; ty = y2; ref = λ x. x }, tt))) 21 (1 ∷ 2 ∷ []) Syntax.tyBool
 
   abbrev s26 : Typed.Both T27 T28
-  s26 = Call.callB ps·2 r·2 (claims· .4) (claims· .5) T27 (record { pos = 21; st = List.[]; d = 0; at = λ x. x }, (record { pos = 19; ty = y2; ref = λ x. x }, (record { pos = 20; ty = y2; ref = λ x. x }, tt))) 22 (1 ∷ 2 ∷ []) Syntax.tyBool
+  s26 = Call.callB ps·2 r·2 (claims· .4) (claims· .5) T27 (record { pos = 1; st = List.[]; d = 0; at = λ x. x }, (Bool.bAt 21 λ x. x, (Num.vAt 14 λ x. x, (record { pos = 19; ty = y2; ref = λ x. x }, (record { pos = 20; ty = y2; ref = λ x. x }, tt))))) 22 (1 ∷ 2 ∷ []) y6
 
   abbrev s28 : Typed.Both T28 T30
   s28 = Part.k-sl-relendᵖ q3 T28 5 28 3 12 y22 y7 Row.off (λ x. x) λ u. u .1 .1 .1 .1 .1 .1 .1 .1 .1 .1 .1 .1 .1 .1 .1 .1 .0
@@ -1634,7 +1634,7 @@ module _ (claims· : Claims) where
   s53 = Relend.k-sl-aggregate q1 (Relend.asMut q1) T54 44 45 20 y14 y14 (λ x. x) (Scalar.oAt 18 y0 (Row.valS z0))
 
   abbrev s54 : Typed.Both T55 T56
-  s54 = Call.callB ps·3 r·3 (claims· .6) (claims· .7) T55 (record { pos = 21; st = List.[]; d = 0; at = λ x. x }, (Bool.bFld 1 ((Syntax.field 7) ∷ []) 51 λ x. LongdustOptions.struct .as-values x .1 .1 .1 .1 .1 .1 .1 .0, (record { pos = 2; ty = y19; ref = λ x. x }, (record { pos = 19; ty = y2; ref = λ x. x }, (record { pos = 20; ty = y2; ref = λ x. x }, (record { pos = 29; ty = y7; ref = λ x. x }, (record { pos = 31; ty = y9; ref = λ x. x }, (record { pos = 33; ty = y9; ref = λ x. x }, (record { pos = 35; ty = y11; ref = λ x. x }, (record { pos = 37; ty = y14; ref = λ x. x }, (record { pos = 39; ty = y16; ref = λ x. x }, (record { pos = 41; ty = y16; ref = λ x. x }, (record { pos = 43; ty = y16; ref = λ x. x }, (record { pos = 45; ty = y14; ref = λ x. x }, tt)))))))))))))) 23 (0 ∷ 1 ∷ 2 ∷ 12 ∷ 13 ∷ 14 ∷ 15 ∷ 16 ∷ 17 ∷ 18 ∷ 19 ∷ 20 ∷ []) y0
+  s54 = Call.callB ps·3 r·3 (claims· .6) (claims· .7) T55 (record { pos = 22; st = List.[]; d = 0; at = λ x. x }, (Bool.bFld 1 ((Syntax.field 7) ∷ []) 51 λ x. LongdustOptions.struct .as-values x .1 .1 .1 .1 .1 .1 .1 .0, (record { pos = 2; ty = y19; ref = λ x. x }, (record { pos = 19; ty = y2; ref = λ x. x }, (record { pos = 20; ty = y2; ref = λ x. x }, (record { pos = 29; ty = y7; ref = λ x. x }, (record { pos = 31; ty = y9; ref = λ x. x }, (record { pos = 33; ty = y9; ref = λ x. x }, (record { pos = 35; ty = y11; ref = λ x. x }, (record { pos = 37; ty = y14; ref = λ x. x }, (record { pos = 39; ty = y16; ref = λ x. x }, (record { pos = 41; ty = y16; ref = λ x. x }, (record { pos = 43; ty = y16; ref = λ x. x }, (record { pos = 45; ty = y14; ref = λ x. x }, tt)))))))))))))) 23 (0 ∷ 1 ∷ 2 ∷ 12 ∷ 13 ∷ 14 ∷ 15 ∷ 16 ∷ 17 ∷ 18 ∷ 19 ∷ 20 ∷ []) y0
 
   abbrev s55 : Typed.Mo T56 → Typed.Mo T57
   s55 = Scalar.n-room T56 19 y3
@@ -1646,7 +1646,7 @@ module _ (claims· : Claims) where
   s57 = Scalar.n-room T58 1 y31
 
   abbrev s58 : Typed.Mo T59 → Typed.Mo T60
-  s58 = Scalar.n-room T59 21 y6
+  s58 = Scalar.n-room T59 22 y6
 
   abbrev s60 : Typed.Both T60 T62
   s60 = Part.k-back-slᵖ q3 T60 29 5 3 12 y22 y7 Row.off (λ x. x) λ x. x
@@ -1691,7 +1691,7 @@ module _ (claims· : Claims) where
   s89 = Know.k-sl-known (Referent.fInt Syntax.w8) T90 13 11 y30 Row.off 0 λ x. x
 
   abbrev s91 : Typed.Both T91 T93
-  s91 = Call.callB ps·4 r·4 (claims· .8) (claims· .9) T91 (Num.vAt 23 λ x. x, (Bool.bAt 22 λ x. x, tt)) 0 List.[] y18
+  s91 = Call.callB ps·4 r·4 (claims· .8) (claims· .9) T91 (Num.vAt 23 λ x. x, (Bool.bAt 21 λ x. x, tt)) 0 List.[] y18
 
   abbrev s92 : Typed.Mo T93 → Typed.Mo T94
   s92 = Scalar.n-room T93 14 y0
@@ -1709,7 +1709,7 @@ module _ (claims· : Claims) where
   s96 = Scalar.n-room T97 18 y0
 
   abbrev s97 : Typed.Mo T98 → Typed.Mo T99
-  s97 = Scalar.n-room T98 22 Syntax.tyBool
+  s97 = Scalar.n-room T98 21 Syntax.tyBool
 
   abbrev s98 : Typed.Mo T99 → Typed.Mo T100
   s98 = Scalar.n-room T99 23 y0
@@ -1718,7 +1718,7 @@ module _ (claims· : Claims) where
       (Post· : (κs : Lifetimes.Lfts 12) → (a : Kinds.Dens κs ps) → Kinds.Plain 12 ps r κs) where
     module _ (M : Type 1) where
       abbrev pub Closed : Type 2
-      Closed = (𝓤 : URA.URA M) (H : Wp.Heap 𝓤) (A : Atoms.Atoms 𝓤) (W : Kit.Given 𝓤 H A) (𝓣 : Wp.Tables 𝓤 H) (known0 : Plain.Known 𝓤 H A W 𝓣 0 ps·0 r·0 (claims· .0) (claims· .1) "letters::n_kmers") (known1 : Plain.Known 𝓤 H A W 𝓣 2 ps·1 r·1 (claims· .2) (claims· .3) "longdust::run::prepare") (known2 : Plain.Known 𝓤 H A W 𝓣 2 ps·2 r·2 (claims· .4) (claims· .5) "longdust::run::in_range") (known3 : Plain.Known 𝓤 H A W 𝓣 12 ps·3 r·3 (claims· .6) (claims· .7) "longdust::run::both_strands") (known4 : Plain.Known 𝓤 H A W 𝓣 0 ps·4 r·4 (claims· .8) (claims· .9) "longdust::run::accepted") → Statement.Triple 𝓤 (Wp.WpFn 𝓤 H (𝓣 .C) (𝓣 .Λ) (Function.fnOf 12 ps r xs m hs body)) (Function.plainOf 𝓤 H A 12 ps r Pre· Post·)
+      Closed = (𝓤 : URA.URA M) (H : Wp.Heap 𝓤) (A : Atoms.Atoms 𝓤) (W : Kit.Given 𝓤 H A) (𝓣 : Wp.Tables 𝓤 H) (known0 : Plain.Known 𝓤 H A W 𝓣 0 ps·0 r·0 (claims· .0) (claims· .1) "letters::n_kmers") (known1 : Plain.Known 𝓤 H A W 𝓣 2 ps·1 r·1 (claims· .2) (claims· .3) "longdust::run::in_range") (known2 : Plain.Known 𝓤 H A W 𝓣 2 ps·2 r·2 (claims· .4) (claims· .5) "longdust::run::prepare") (known3 : Plain.Known 𝓤 H A W 𝓣 12 ps·3 r·3 (claims· .6) (claims· .7) "longdust::run::both_strands") (known4 : Plain.Known 𝓤 H A W 𝓣 0 ps·4 r·4 (claims· .8) (claims· .9) "longdust::run::accepted") → Statement.Triple 𝓤 (Wp.WpFn 𝓤 H (𝓣 .C) (𝓣 .Λ) (Function.fnOf 12 ps r xs m hs body)) (Function.plainOf 𝓤 H A 12 ps r Pre· Post·)
 
     module _ where
       abbrev at0 : Typed.TF T100 O0
@@ -2027,7 +2027,7 @@ module _ (claims· : Claims) where
       module _ {M : Type 1} (𝓤 : URA.URA M) (H : Wp.Heap 𝓤) (A : Atoms.Atoms 𝓤)
           (W : Kit.Given 𝓤 H A) (𝓣 : Wp.Tables 𝓤 H) where
         abbrev Knowns : Type 1
-        Knowns = Plain.Known 𝓤 H A W 𝓣 0 ps·0 r·0 (claims· .0) (claims· .1) "letters::n_kmers" × Plain.Known 𝓤 H A W 𝓣 2 ps·1 r·1 (claims· .2) (claims· .3) "longdust::run::prepare" × Plain.Known 𝓤 H A W 𝓣 2 ps·2 r·2 (claims· .4) (claims· .5) "longdust::run::in_range" × Plain.Known 𝓤 H A W 𝓣 12 ps·3 r·3 (claims· .6) (claims· .7) "longdust::run::both_strands" × Plain.Known 𝓤 H A W 𝓣 0 ps·4 r·4 (claims· .8) (claims· .9) "longdust::run::accepted"
+        Knowns = Plain.Known 𝓤 H A W 𝓣 0 ps·0 r·0 (claims· .0) (claims· .1) "letters::n_kmers" × Plain.Known 𝓤 H A W 𝓣 2 ps·1 r·1 (claims· .2) (claims· .3) "longdust::run::in_range" × Plain.Known 𝓤 H A W 𝓣 2 ps·2 r·2 (claims· .4) (claims· .5) "longdust::run::prepare" × Plain.Known 𝓤 H A W 𝓣 12 ps·3 r·3 (claims· .6) (claims· .7) "longdust::run::both_strands" × Plain.Known 𝓤 H A W 𝓣 0 ps·4 r·4 (claims· .8) (claims· .9) "longdust::run::accepted"
 
       module _ (κs : Lifetimes.Lfts 12) (qs : Lifetimes.Shares 12) where
         abbrev li0 : Row.Life
@@ -2580,7 +2580,7 @@ module _ (claims· : Claims) where
           d1 = Typed.g-pre 𝓤 H A W 𝓣 E G99 G100 b35 Δ0 (Typed.pass T99 T100 s98) at0 (Scalar.g-room 𝓤 H A W E G99 23 y0 (Scalar.room-sc 𝓤 H A W z0)) d0
 
           d2 : Typed.Typed 𝓤 H A 𝓣 E G98 b35 Δ0 at2
-          d2 = Typed.g-pre 𝓤 H A W 𝓣 E G98 G99 b35 Δ0 (Typed.pass T98 T99 s97) at1 (Scalar.g-room 𝓤 H A W E G98 22 Syntax.tyBool (Scalar.room-sc 𝓤 H A W Row.sBool)) d1
+          d2 = Typed.g-pre 𝓤 H A W 𝓣 E G98 G99 b35 Δ0 (Typed.pass T98 T99 s97) at1 (Scalar.g-room 𝓤 H A W E G98 21 Syntax.tyBool (Scalar.room-sc 𝓤 H A W Row.sBool)) d1
 
           d3 : Typed.Typed 𝓤 H A 𝓣 E G97 b35 Δ0 at3
           d3 = Typed.g-pre 𝓤 H A W 𝓣 E G97 G98 b35 Δ0 (Typed.pass T97 T98 s96) at2 (Scalar.g-room 𝓤 H A W E G97 18 y0 (Scalar.room-sc 𝓤 H A W z0)) d2
@@ -2598,7 +2598,7 @@ module _ (claims· : Claims) where
           d7 = Typed.g-pre 𝓤 H A W 𝓣 E G93 G94 b35 Δ0 (Typed.pass T93 T94 s92) at6 (Scalar.g-room 𝓤 H A W E G93 14 y0 (Scalar.room-sc 𝓤 H A W z0)) d6
 
           d8 : Typed.Typed 𝓤 H A 𝓣 E G92 b36 Δ0 at8
-          d8 = Typed.s-seq 𝓤 H A W 𝓣 E G92 G93 b34 b35 Δ0 (Typed.both s91) at7 (Plain.t-call-plain 𝓤 H A W 𝓣 0 ps·4 r·4 (claims· .8) (claims· .9) "longdust::run::accepted" (known .4) E (λ pos β. β) G92 (Num.vAt 23 λ x. x, (Bool.bAt 22 λ x. x, tt)) 0 List.[] (Call.sub-id 𝓤 H A W (G92 .slots)) ((Scalar.reads-sc 𝓤 H A W z0, Path'.refl), ((Scalar.reads-sc 𝓤 H A W Row.sBool, Path'.refl), tt)) (Reads'.room-gone 𝓤 H A y18) tt Path'.refl) d7
+          d8 = Typed.s-seq 𝓤 H A W 𝓣 E G92 G93 b34 b35 Δ0 (Typed.both s91) at7 (Plain.t-call-plain 𝓤 H A W 𝓣 0 ps·4 r·4 (claims· .8) (claims· .9) "longdust::run::accepted" (known .4) E (λ pos β. β) G92 (Num.vAt 23 λ x. x, (Bool.bAt 21 λ x. x, tt)) 0 List.[] (Call.sub-id 𝓤 H A W (G92 .slots)) ((Scalar.reads-sc 𝓤 H A W z0, Path'.refl), ((Scalar.reads-sc 𝓤 H A W Row.sBool, Path'.refl), tt)) (Reads'.room-gone 𝓤 H A y18) tt Path'.refl) d7
 
           d9 : Typed.Typed 𝓤 H A 𝓣 E G91 b36 Δ0 at9
           d9 = Typed.g-pre 𝓤 H A W 𝓣 E G91 G92 b36 Δ0 (λ Ψ. Ψ) at8 (Lifetime.g-forget 𝓤 H A W E G91 20 Row.dead Path'.refl) d8
@@ -2697,7 +2697,7 @@ module _ (claims· : Claims) where
           d40 = Typed.g-pre 𝓤 H A W 𝓣 E G60 G61 b36 Δ0 (λ Ψ. Ψ) at39 (Lifetime.g-end 𝓤 H A W E G60 12 Path'.refl) d39
 
           d41 : Typed.Typed 𝓤 H A 𝓣 E G59 b36 Δ0 at41
-          d41 = Typed.g-pre 𝓤 H A W 𝓣 E G59 G60 b36 Δ0 (Typed.pass T59 T60 s58) at40 (Scalar.g-room 𝓤 H A W E G59 21 y6 (Local.room-whole 𝓤 H A W q6 y6 Path'.refl)) d40
+          d41 = Typed.g-pre 𝓤 H A W 𝓣 E G59 G60 b36 Δ0 (Typed.pass T59 T60 s58) at40 (Scalar.g-room 𝓤 H A W E G59 22 y6 (Local.room-whole 𝓤 H A W q6 y6 Path'.refl)) d40
 
           d42 : Typed.Typed 𝓤 H A 𝓣 E G58 b36 Δ0 at42
           d42 = Typed.g-pre 𝓤 H A W 𝓣 E G58 G59 b36 Δ0 (Typed.pass T58 T59 s57) at41 (Scalar.g-room 𝓤 H A W E G58 1 y31 (Local.room-whole 𝓤 H A W q0 y31 Path'.refl)) d41
@@ -2709,7 +2709,7 @@ module _ (claims· : Claims) where
           d44 = Typed.g-pre 𝓤 H A W 𝓣 E G56 G57 b36 Δ0 (Typed.pass T56 T57 s55) at43 (Scalar.g-room 𝓤 H A W E G56 19 y3 (Shared.room-sslice 𝓤 H A W q2 y2 1)) d43
 
           d45 : Typed.Typed 𝓤 H A 𝓣 E G55 b37 Δ0 at45
-          d45 = Typed.s-seq 𝓤 H A W 𝓣 E G55 G56 b33 b36 Δ0 (Typed.both s54) at44 (Plain.t-call-plain 𝓤 H A W 𝓣 12 ps·3 r·3 (claims· .6) (claims· .7) "longdust::run::both_strands" (known .3) E (λ pos β. β) G55 (record { pos = 21; st = List.[]; d = 0; at = λ x. x }, (Bool.bFld 1 ((Syntax.field 7) ∷ []) 51 λ x. LongdustOptions.struct .as-values x .1 .1 .1 .1 .1 .1 .1 .0, (record { pos = 2; ty = y19; ref = λ x. x }, (record { pos = 19; ty = y2; ref = λ x. x }, (record { pos = 20; ty = y2; ref = λ x. x }, (record { pos = 29; ty = y7; ref = λ x. x }, (record { pos = 31; ty = y9; ref = λ x. x }, (record { pos = 33; ty = y9; ref = λ x. x }, (record { pos = 35; ty = y11; ref = λ x. x }, (record { pos = 37; ty = y14; ref = λ x. x }, (record { pos = 39; ty = y16; ref = λ x. x }, (record { pos = 41; ty = y16; ref = λ x. x }, (record { pos = 43; ty = y16; ref = λ x. x }, (record { pos = 45; ty = y14; ref = λ x. x }, tt)))))))))))))) 23 (0 ∷ 1 ∷ 2 ∷ 12 ∷ 13 ∷ 14 ∷ 15 ∷ 16 ∷ 17 ∷ 18 ∷ 19 ∷ 20 ∷ []) (Call.sub-id 𝓤 H A W (G55 .slots)) ((Yields.yields-copy 𝓤 H A W (λ ρ. Unit) q6 Path'.refl (Copies.cStruct Params.the-type Laws''.the-laws Laws''.the-copy .copy 𝓤 H A W) (Rows.whole q6) (λ x. x) (λ x. x) (λ ρ told. Local.mem-whole 𝓤 H A W q6 ρ) λ ρ told. Local.whole-mem 𝓤 H A W q6 ρ, Path'.refl), ((Reads.reads-field 𝓤 H A W LongdustOptions.the-type Laws'.the-laws 7 Syntax.tyBool 51 Path'.refl, Path'.refl), (ShrSlice.spares-sslice 𝓤 H A W q1 y19 0, Shared.reads-sslice 𝓤 H A W q1 y19 0, Path'.refl, (ShrSlice.spares-sslice 𝓤 H A W q2 y2 1, Shared.reads-sslice 𝓤 H A W q2 y2 1, Path'.refl, (ShrSlice.spares-sslice 𝓤 H A W q2 y2 2, Shared.reads-sslice 𝓤 H A W q2 y2 2, Path'.refl, (Reads'.as-is 𝓤 H A (Mut.mslice q3 y7 12), Mut.reads-mslice 𝓤 H A W q3 y7 12, Path'.refl, (Reads'.as-is 𝓤 H A (Mut.mslice q4 y9 13), Mut.reads-mslice 𝓤 H A W q4 y9 13, Path'.refl, (Reads'.as-is 𝓤 H A (Mut.mslice q4 y9 14), Mut.reads-mslice 𝓤 H A W q4 y9 14, Path'.refl, (Reads'.as-is 𝓤 H A (Mut.mslice Rec·type.the-row y11 15), Mut.reads-mslice 𝓤 H A W Rec·type.the-row y11 15, Path'.refl, (Reads'.as-is 𝓤 H A (Mut.mslice q1 y14 16), Mut.reads-mslice 𝓤 H A W q1 y14 16, Path'.refl, (Reads'.as-is 𝓤 H A (Mut.mslice (Array.Array q3 2) y16 17), Mut.reads-mslice 𝓤 H A W (Array.Array q3 2) y16 17, Path'.refl, (Reads'.as-is 𝓤 H A (Mut.mslice (Array.Array q3 2) y16 18), Mut.reads-mslice 𝓤 H A W (Array.Array q3 2) y16 18, Path'.refl, (Reads'.as-is 𝓤 H A (Mut.mslice (Array.Array q3 2) y16 19), Mut.reads-mslice 𝓤 H A W (Array.Array q3 2) y16 19, Path'.refl, (Reads'.as-is 𝓤 H A (Mut.mslice q1 y14 20), Mut.reads-mslice 𝓤 H A W q1 y14 20, Path'.refl, tt)))))))))))))) (Reads'.room-gone 𝓤 H A y0) (tt, (tt, (tt, (tt, (tt, (tt, (tt, (tt, (tt, (tt, (tt, (tt, tt)))))))))))) Path'.refl) d44
+          d45 = Typed.s-seq 𝓤 H A W 𝓣 E G55 G56 b33 b36 Δ0 (Typed.both s54) at44 (Plain.t-call-plain 𝓤 H A W 𝓣 12 ps·3 r·3 (claims· .6) (claims· .7) "longdust::run::both_strands" (known .3) E (λ pos β. β) G55 (record { pos = 22; st = List.[]; d = 0; at = λ x. x }, (Bool.bFld 1 ((Syntax.field 7) ∷ []) 51 λ x. LongdustOptions.struct .as-values x .1 .1 .1 .1 .1 .1 .1 .0, (record { pos = 2; ty = y19; ref = λ x. x }, (record { pos = 19; ty = y2; ref = λ x. x }, (record { pos = 20; ty = y2; ref = λ x. x }, (record { pos = 29; ty = y7; ref = λ x. x }, (record { pos = 31; ty = y9; ref = λ x. x }, (record { pos = 33; ty = y9; ref = λ x. x }, (record { pos = 35; ty = y11; ref = λ x. x }, (record { pos = 37; ty = y14; ref = λ x. x }, (record { pos = 39; ty = y16; ref = λ x. x }, (record { pos = 41; ty = y16; ref = λ x. x }, (record { pos = 43; ty = y16; ref = λ x. x }, (record { pos = 45; ty = y14; ref = λ x. x }, tt)))))))))))))) 23 (0 ∷ 1 ∷ 2 ∷ 12 ∷ 13 ∷ 14 ∷ 15 ∷ 16 ∷ 17 ∷ 18 ∷ 19 ∷ 20 ∷ []) (Call.sub-id 𝓤 H A W (G55 .slots)) ((Yields.yields-copy 𝓤 H A W (λ ρ. Unit) q6 Path'.refl (Copies.cStruct Params.the-type Laws''.the-laws Laws''.the-copy .copy 𝓤 H A W) (Rows.whole q6) (λ x. x) (λ x. x) (λ ρ told. Local.mem-whole 𝓤 H A W q6 ρ) λ ρ told. Local.whole-mem 𝓤 H A W q6 ρ, Path'.refl), ((Reads.reads-field 𝓤 H A W LongdustOptions.the-type Laws'.the-laws 7 Syntax.tyBool 51 Path'.refl, Path'.refl), (ShrSlice.spares-sslice 𝓤 H A W q1 y19 0, Shared.reads-sslice 𝓤 H A W q1 y19 0, Path'.refl, (ShrSlice.spares-sslice 𝓤 H A W q2 y2 1, Shared.reads-sslice 𝓤 H A W q2 y2 1, Path'.refl, (ShrSlice.spares-sslice 𝓤 H A W q2 y2 2, Shared.reads-sslice 𝓤 H A W q2 y2 2, Path'.refl, (Reads'.as-is 𝓤 H A (Mut.mslice q3 y7 12), Mut.reads-mslice 𝓤 H A W q3 y7 12, Path'.refl, (Reads'.as-is 𝓤 H A (Mut.mslice q4 y9 13), Mut.reads-mslice 𝓤 H A W q4 y9 13, Path'.refl, (Reads'.as-is 𝓤 H A (Mut.mslice q4 y9 14), Mut.reads-mslice 𝓤 H A W q4 y9 14, Path'.refl, (Reads'.as-is 𝓤 H A (Mut.mslice Rec·type.the-row y11 15), Mut.reads-mslice 𝓤 H A W Rec·type.the-row y11 15, Path'.refl, (Reads'.as-is 𝓤 H A (Mut.mslice q1 y14 16), Mut.reads-mslice 𝓤 H A W q1 y14 16, Path'.refl, (Reads'.as-is 𝓤 H A (Mut.mslice (Array.Array q3 2) y16 17), Mut.reads-mslice 𝓤 H A W (Array.Array q3 2) y16 17, Path'.refl, (Reads'.as-is 𝓤 H A (Mut.mslice (Array.Array q3 2) y16 18), Mut.reads-mslice 𝓤 H A W (Array.Array q3 2) y16 18, Path'.refl, (Reads'.as-is 𝓤 H A (Mut.mslice (Array.Array q3 2) y16 19), Mut.reads-mslice 𝓤 H A W (Array.Array q3 2) y16 19, Path'.refl, (Reads'.as-is 𝓤 H A (Mut.mslice q1 y14 20), Mut.reads-mslice 𝓤 H A W q1 y14 20, Path'.refl, tt)))))))))))))) (Reads'.room-gone 𝓤 H A y0) (tt, (tt, (tt, (tt, (tt, (tt, (tt, (tt, (tt, (tt, (tt, (tt, tt)))))))))))) Path'.refl) d44
 
           d46 : Typed.Typed 𝓤 H A 𝓣 E G54 b38 Δ0 at46
           d46 = Typed.s-seq 𝓤 H A W 𝓣 E G54 G55 b32 b37 Δ0 (Typed.ask s53) at45 (Relend.t-sl-aggregate 𝓤 H A W E q1 𝓣 (Relend.asMut q1) G54 44 45 20 y14 y14 (λ x. x) (Scalar.oAt 18 y0 (Row.valS z0)) (Reads'.as-is 𝓤 H A (Relend.msptr q1 y14 20)) (Reads'.room-gone 𝓤 H A y15) (Scalar.reads-sc 𝓤 H A W z0, Path'.refl) Path'.refl Path'.refl λ b o k. tt) d45
@@ -2793,10 +2793,10 @@ module _ (claims· : Claims) where
           d72 = Typed.g-pre 𝓤 H A W 𝓣 E G28 G29 b55 Δ0 (λ Ψ. Ψ) at71 (Lifetime.g-begin 𝓤 H A W E G28 12 (tt, (tt, (tt, (tt, (tt, (tt, (tt, (tt, (tt, (tt, (tt, (tt, (tt, (tt, (tt, (tt, (tt, (tt, (tt, (tt, (tt, (tt, (tt, (tt, (tt, (tt, (tt, (tt, (tt, (tt, (tt, (tt, (tt, (tt, (tt, (tt, (tt, (tt, (tt, (tt, (tt, (tt, (tt, (tt, (tt, (tt, tt))))))))))))))))))))))))))))))))))))))))))))))) d71
 
           d73 : Typed.Typed 𝓤 H A 𝓣 E G27 b56 Δ0 at73
-          d73 = Typed.s-seq 𝓤 H A W 𝓣 E G27 G28 b14 b55 Δ0 (Typed.both s26) at72 (Plain.t-call-plain 𝓤 H A W 𝓣 2 ps·2 r·2 (claims· .4) (claims· .5) "longdust::run::in_range" (known .2) E (λ pos β. β) G27 (record { pos = 21; st = List.[]; d = 0; at = λ x. x }, (record { pos = 19; ty = y2; ref = λ x. x }, (record { pos = 20; ty = y2; ref = λ x. x }, tt))) 22 (1 ∷ 2 ∷ []) (Call.sub-id 𝓤 H A W (G27 .slots)) ((Yields.yields-copy 𝓤 H A W (λ ρ. Unit) q6 Path'.refl (Copies.cStruct Params.the-type Laws''.the-laws Laws''.the-copy .copy 𝓤 H A W) (Rows.whole q6) (λ x. x) (λ x. x) (λ ρ told. Local.mem-whole 𝓤 H A W q6 ρ) λ ρ told. Local.whole-mem 𝓤 H A W q6 ρ, Path'.refl), (ShrSlice.spares-sslice 𝓤 H A W q2 y2 1, Shared.reads-sslice 𝓤 H A W q2 y2 1, Path'.refl, (ShrSlice.spares-sslice 𝓤 H A W q2 y2 2, Shared.reads-sslice 𝓤 H A W q2 y2 2, Path'.refl, tt))) (Reads'.room-gone 𝓤 H A Syntax.tyBool) (tt, (tt, tt)) Path'.refl) d72
+          d73 = Typed.s-seq 𝓤 H A W 𝓣 E G27 G28 b14 b55 Δ0 (Typed.both s26) at72 (Plain.t-call-plain 𝓤 H A W 𝓣 2 ps·2 r·2 (claims· .4) (claims· .5) "longdust::run::prepare" (known .2) E (λ pos β. β) G27 (record { pos = 1; st = List.[]; d = 0; at = λ x. x }, (Bool.bAt 21 λ x. x, (Num.vAt 14 λ x. x, (record { pos = 19; ty = y2; ref = λ x. x }, (record { pos = 20; ty = y2; ref = λ x. x }, tt))))) 22 (1 ∷ 2 ∷ []) (Call.sub-id 𝓤 H A W (G27 .slots)) ((Yields.yields-copy 𝓤 H A W (λ ρ. Unit) q0 Path'.refl (Copies.cStruct LongdustOptions.the-type Laws'.the-laws Laws'.the-copy .copy 𝓤 H A W) (Rows.whole q0) (λ x. x) (λ x. x) (λ ρ told. Local.mem-whole 𝓤 H A W q0 ρ) λ ρ told. Local.whole-mem 𝓤 H A W q0 ρ, Path'.refl), ((Scalar.reads-sc 𝓤 H A W Row.sBool, Path'.refl), ((Scalar.reads-sc 𝓤 H A W z0, Path'.refl), (ShrSlice.spares-sslice 𝓤 H A W q2 y2 1, Shared.reads-sslice 𝓤 H A W q2 y2 1, Path'.refl, (ShrSlice.spares-sslice 𝓤 H A W q2 y2 2, Shared.reads-sslice 𝓤 H A W q2 y2 2, Path'.refl, tt))))) (Reads'.room-gone 𝓤 H A y6) (tt, (tt, tt)) Path'.refl) d72
 
           d74 : Typed.Typed 𝓤 H A 𝓣 E G26 b57 Δ0 at74
-          d74 = Typed.s-seq 𝓤 H A W 𝓣 E G26 G27 b13 b56 Δ0 (Typed.both s25) at73 (Plain.t-call-plain 𝓤 H A W 𝓣 2 ps·1 r·1 (claims· .2) (claims· .3) "longdust::run::prepare" (known .1) E (λ pos β. β) G26 (record { pos = 1; st = List.[]; d = 0; at = λ x. x }, (record { pos = 19; ty = y2; ref = λ x. x }, (record { pos = 20; ty = y2; ref = λ x. x }, tt))) 21 (1 ∷ 2 ∷ []) (Call.sub-id 𝓤 H A W (G26 .slots)) ((Yields.yields-copy 𝓤 H A W (λ ρ. Unit) q0 Path'.refl (Copies.cStruct LongdustOptions.the-type Laws'.the-laws Laws'.the-copy .copy 𝓤 H A W) (Rows.whole q0) (λ x. x) (λ x. x) (λ ρ told. Local.mem-whole 𝓤 H A W q0 ρ) λ ρ told. Local.whole-mem 𝓤 H A W q0 ρ, Path'.refl), (ShrSlice.spares-sslice 𝓤 H A W q2 y2 1, Shared.reads-sslice 𝓤 H A W q2 y2 1, Path'.refl, (ShrSlice.spares-sslice 𝓤 H A W q2 y2 2, Shared.reads-sslice 𝓤 H A W q2 y2 2, Path'.refl, tt))) (Reads'.room-gone 𝓤 H A y6) (tt, (tt, tt)) Path'.refl) d73
+          d74 = Typed.s-seq 𝓤 H A W 𝓣 E G26 G27 b13 b56 Δ0 (Typed.both s25) at73 (Plain.t-call-plain 𝓤 H A W 𝓣 2 ps·1 r·1 (claims· .2) (claims· .3) "longdust::run::in_range" (known .1) E (λ pos β. β) G26 (record { pos = 1; st = List.[]; d = 0; at = λ x. x }, (record { pos = 19; ty = y2; ref = λ x. x }, (record { pos = 20; ty = y2; ref = λ x. x }, tt))) 21 (1 ∷ 2 ∷ []) (Call.sub-id 𝓤 H A W (G26 .slots)) ((Yields.yields-copy 𝓤 H A W (λ ρ. Unit) q0 Path'.refl (Copies.cStruct LongdustOptions.the-type Laws'.the-laws Laws'.the-copy .copy 𝓤 H A W) (Rows.whole q0) (λ x. x) (λ x. x) (λ ρ told. Local.mem-whole 𝓤 H A W q0 ρ) λ ρ told. Local.whole-mem 𝓤 H A W q0 ρ, Path'.refl), (ShrSlice.spares-sslice 𝓤 H A W q2 y2 1, Shared.reads-sslice 𝓤 H A W q2 y2 1, Path'.refl, (ShrSlice.spares-sslice 𝓤 H A W q2 y2 2, Shared.reads-sslice 𝓤 H A W q2 y2 2, Path'.refl, tt))) (Reads'.room-gone 𝓤 H A Syntax.tyBool) (tt, (tt, tt)) Path'.refl) d73
 
           d75 : Typed.Typed 𝓤 H A 𝓣 E G25 b57 Δ0 at75
           d75 = Typed.g-pre 𝓤 H A W 𝓣 E G25 G26 b57 Δ0 (Typed.pass T25 T26 s24) at74 (Scalar.g-room 𝓤 H A W E G25 25 y0 (Scalar.room-sc 𝓤 H A W z0)) d74
@@ -3221,8 +3221,8 @@ module _ (claims· : Claims) where
           Typed.Mo T26
       m25 = λ before given. s24 (m24 before given)
 
-      abbrev pub Need-prepare-requires : Type 0
-      Need-prepare-requires = (c : After-f) → s25 .asks (m25 (c .before) (c .f .given))
+      abbrev pub Need-in-range-requires : Type 0
+      Need-in-range-requires = (c : After-f) → s25 .asks (m25 (c .before) (c .f .given))
 
       abbrev pub m26 :
           (before : After-f) →
@@ -3231,62 +3231,62 @@ module _ (claims· : Claims) where
       m26 = λ before given. s25 .next (m25 (before .before) (before .f .given)) given
 
       module _ (before· : After-f) where
-        abbrev pub After-prepare·own : Type 0
-        After-prepare·own = Called.Called ps·1 r·1 (claims· .3) T26 (record { pos = 1; st = List.[]; d = 0; at = λ x. x }, (record { pos = 19; ty = y2; ref = λ x. x }, (record { pos = 20; ty = y2; ref = λ x. x }, tt))) (m25 (before· .before) (before· .f .given))
-
-      pub record After-prepare : Type 0 where
-        pub before : After-f
-        pub prepare : After-prepare·own before
-
-      abbrev pub After-prepare·gave :
-          (c : After-prepare) → s25 .gives (m25 (c .before .before) (c .before .f .given))
-      After-prepare·gave = λ c. Called.given ps·1 r·1 (claims· .3) T26 (record { pos = 1; st = List.[]; d = 0; at = λ x. x }, (record { pos = 19; ty = y2; ref = λ x. x }, (record { pos = 20; ty = y2; ref = λ x. x }, tt))) (m25 (c .before .before) (c .before .f .given)) (c .prepare)
-
-      abbrev pub Need-in-range-requires : Type 0
-      Need-in-range-requires = (c : After-prepare) → s26 .asks (m26 (c .before) (After-prepare·gave c))
-
-      abbrev pub m27 :
-          (before : After-prepare) →
-          (given : s26 .gives (m26 (before .before) (After-prepare·gave before))) →
-          Typed.Mo T28
-      m27 = λ before given. s26 .next (m26 (before .before) (After-prepare·gave before)) given
-
-      module _ (before· : After-prepare) where
         abbrev pub After-in-range·own : Type 0
-        After-in-range·own = Called.Called ps·2 r·2 (claims· .5) T27 (record { pos = 21; st = List.[]; d = 0; at = λ x. x }, (record { pos = 19; ty = y2; ref = λ x. x }, (record { pos = 20; ty = y2; ref = λ x. x }, tt))) (m26 (before· .before) (After-prepare·gave before·))
+        After-in-range·own = Called.Called ps·1 r·1 (claims· .3) T26 (record { pos = 1; st = List.[]; d = 0; at = λ x. x }, (record { pos = 19; ty = y2; ref = λ x. x }, (record { pos = 20; ty = y2; ref = λ x. x }, tt))) (m25 (before· .before) (before· .f .given))
 
       pub record After-in-range : Type 0 where
-        pub before : After-prepare
+        pub before : After-f
         pub in-range : After-in-range·own before
 
       abbrev pub After-in-range·gave :
-          (c : After-in-range) →
-          s26 .gives (m26 (c .before .before) (After-prepare·gave (c .before)))
-      After-in-range·gave = λ c. Called.given ps·2 r·2 (claims· .5) T27 (record { pos = 21; st = List.[]; d = 0; at = λ x. x }, (record { pos = 19; ty = y2; ref = λ x. x }, (record { pos = 20; ty = y2; ref = λ x. x }, tt))) (m26 (c .before .before) (After-prepare·gave (c .before))) (c .in-range)
+          (c : After-in-range) → s25 .gives (m25 (c .before .before) (c .before .f .given))
+      After-in-range·gave = λ c. Called.given ps·1 r·1 (claims· .3) T26 (record { pos = 1; st = List.[]; d = 0; at = λ x. x }, (record { pos = 19; ty = y2; ref = λ x. x }, (record { pos = 20; ty = y2; ref = λ x. x }, tt))) (m25 (c .before .before) (c .before .f .given)) (c .in-range)
 
-      abbrev pub Need-slice-relend-prefix-both-strands : Type 0
-      Need-slice-relend-prefix-both-strands = (c : After-in-range) → s28 .asks (m27 (c .before) (After-in-range·gave c))
+      abbrev pub Need-prepare-requires : Type 0
+      Need-prepare-requires = (c : After-in-range) → s26 .asks (m26 (c .before) (After-in-range·gave c))
 
-      abbrev pub m28 :
+      abbrev pub m27 :
           (before : After-in-range) →
-          (given : s28 .gives (m27 (before .before) (After-in-range·gave before))) →
-          Typed.Mo T30
-      m28 = λ before given. s28 .next (m27 (before .before) (After-in-range·gave before)) given
+          (given : s26 .gives (m26 (before .before) (After-in-range·gave before))) →
+          Typed.Mo T28
+      m27 = λ before given. s26 .next (m26 (before .before) (After-in-range·gave before)) given
 
       module _ (before· : After-in-range) where
+        abbrev pub After-prepare·own : Type 0
+        After-prepare·own = Called.Called ps·2 r·2 (claims· .5) T27 (record { pos = 1; st = List.[]; d = 0; at = λ x. x }, (Bool.bAt 21 λ x. x, (Num.vAt 14 λ x. x, (record { pos = 19; ty = y2; ref = λ x. x }, (record { pos = 20; ty = y2; ref = λ x. x }, tt))))) (m26 (before· .before) (After-in-range·gave before·))
+
+      pub record After-prepare : Type 0 where
+        pub before : After-in-range
+        pub prepare : After-prepare·own before
+
+      abbrev pub After-prepare·gave :
+          (c : After-prepare) →
+          s26 .gives (m26 (c .before .before) (After-in-range·gave (c .before)))
+      After-prepare·gave = λ c. Called.given ps·2 r·2 (claims· .5) T27 (record { pos = 1; st = List.[]; d = 0; at = λ x. x }, (Bool.bAt 21 λ x. x, (Num.vAt 14 λ x. x, (record { pos = 19; ty = y2; ref = λ x. x }, (record { pos = 20; ty = y2; ref = λ x. x }, tt))))) (m26 (c .before .before) (After-in-range·gave (c .before))) (c .prepare)
+
+      abbrev pub Need-slice-relend-prefix-both-strands : Type 0
+      Need-slice-relend-prefix-both-strands = (c : After-prepare) → s28 .asks (m27 (c .before) (After-prepare·gave c))
+
+      abbrev pub m28 :
+          (before : After-prepare) →
+          (given : s28 .gives (m27 (before .before) (After-prepare·gave before))) →
+          Typed.Mo T30
+      m28 = λ before given. s28 .next (m27 (before .before) (After-prepare·gave before)) given
+
+      module _ (before· : After-prepare) where
         pub record After-both-strands-arg·own : Type 0 where
-          pub given : s28 .gives (m27 (before· .before) (After-in-range·gave before·))
+          pub given : s28 .gives (m27 (before· .before) (After-prepare·gave before·))
 
       pub record After-both-strands-arg : Type 0 where
-        pub before : After-in-range
+        pub before : After-prepare
         pub both-strands-arg : After-both-strands-arg·own before
 
       abbrev pub Need-slice-aggregate-both-strands : Type 0
       Need-slice-aggregate-both-strands = (c : After-both-strands-arg) → Relend.CountIs T30 28 29 (λ x. x) (λ u. u .1 .1 .1 .1 .1 .1 .1 .1 .1 .1 .1 .1 .1 .1 .1 .1 .0) (m28 (c .before) (c .both-strands-arg .given))
 
       abbrev pub m29 :
-          (before : After-in-range) →
-          (given : s28 .gives (m27 (before .before) (After-in-range·gave before))) →
+          (before : After-prepare) →
+          (given : s28 .gives (m27 (before .before) (After-prepare·gave before))) →
           Typed.Mo T31
       m29 = λ before given. s29 .next (m28 before given)
 
@@ -3509,7 +3509,7 @@ module _ (claims· : Claims) where
 
       module _ (before· : After-both-strands-arg9) where
         abbrev pub After-both-strands·own : Type 0
-        After-both-strands·own = Called.Called ps·3 r·3 (claims· .7) T55 (record { pos = 21; st = List.[]; d = 0; at = λ x. x }, (Bool.bFld 1 ((Syntax.field 7) ∷ []) 51 λ x. LongdustOptions.struct .as-values x .1 .1 .1 .1 .1 .1 .1 .0, (record { pos = 2; ty = y19; ref = λ x. x }, (record { pos = 19; ty = y2; ref = λ x. x }, (record { pos = 20; ty = y2; ref = λ x. x }, (record { pos = 29; ty = y7; ref = λ x. x }, (record { pos = 31; ty = y9; ref = λ x. x }, (record { pos = 33; ty = y9; ref = λ x. x }, (record { pos = 35; ty = y11; ref = λ x. x }, (record { pos = 37; ty = y14; ref = λ x. x }, (record { pos = 39; ty = y16; ref = λ x. x }, (record { pos = 41; ty = y16; ref = λ x. x }, (record { pos = 43; ty = y16; ref = λ x. x }, (record { pos = 45; ty = y14; ref = λ x. x }, tt)))))))))))))) (m45 (before· .before) (before· .both-strands-arg9 .given))
+        After-both-strands·own = Called.Called ps·3 r·3 (claims· .7) T55 (record { pos = 22; st = List.[]; d = 0; at = λ x. x }, (Bool.bFld 1 ((Syntax.field 7) ∷ []) 51 λ x. LongdustOptions.struct .as-values x .1 .1 .1 .1 .1 .1 .1 .0, (record { pos = 2; ty = y19; ref = λ x. x }, (record { pos = 19; ty = y2; ref = λ x. x }, (record { pos = 20; ty = y2; ref = λ x. x }, (record { pos = 29; ty = y7; ref = λ x. x }, (record { pos = 31; ty = y9; ref = λ x. x }, (record { pos = 33; ty = y9; ref = λ x. x }, (record { pos = 35; ty = y11; ref = λ x. x }, (record { pos = 37; ty = y14; ref = λ x. x }, (record { pos = 39; ty = y16; ref = λ x. x }, (record { pos = 41; ty = y16; ref = λ x. x }, (record { pos = 43; ty = y16; ref = λ x. x }, (record { pos = 45; ty = y14; ref = λ x. x }, tt)))))))))))))) (m45 (before· .before) (before· .both-strands-arg9 .given))
 
       pub record After-both-strands : Type 0 where
         pub before : After-both-strands-arg9
@@ -3518,7 +3518,7 @@ module _ (claims· : Claims) where
       abbrev pub After-both-strands·gave :
           (c : After-both-strands) →
           s54 .gives (m45 (c .before .before) (c .before .both-strands-arg9 .given))
-      After-both-strands·gave = λ c. Called.given ps·3 r·3 (claims· .7) T55 (record { pos = 21; st = List.[]; d = 0; at = λ x. x }, (Bool.bFld 1 ((Syntax.field 7) ∷ []) 51 λ x. LongdustOptions.struct .as-values x .1 .1 .1 .1 .1 .1 .1 .0, (record { pos = 2; ty = y19; ref = λ x. x }, (record { pos = 19; ty = y2; ref = λ x. x }, (record { pos = 20; ty = y2; ref = λ x. x }, (record { pos = 29; ty = y7; ref = λ x. x }, (record { pos = 31; ty = y9; ref = λ x. x }, (record { pos = 33; ty = y9; ref = λ x. x }, (record { pos = 35; ty = y11; ref = λ x. x }, (record { pos = 37; ty = y14; ref = λ x. x }, (record { pos = 39; ty = y16; ref = λ x. x }, (record { pos = 41; ty = y16; ref = λ x. x }, (record { pos = 43; ty = y16; ref = λ x. x }, (record { pos = 45; ty = y14; ref = λ x. x }, tt)))))))))))))) (m45 (c .before .before) (c .before .both-strands-arg9 .given)) (c .both-strands)
+      After-both-strands·gave = λ c. Called.given ps·3 r·3 (claims· .7) T55 (record { pos = 22; st = List.[]; d = 0; at = λ x. x }, (Bool.bFld 1 ((Syntax.field 7) ∷ []) 51 λ x. LongdustOptions.struct .as-values x .1 .1 .1 .1 .1 .1 .1 .0, (record { pos = 2; ty = y19; ref = λ x. x }, (record { pos = 19; ty = y2; ref = λ x. x }, (record { pos = 20; ty = y2; ref = λ x. x }, (record { pos = 29; ty = y7; ref = λ x. x }, (record { pos = 31; ty = y9; ref = λ x. x }, (record { pos = 33; ty = y9; ref = λ x. x }, (record { pos = 35; ty = y11; ref = λ x. x }, (record { pos = 37; ty = y14; ref = λ x. x }, (record { pos = 39; ty = y16; ref = λ x. x }, (record { pos = 41; ty = y16; ref = λ x. x }, (record { pos = 43; ty = y16; ref = λ x. x }, (record { pos = 45; ty = y14; ref = λ x. x }, tt)))))))))))))) (m45 (c .before .before) (c .before .both-strands-arg9 .given)) (c .both-strands)
 
       abbrev pub m47 :
           (before : After-both-strands-arg9) →
@@ -3751,7 +3751,7 @@ module _ (claims· : Claims) where
 
       module _ (before· : After-slice-known10) where
         abbrev pub After-accepted·own : Type 0
-        After-accepted·own = Called.Called ps·4 r·4 (claims· .9) T91 (Num.vAt 23 λ x. x, (Bool.bAt 22 λ x. x, tt)) (m64 (before· .before) (before· .slice-known10 .given))
+        After-accepted·own = Called.Called ps·4 r·4 (claims· .9) T91 (Num.vAt 23 λ x. x, (Bool.bAt 21 λ x. x, tt)) (m64 (before· .before) (before· .slice-known10 .given))
 
       pub record After-accepted : Type 0 where
         pub before : After-slice-known10
@@ -3760,7 +3760,7 @@ module _ (claims· : Claims) where
       abbrev pub After-accepted·gave :
           (c : After-accepted) →
           s91 .gives (m64 (c .before .before) (c .before .slice-known10 .given))
-      After-accepted·gave = λ c. Called.given ps·4 r·4 (claims· .9) T91 (Num.vAt 23 λ x. x, (Bool.bAt 22 λ x. x, tt)) (m64 (c .before .before) (c .before .slice-known10 .given)) (c .accepted)
+      After-accepted·gave = λ c. Called.given ps·4 r·4 (claims· .9) T91 (Num.vAt 23 λ x. x, (Bool.bAt 21 λ x. x, tt)) (m64 (c .before .before) (c .before .slice-known10 .given)) (c .accepted)
 
       abbrev pub m66 :
           (before : After-slice-known10) →
@@ -3837,8 +3837,8 @@ module _ (claims· : Claims) where
       module _ (n-kmers-requires : Need-n-kmers-requires) (add-rows : Need-add-rows)
           (add-rows-2 : Need-add-rows-2) (div-rows : Need-div-rows) (add-ln : Need-add-ln)
           (slice-aggregate-ln : Need-slice-aggregate-ln) (add-f : Need-add-f)
-          (slice-aggregate-f : Need-slice-aggregate-f) (prepare-requires : Need-prepare-requires)
-          (in-range-requires : Need-in-range-requires)
+          (slice-aggregate-f : Need-slice-aggregate-f) (in-range-requires : Need-in-range-requires)
+          (prepare-requires : Need-prepare-requires)
           (slice-relend-prefix-both-strands : Need-slice-relend-prefix-both-strands)
           (slice-aggregate-both-strands : Need-slice-aggregate-both-strands)
           (slice-relend-prefix-both-strands-2 : Need-slice-relend-prefix-both-strands-2)
@@ -3887,7 +3887,7 @@ module _ (claims· : Claims) where
             .before .before .before .before .before .before .before .before .before .before .before
             .before .before .before .before .before .before .before .before .before .before .before
             .before .before .before .args)) (m62 (c .before) (c .list .given))
-        lay5 = λ c. (Path'.refl, λ g. λ g'. (accepted-requires record { before = record { before = record { before = c .before; list = c .list }; marks = record { given = g } }; slice-known10 = record { given = g' } }, λ g''. lay6 record { before = record { before = record { before = record { before = c .before; list = c .list }; marks = record { given = g } }; slice-known10 = record { given = g' } }; accepted = Called.called ps·4 r·4 (claims· .9) T91 (Num.vAt 23 λ x. x, (Bool.bAt 22 λ x. x, tt)) (m64 record { before = record { before = c .before; list = c .list }; marks = record { given = g } } g') g'' }))
+        lay5 = λ c. (Path'.refl, λ g. λ g'. (accepted-requires record { before = record { before = record { before = c .before; list = c .list }; marks = record { given = g } }; slice-known10 = record { given = g' } }, λ g''. lay6 record { before = record { before = record { before = record { before = c .before; list = c .list }; marks = record { given = g } }; slice-known10 = record { given = g' } }; accepted = Called.called ps·4 r·4 (claims· .9) T91 (Num.vAt 23 λ x. x, (Bool.bAt 21 λ x. x, tt)) (m64 record { before = record { before = c .before; list = c .list }; marks = record { given = g } } g') g'' }))
 
         lay4 :
             (c : After-both-strands) → at44 (W0
@@ -3900,20 +3900,20 @@ module _ (claims· : Claims) where
         lay4 = λ c. (Path'.refl, λ g. λ g'. (Path'.refl, λ g''. λ g'3. (Path'.refl, λ g'4. λ g'5. (Path'.refl, λ g'6. (Path'.refl, λ g'7. λ g'8. (Path'.refl, λ g'9. (Path'.refl, λ g'10. (Path'.refl, λ g'11. lay5 record { before = record { before = record { before = record { before = record { before = record { before = record { before = record { before = record { before = record { before = record { before = record { before = record { before = c .before; both-strands = c .both-strands }; queue = record { given = g } }; slice-known6 = record { given = g' } }; window-counts = record { given = g'' } }; slice-known7 = record { given = g'3 } }; scan-counts = record { given = g'4 } }; slice-known8 = record { given = g'5 } }; candidates = record { given = g'6 } }; reverse-codes = record { given = g'7 } }; slice-known9 = record { given = g'8 } }; forward-list = record { given = g'9 } }; reverse-list = record { given = g'10 } }; list = record { given = g'11 } }))))))))
 
         lay3 :
-            (c : After-in-range) → at72 (W0
+            (c : After-prepare) → at72 (W0
             (c .before .before .before .before .before .before .before .before .before .before
             .before .before .before .κs)
             (c .before .before .before .before .before .before .before .before .before .before
-            .before .before .before .args)) (m27 (c .before) (After-in-range·gave c))
-        lay3 = λ c. (slice-relend-prefix-both-strands record { before = c .before; in-range = c .in-range }, λ g. (Relend.count-is T30 28 29 (λ x. x) (λ u. u .1 .1 .1 .1 .1 .1 .1 .1 .1 .1 .1 .1 .1 .1 .1 .1 .0) (m28 record { before = c .before; in-range = c .in-range } g) (slice-aggregate-both-strands record { before = record { before = c .before; in-range = c .in-range }; both-strands-arg = record { given = g } }), (slice-relend-prefix-both-strands-2 record { before = record { before = c .before; in-range = c .in-range }; both-strands-arg = record { given = g } }, λ g'. (Relend.count-is T33 30 31 (λ x. x) (λ u. u .1 .1 .1 .1 .1 .1 .1 .1 .1 .1 .1 .1 .1 .1 .1 .1 .1 .0) (m30 record { before = record { before = c .before; in-range = c .in-range }; both-strands-arg = record { given = g } } g') (slice-aggregate-both-strands-2 record { before = record { before = record { before = c .before; in-range = c .in-range }; both-strands-arg = record { given = g } }; both-strands-arg2 = record { given = g' } }), (slice-relend-prefix-both-strands-3 record { before = record { before = record { before = c .before; in-range = c .in-range }; both-strands-arg = record { given = g } }; both-strands-arg2 = record { given = g' } }, λ g''. (Relend.count-is T36 32 33 (λ x. x) (λ u. u .1 .1 .1 .1 .1 .1 .1 .1 .1 .1 .1 .1 .1 .1 .1 .1 .1 .0) (m32 record { before = record { before = record { before = c .before; in-range = c .in-range }; both-strands-arg = record { given = g } }; both-strands-arg2 = record { given = g' } } g'') (slice-aggregate-both-strands-3 record { before = record { before = record { before = record { before = c .before; in-range = c .in-range }; both-strands-arg = record { given = g } }; both-strands-arg2 = record { given = g' } }; both-strands-arg3 = record { given = g'' } }), (slice-relend-prefix-both-strands-4 record { before = record { before = record { before = record { before = c .before; in-range = c .in-range }; both-strands-arg = record { given = g } }; both-strands-arg2 = record { given = g' } }; both-strands-arg3 = record { given = g'' } }, λ g'3. (Relend.count-is T39 34 35 (λ x. x) (λ u. u .1 .1 .1 .1 .1 .1 .1 .1 .1 .1 .1 .1 .1 .1 .1 .1 .0) (m34 record { before = record { before = record { before = record { before = c .before; in-range = c .in-range }; both-strands-arg = record { given = g } }; both-strands-arg2 = record { given = g' } }; both-strands-arg3 = record { given = g'' } } g'3) (slice-aggregate-both-strands-4 record { before = record { before = record { before = record { before = record { before = c .before; in-range = c .in-range }; both-strands-arg = record { given = g } }; both-strands-arg2 = record { given = g' } }; both-strands-arg3 = record { given = g'' } }; both-strands-arg4 = record { given = g'3 } }), (slice-relend-prefix-both-strands-5 record { before = record { before = record { before = record { before = record { before = c .before; in-range = c .in-range }; both-strands-arg = record { given = g } }; both-strands-arg2 = record { given = g' } }; both-strands-arg3 = record { given = g'' } }; both-strands-arg4 = record { given = g'3 } }, λ g'4. (Relend.count-is T42 36 37 (λ x. x) (λ u. u .1 .1 .1 .1 .1 .1 .1 .1 .1 .1 .1 .1 .1 .1 .0) (m36 record { before = record { before = record { before = record { before = record { before = c .before; in-range = c .in-range }; both-strands-arg = record { given = g } }; both-strands-arg2 = record { given = g' } }; both-strands-arg3 = record { given = g'' } }; both-strands-arg4 = record { given = g'3 } } g'4) (slice-aggregate-both-strands-5 record { before = record { before = record { before = record { before = record { before = record { before = c .before; in-range = c .in-range }; both-strands-arg = record { given = g } }; both-strands-arg2 = record { given = g' } }; both-strands-arg3 = record { given = g'' } }; both-strands-arg4 = record { given = g'3 } }; both-strands-arg5 = record { given = g'4 } }), (slice-relend-prefix-both-strands-6 record { before = record { before = record { before = record { before = record { before = record { before = c .before; in-range = c .in-range }; both-strands-arg = record { given = g } }; both-strands-arg2 = record { given = g' } }; both-strands-arg3 = record { given = g'' } }; both-strands-arg4 = record { given = g'3 } }; both-strands-arg5 = record { given = g'4 } }, λ g'5. (Relend.count-is T45 38 39 (λ x. x) (λ u. u .1 .1 .1 .1 .1 .1 .1 .1 .1 .1 .1 .1 .1 .1 .1 .1 .1 .1 .0) (m38 record { before = record { before = record { before = record { before = record { before = record { before = c .before; in-range = c .in-range }; both-strands-arg = record { given = g } }; both-strands-arg2 = record { given = g' } }; both-strands-arg3 = record { given = g'' } }; both-strands-arg4 = record { given = g'3 } }; both-strands-arg5 = record { given = g'4 } } g'5) (slice-aggregate-both-strands-6 record { before = record { before = record { before = record { before = record { before = record { before = record { before = c .before; in-range = c .in-range }; both-strands-arg = record { given = g } }; both-strands-arg2 = record { given = g' } }; both-strands-arg3 = record { given = g'' } }; both-strands-arg4 = record { given = g'3 } }; both-strands-arg5 = record { given = g'4 } }; both-strands-arg6 = record { given = g'5 } }), (slice-relend-prefix-both-strands-7 record { before = record { before = record { before = record { before = record { before = record { before = record { before = c .before; in-range = c .in-range }; both-strands-arg = record { given = g } }; both-strands-arg2 = record { given = g' } }; both-strands-arg3 = record { given = g'' } }; both-strands-arg4 = record { given = g'3 } }; both-strands-arg5 = record { given = g'4 } }; both-strands-arg6 = record { given = g'5 } }, λ g'6. (Relend.count-is T48 40 41 (λ x. x) (λ u. u .1 .1 .1 .1 .1 .1 .1 .1 .1 .1 .1 .1 .1 .1 .1 .1 .1 .1 .0) (m40 record { before = record { before = record { before = record { before = record { before = record { before = record { before = c .before; in-range = c .in-range }; both-strands-arg = record { given = g } }; both-strands-arg2 = record { given = g' } }; both-strands-arg3 = record { given = g'' } }; both-strands-arg4 = record { given = g'3 } }; both-strands-arg5 = record { given = g'4 } }; both-strands-arg6 = record { given = g'5 } } g'6) (slice-aggregate-both-strands-7 record { before = record { before = record { before = record { before = record { before = record { before = record { before = record { before = c .before; in-range = c .in-range }; both-strands-arg = record { given = g } }; both-strands-arg2 = record { given = g' } }; both-strands-arg3 = record { given = g'' } }; both-strands-arg4 = record { given = g'3 } }; both-strands-arg5 = record { given = g'4 } }; both-strands-arg6 = record { given = g'5 } }; both-strands-arg7 = record { given = g'6 } }), (slice-relend-prefix-both-strands-8 record { before = record { before = record { before = record { before = record { before = record { before = record { before = record { before = c .before; in-range = c .in-range }; both-strands-arg = record { given = g } }; both-strands-arg2 = record { given = g' } }; both-strands-arg3 = record { given = g'' } }; both-strands-arg4 = record { given = g'3 } }; both-strands-arg5 = record { given = g'4 } }; both-strands-arg6 = record { given = g'5 } }; both-strands-arg7 = record { given = g'6 } }, λ g'7. (Relend.count-is T51 42 43 (λ x. x) (λ u. u .1 .1 .1 .1 .1 .1 .1 .1 .1 .1 .1 .1 .1 .1 .1 .1 .1 .1 .0) (m42 record { before = record { before = record { before = record { before = record { before = record { before = record { before = record { before = c .before; in-range = c .in-range }; both-strands-arg = record { given = g } }; both-strands-arg2 = record { given = g' } }; both-strands-arg3 = record { given = g'' } }; both-strands-arg4 = record { given = g'3 } }; both-strands-arg5 = record { given = g'4 } }; both-strands-arg6 = record { given = g'5 } }; both-strands-arg7 = record { given = g'6 } } g'7) (slice-aggregate-both-strands-8 record { before = record { before = record { before = record { before = record { before = record { before = record { before = record { before = record { before = c .before; in-range = c .in-range }; both-strands-arg = record { given = g } }; both-strands-arg2 = record { given = g' } }; both-strands-arg3 = record { given = g'' } }; both-strands-arg4 = record { given = g'3 } }; both-strands-arg5 = record { given = g'4 } }; both-strands-arg6 = record { given = g'5 } }; both-strands-arg7 = record { given = g'6 } }; both-strands-arg8 = record { given = g'7 } }), (slice-relend-prefix-both-strands-9 record { before = record { before = record { before = record { before = record { before = record { before = record { before = record { before = record { before = c .before; in-range = c .in-range }; both-strands-arg = record { given = g } }; both-strands-arg2 = record { given = g' } }; both-strands-arg3 = record { given = g'' } }; both-strands-arg4 = record { given = g'3 } }; both-strands-arg5 = record { given = g'4 } }; both-strands-arg6 = record { given = g'5 } }; both-strands-arg7 = record { given = g'6 } }; both-strands-arg8 = record { given = g'7 } }, λ g'8. (Relend.count-is T54 44 45 (λ x. x) (λ u. u .1 .1 .1 .1 .1 .1 .1 .1 .1 .1 .1 .1 .1 .1 .1 .1 .1 .1 .0) (m44 record { before = record { before = record { before = record { before = record { before = record { before = record { before = record { before = record { before = c .before; in-range = c .in-range }; both-strands-arg = record { given = g } }; both-strands-arg2 = record { given = g' } }; both-strands-arg3 = record { given = g'' } }; both-strands-arg4 = record { given = g'3 } }; both-strands-arg5 = record { given = g'4 } }; both-strands-arg6 = record { given = g'5 } }; both-strands-arg7 = record { given = g'6 } }; both-strands-arg8 = record { given = g'7 } } g'8) (slice-aggregate-both-strands-9 record { before = record { before = record { before = record { before = record { before = record { before = record { before = record { before = record { before = record { before = c .before; in-range = c .in-range }; both-strands-arg = record { given = g } }; both-strands-arg2 = record { given = g' } }; both-strands-arg3 = record { given = g'' } }; both-strands-arg4 = record { given = g'3 } }; both-strands-arg5 = record { given = g'4 } }; both-strands-arg6 = record { given = g'5 } }; both-strands-arg7 = record { given = g'6 } }; both-strands-arg8 = record { given = g'7 } }; both-strands-arg9 = record { given = g'8 } }), (both-strands-requires record { before = record { before = record { before = record { before = record { before = record { before = record { before = record { before = record { before = record { before = c .before; in-range = c .in-range }; both-strands-arg = record { given = g } }; both-strands-arg2 = record { given = g' } }; both-strands-arg3 = record { given = g'' } }; both-strands-arg4 = record { given = g'3 } }; both-strands-arg5 = record { given = g'4 } }; both-strands-arg6 = record { given = g'5 } }; both-strands-arg7 = record { given = g'6 } }; both-strands-arg8 = record { given = g'7 } }; both-strands-arg9 = record { given = g'8 } }, λ g'9. lay4 record { before = record { before = record { before = record { before = record { before = record { before = record { before = record { before = record { before = record { before = record { before = c .before; in-range = c .in-range }; both-strands-arg = record { given = g } }; both-strands-arg2 = record { given = g' } }; both-strands-arg3 = record { given = g'' } }; both-strands-arg4 = record { given = g'3 } }; both-strands-arg5 = record { given = g'4 } }; both-strands-arg6 = record { given = g'5 } }; both-strands-arg7 = record { given = g'6 } }; both-strands-arg8 = record { given = g'7 } }; both-strands-arg9 = record { given = g'8 } }; both-strands = Called.called ps·3 r·3 (claims· .7) T55 (record { pos = 21; st = List.[]; d = 0; at = λ x. x }, (Bool.bFld 1 ((Syntax.field 7) ∷ []) 51 λ x. LongdustOptions.struct .as-values x .1 .1 .1 .1 .1 .1 .1 .0, (record { pos = 2; ty = y19; ref = λ x. x }, (record { pos = 19; ty = y2; ref = λ x. x }, (record { pos = 20; ty = y2; ref = λ x. x }, (record { pos = 29; ty = y7; ref = λ x. x }, (record { pos = 31; ty = y9; ref = λ x. x }, (record { pos = 33; ty = y9; ref = λ x. x }, (record { pos = 35; ty = y11; ref = λ x. x }, (record { pos = 37; ty = y14; ref = λ x. x }, (record { pos = 39; ty = y16; ref = λ x. x }, (record { pos = 41; ty = y16; ref = λ x. x }, (record { pos = 43; ty = y16; ref = λ x. x }, (record { pos = 45; ty = y14; ref = λ x. x }, tt)))))))))))))) (m45 record { before = record { before = record { before = record { before = record { before = record { before = record { before = record { before = record { before = c .before; in-range = c .in-range }; both-strands-arg = record { given = g } }; both-strands-arg2 = record { given = g' } }; both-strands-arg3 = record { given = g'' } }; both-strands-arg4 = record { given = g'3 } }; both-strands-arg5 = record { given = g'4 } }; both-strands-arg6 = record { given = g'5 } }; both-strands-arg7 = record { given = g'6 } }; both-strands-arg8 = record { given = g'7 } } g'8) g'9 })))))))))))))))))))
+            .before .before .before .args)) (m27 (c .before) (After-prepare·gave c))
+        lay3 = λ c. (slice-relend-prefix-both-strands record { before = c .before; prepare = c .prepare }, λ g. (Relend.count-is T30 28 29 (λ x. x) (λ u. u .1 .1 .1 .1 .1 .1 .1 .1 .1 .1 .1 .1 .1 .1 .1 .1 .0) (m28 record { before = c .before; prepare = c .prepare } g) (slice-aggregate-both-strands record { before = record { before = c .before; prepare = c .prepare }; both-strands-arg = record { given = g } }), (slice-relend-prefix-both-strands-2 record { before = record { before = c .before; prepare = c .prepare }; both-strands-arg = record { given = g } }, λ g'. (Relend.count-is T33 30 31 (λ x. x) (λ u. u .1 .1 .1 .1 .1 .1 .1 .1 .1 .1 .1 .1 .1 .1 .1 .1 .1 .0) (m30 record { before = record { before = c .before; prepare = c .prepare }; both-strands-arg = record { given = g } } g') (slice-aggregate-both-strands-2 record { before = record { before = record { before = c .before; prepare = c .prepare }; both-strands-arg = record { given = g } }; both-strands-arg2 = record { given = g' } }), (slice-relend-prefix-both-strands-3 record { before = record { before = record { before = c .before; prepare = c .prepare }; both-strands-arg = record { given = g } }; both-strands-arg2 = record { given = g' } }, λ g''. (Relend.count-is T36 32 33 (λ x. x) (λ u. u .1 .1 .1 .1 .1 .1 .1 .1 .1 .1 .1 .1 .1 .1 .1 .1 .1 .0) (m32 record { before = record { before = record { before = c .before; prepare = c .prepare }; both-strands-arg = record { given = g } }; both-strands-arg2 = record { given = g' } } g'') (slice-aggregate-both-strands-3 record { before = record { before = record { before = record { before = c .before; prepare = c .prepare }; both-strands-arg = record { given = g } }; both-strands-arg2 = record { given = g' } }; both-strands-arg3 = record { given = g'' } }), (slice-relend-prefix-both-strands-4 record { before = record { before = record { before = record { before = c .before; prepare = c .prepare }; both-strands-arg = record { given = g } }; both-strands-arg2 = record { given = g' } }; both-strands-arg3 = record { given = g'' } }, λ g'3. (Relend.count-is T39 34 35 (λ x. x) (λ u. u .1 .1 .1 .1 .1 .1 .1 .1 .1 .1 .1 .1 .1 .1 .1 .1 .0) (m34 record { before = record { before = record { before = record { before = c .before; prepare = c .prepare }; both-strands-arg = record { given = g } }; both-strands-arg2 = record { given = g' } }; both-strands-arg3 = record { given = g'' } } g'3) (slice-aggregate-both-strands-4 record { before = record { before = record { before = record { before = record { before = c .before; prepare = c .prepare }; both-strands-arg = record { given = g } }; both-strands-arg2 = record { given = g' } }; both-strands-arg3 = record { given = g'' } }; both-strands-arg4 = record { given = g'3 } }), (slice-relend-prefix-both-strands-5 record { before = record { before = record { before = record { before = record { before = c .before; prepare = c .prepare }; both-strands-arg = record { given = g } }; both-strands-arg2 = record { given = g' } }; both-strands-arg3 = record { given = g'' } }; both-strands-arg4 = record { given = g'3 } }, λ g'4. (Relend.count-is T42 36 37 (λ x. x) (λ u. u .1 .1 .1 .1 .1 .1 .1 .1 .1 .1 .1 .1 .1 .1 .0) (m36 record { before = record { before = record { before = record { before = record { before = c .before; prepare = c .prepare }; both-strands-arg = record { given = g } }; both-strands-arg2 = record { given = g' } }; both-strands-arg3 = record { given = g'' } }; both-strands-arg4 = record { given = g'3 } } g'4) (slice-aggregate-both-strands-5 record { before = record { before = record { before = record { before = record { before = record { before = c .before; prepare = c .prepare }; both-strands-arg = record { given = g } }; both-strands-arg2 = record { given = g' } }; both-strands-arg3 = record { given = g'' } }; both-strands-arg4 = record { given = g'3 } }; both-strands-arg5 = record { given = g'4 } }), (slice-relend-prefix-both-strands-6 record { before = record { before = record { before = record { before = record { before = record { before = c .before; prepare = c .prepare }; both-strands-arg = record { given = g } }; both-strands-arg2 = record { given = g' } }; both-strands-arg3 = record { given = g'' } }; both-strands-arg4 = record { given = g'3 } }; both-strands-arg5 = record { given = g'4 } }, λ g'5. (Relend.count-is T45 38 39 (λ x. x) (λ u. u .1 .1 .1 .1 .1 .1 .1 .1 .1 .1 .1 .1 .1 .1 .1 .1 .1 .1 .0) (m38 record { before = record { before = record { before = record { before = record { before = record { before = c .before; prepare = c .prepare }; both-strands-arg = record { given = g } }; both-strands-arg2 = record { given = g' } }; both-strands-arg3 = record { given = g'' } }; both-strands-arg4 = record { given = g'3 } }; both-strands-arg5 = record { given = g'4 } } g'5) (slice-aggregate-both-strands-6 record { before = record { before = record { before = record { before = record { before = record { before = record { before = c .before; prepare = c .prepare }; both-strands-arg = record { given = g } }; both-strands-arg2 = record { given = g' } }; both-strands-arg3 = record { given = g'' } }; both-strands-arg4 = record { given = g'3 } }; both-strands-arg5 = record { given = g'4 } }; both-strands-arg6 = record { given = g'5 } }), (slice-relend-prefix-both-strands-7 record { before = record { before = record { before = record { before = record { before = record { before = record { before = c .before; prepare = c .prepare }; both-strands-arg = record { given = g } }; both-strands-arg2 = record { given = g' } }; both-strands-arg3 = record { given = g'' } }; both-strands-arg4 = record { given = g'3 } }; both-strands-arg5 = record { given = g'4 } }; both-strands-arg6 = record { given = g'5 } }, λ g'6. (Relend.count-is T48 40 41 (λ x. x) (λ u. u .1 .1 .1 .1 .1 .1 .1 .1 .1 .1 .1 .1 .1 .1 .1 .1 .1 .1 .0) (m40 record { before = record { before = record { before = record { before = record { before = record { before = record { before = c .before; prepare = c .prepare }; both-strands-arg = record { given = g } }; both-strands-arg2 = record { given = g' } }; both-strands-arg3 = record { given = g'' } }; both-strands-arg4 = record { given = g'3 } }; both-strands-arg5 = record { given = g'4 } }; both-strands-arg6 = record { given = g'5 } } g'6) (slice-aggregate-both-strands-7 record { before = record { before = record { before = record { before = record { before = record { before = record { before = record { before = c .before; prepare = c .prepare }; both-strands-arg = record { given = g } }; both-strands-arg2 = record { given = g' } }; both-strands-arg3 = record { given = g'' } }; both-strands-arg4 = record { given = g'3 } }; both-strands-arg5 = record { given = g'4 } }; both-strands-arg6 = record { given = g'5 } }; both-strands-arg7 = record { given = g'6 } }), (slice-relend-prefix-both-strands-8 record { before = record { before = record { before = record { before = record { before = record { before = record { before = record { before = c .before; prepare = c .prepare }; both-strands-arg = record { given = g } }; both-strands-arg2 = record { given = g' } }; both-strands-arg3 = record { given = g'' } }; both-strands-arg4 = record { given = g'3 } }; both-strands-arg5 = record { given = g'4 } }; both-strands-arg6 = record { given = g'5 } }; both-strands-arg7 = record { given = g'6 } }, λ g'7. (Relend.count-is T51 42 43 (λ x. x) (λ u. u .1 .1 .1 .1 .1 .1 .1 .1 .1 .1 .1 .1 .1 .1 .1 .1 .1 .1 .0) (m42 record { before = record { before = record { before = record { before = record { before = record { before = record { before = record { before = c .before; prepare = c .prepare }; both-strands-arg = record { given = g } }; both-strands-arg2 = record { given = g' } }; both-strands-arg3 = record { given = g'' } }; both-strands-arg4 = record { given = g'3 } }; both-strands-arg5 = record { given = g'4 } }; both-strands-arg6 = record { given = g'5 } }; both-strands-arg7 = record { given = g'6 } } g'7) (slice-aggregate-both-strands-8 record { before = record { before = record { before = record { before = record { before = record { before = record { before = record { before = record { before = c .before; prepare = c .prepare }; both-strands-arg = record { given = g } }; both-strands-arg2 = record { given = g' } }; both-strands-arg3 = record { given = g'' } }; both-strands-arg4 = record { given = g'3 } }; both-strands-arg5 = record { given = g'4 } }; both-strands-arg6 = record { given = g'5 } }; both-strands-arg7 = record { given = g'6 } }; both-strands-arg8 = record { given = g'7 } }), (slice-relend-prefix-both-strands-9 record { before = record { before = record { before = record { before = record { before = record { before = record { before = record { before = record { before = c .before; prepare = c .prepare }; both-strands-arg = record { given = g } }; both-strands-arg2 = record { given = g' } }; both-strands-arg3 = record { given = g'' } }; both-strands-arg4 = record { given = g'3 } }; both-strands-arg5 = record { given = g'4 } }; both-strands-arg6 = record { given = g'5 } }; both-strands-arg7 = record { given = g'6 } }; both-strands-arg8 = record { given = g'7 } }, λ g'8. (Relend.count-is T54 44 45 (λ x. x) (λ u. u .1 .1 .1 .1 .1 .1 .1 .1 .1 .1 .1 .1 .1 .1 .1 .1 .1 .1 .0) (m44 record { before = record { before = record { before = record { before = record { before = record { before = record { before = record { before = record { before = c .before; prepare = c .prepare }; both-strands-arg = record { given = g } }; both-strands-arg2 = record { given = g' } }; both-strands-arg3 = record { given = g'' } }; both-strands-arg4 = record { given = g'3 } }; both-strands-arg5 = record { given = g'4 } }; both-strands-arg6 = record { given = g'5 } }; both-strands-arg7 = record { given = g'6 } }; both-strands-arg8 = record { given = g'7 } } g'8) (slice-aggregate-both-strands-9 record { before = record { before = record { before = record { before = record { before = record { before = record { before = record { before = record { before = record { before = c .before; prepare = c .prepare }; both-strands-arg = record { given = g } }; both-strands-arg2 = record { given = g' } }; both-strands-arg3 = record { given = g'' } }; both-strands-arg4 = record { given = g'3 } }; both-strands-arg5 = record { given = g'4 } }; both-strands-arg6 = record { given = g'5 } }; both-strands-arg7 = record { given = g'6 } }; both-strands-arg8 = record { given = g'7 } }; both-strands-arg9 = record { given = g'8 } }), (both-strands-requires record { before = record { before = record { before = record { before = record { before = record { before = record { before = record { before = record { before = record { before = c .before; prepare = c .prepare }; both-strands-arg = record { given = g } }; both-strands-arg2 = record { given = g' } }; both-strands-arg3 = record { given = g'' } }; both-strands-arg4 = record { given = g'3 } }; both-strands-arg5 = record { given = g'4 } }; both-strands-arg6 = record { given = g'5 } }; both-strands-arg7 = record { given = g'6 } }; both-strands-arg8 = record { given = g'7 } }; both-strands-arg9 = record { given = g'8 } }, λ g'9. lay4 record { before = record { before = record { before = record { before = record { before = record { before = record { before = record { before = record { before = record { before = record { before = c .before; prepare = c .prepare }; both-strands-arg = record { given = g } }; both-strands-arg2 = record { given = g' } }; both-strands-arg3 = record { given = g'' } }; both-strands-arg4 = record { given = g'3 } }; both-strands-arg5 = record { given = g'4 } }; both-strands-arg6 = record { given = g'5 } }; both-strands-arg7 = record { given = g'6 } }; both-strands-arg8 = record { given = g'7 } }; both-strands-arg9 = record { given = g'8 } }; both-strands = Called.called ps·3 r·3 (claims· .7) T55 (record { pos = 22; st = List.[]; d = 0; at = λ x. x }, (Bool.bFld 1 ((Syntax.field 7) ∷ []) 51 λ x. LongdustOptions.struct .as-values x .1 .1 .1 .1 .1 .1 .1 .0, (record { pos = 2; ty = y19; ref = λ x. x }, (record { pos = 19; ty = y2; ref = λ x. x }, (record { pos = 20; ty = y2; ref = λ x. x }, (record { pos = 29; ty = y7; ref = λ x. x }, (record { pos = 31; ty = y9; ref = λ x. x }, (record { pos = 33; ty = y9; ref = λ x. x }, (record { pos = 35; ty = y11; ref = λ x. x }, (record { pos = 37; ty = y14; ref = λ x. x }, (record { pos = 39; ty = y16; ref = λ x. x }, (record { pos = 41; ty = y16; ref = λ x. x }, (record { pos = 43; ty = y16; ref = λ x. x }, (record { pos = 45; ty = y14; ref = λ x. x }, tt)))))))))))))) (m45 record { before = record { before = record { before = record { before = record { before = record { before = record { before = record { before = record { before = c .before; prepare = c .prepare }; both-strands-arg = record { given = g } }; both-strands-arg2 = record { given = g' } }; both-strands-arg3 = record { given = g'' } }; both-strands-arg4 = record { given = g'3 } }; both-strands-arg5 = record { given = g'4 } }; both-strands-arg6 = record { given = g'5 } }; both-strands-arg7 = record { given = g'6 } }; both-strands-arg8 = record { given = g'7 } } g'8) g'9 })))))))))))))))))))
 
         lay2 :
-            (c : After-prepare) → at73 (W0
+            (c : After-in-range) → at73 (W0
             (c .before .before .before .before .before .before .before .before .before .before
             .before .before .κs)
             (c .before .before .before .before .before .before .before .before .before .before
-            .before .before .args)) (m26 (c .before) (After-prepare·gave c))
-        lay2 = λ c. (in-range-requires record { before = c .before; prepare = c .prepare }, λ g. lay3 record { before = record { before = c .before; prepare = c .prepare }; in-range = Called.called ps·2 r·2 (claims· .5) T27 (record { pos = 21; st = List.[]; d = 0; at = λ x. x }, (record { pos = 19; ty = y2; ref = λ x. x }, (record { pos = 20; ty = y2; ref = λ x. x }, tt))) (m26 (c .before) (After-prepare·gave c)) g })
+            .before .before .args)) (m26 (c .before) (After-in-range·gave c))
+        lay2 = λ c. (prepare-requires record { before = c .before; in-range = c .in-range }, λ g. lay3 record { before = record { before = c .before; in-range = c .in-range }; prepare = Called.called ps·2 r·2 (claims· .5) T27 (record { pos = 1; st = List.[]; d = 0; at = λ x. x }, (Bool.bAt 21 λ x. x, (Num.vAt 14 λ x. x, (record { pos = 19; ty = y2; ref = λ x. x }, (record { pos = 20; ty = y2; ref = λ x. x }, tt))))) (m26 (c .before) (After-in-range·gave c)) g })
 
         lay1 :
             (c : After-n-kmers) →
@@ -3922,7 +3922,7 @@ module _ (claims· : Claims) where
             (c .before .before .before .before .before .before .before .before .before .κs)
             (c .before .before .before .before .before .before .before .before .before .args))
             (m12 (c .before) (After-n-kmers·gave c))
-        lay1 = λ c. (add-rows record { before = c .before; n-kmers = c .n-kmers }, (add-rows-2 record { before = c .before; n-kmers = c .n-kmers }, (div-rows record { before = c .before; n-kmers = c .n-kmers }, (add-ln record { before = c .before; n-kmers = c .n-kmers }, λ g. (Relend.count-is T20 26 19 (λ x. x) (λ u. u .1 .1 .1 .1 .1 .1 .1 .1 .1 .1 .1 .1 .1 .1 .1 .1 .1 .1 .1 .1 .1 .1 .1 .1 .0) (m19 record { before = c .before; n-kmers = c .n-kmers } g) (slice-aggregate-ln record { before = record { before = c .before; n-kmers = c .n-kmers }; ln = record { given = g } }), (add-f record { before = record { before = c .before; n-kmers = c .n-kmers }; ln = record { given = g } }, λ g'. (Relend.count-is T24 27 20 (λ x. x) (λ u. u .1 .1 .1 .1 .1 .1 .1 .1 .1 .1 .1 .1 .1 .1 .1 .1 .1 .1 .1 .1 .1 .1 .1 .1 .1 .0) (m23 record { before = record { before = c .before; n-kmers = c .n-kmers }; ln = record { given = g } } g') (slice-aggregate-f record { before = record { before = record { before = c .before; n-kmers = c .n-kmers }; ln = record { given = g } }; f = record { given = g' } }), (prepare-requires record { before = record { before = record { before = c .before; n-kmers = c .n-kmers }; ln = record { given = g } }; f = record { given = g' } }, λ g''. lay2 record { before = record { before = record { before = record { before = c .before; n-kmers = c .n-kmers }; ln = record { given = g } }; f = record { given = g' } }; prepare = Called.called ps·1 r·1 (claims· .3) T26 (record { pos = 1; st = List.[]; d = 0; at = λ x. x }, (record { pos = 19; ty = y2; ref = λ x. x }, (record { pos = 20; ty = y2; ref = λ x. x }, tt))) (m25 record { before = record { before = c .before; n-kmers = c .n-kmers }; ln = record { given = g } } g') g'' }))))))))
+        lay1 = λ c. (add-rows record { before = c .before; n-kmers = c .n-kmers }, (add-rows-2 record { before = c .before; n-kmers = c .n-kmers }, (div-rows record { before = c .before; n-kmers = c .n-kmers }, (add-ln record { before = c .before; n-kmers = c .n-kmers }, λ g. (Relend.count-is T20 26 19 (λ x. x) (λ u. u .1 .1 .1 .1 .1 .1 .1 .1 .1 .1 .1 .1 .1 .1 .1 .1 .1 .1 .1 .1 .1 .1 .1 .1 .0) (m19 record { before = c .before; n-kmers = c .n-kmers } g) (slice-aggregate-ln record { before = record { before = c .before; n-kmers = c .n-kmers }; ln = record { given = g } }), (add-f record { before = record { before = c .before; n-kmers = c .n-kmers }; ln = record { given = g } }, λ g'. (Relend.count-is T24 27 20 (λ x. x) (λ u. u .1 .1 .1 .1 .1 .1 .1 .1 .1 .1 .1 .1 .1 .1 .1 .1 .1 .1 .1 .1 .1 .1 .1 .1 .1 .0) (m23 record { before = record { before = c .before; n-kmers = c .n-kmers }; ln = record { given = g } } g') (slice-aggregate-f record { before = record { before = record { before = c .before; n-kmers = c .n-kmers }; ln = record { given = g } }; f = record { given = g' } }), (in-range-requires record { before = record { before = record { before = c .before; n-kmers = c .n-kmers }; ln = record { given = g } }; f = record { given = g' } }, λ g''. lay2 record { before = record { before = record { before = record { before = c .before; n-kmers = c .n-kmers }; ln = record { given = g } }; f = record { given = g' } }; in-range = Called.called ps·1 r·1 (claims· .3) T26 (record { pos = 1; st = List.[]; d = 0; at = λ x. x }, (record { pos = 19; ty = y2; ref = λ x. x }, (record { pos = 20; ty = y2; ref = λ x. x }, tt))) (m25 record { before = record { before = c .before; n-kmers = c .n-kmers }; ln = record { given = g } } g') g'' }))))))))
 
         pub laid : (c : Start) → at99 (W0 (c .κs) (c .args)) (m0 (c .κs) (c .args))
         laid = λ c. λ g. λ g'. λ g''. λ g'3. λ g'4. λ g'5. λ g'6. λ g'7. (n-kmers-requires record { before = record { before = record { before = record { before = record { before = record { before = record { before = record { before = c; shared-slice-known = record { given = g } }; shared-slice-known2 = record { given = g' } }; shared-slice-known3 = record { given = g'' } }; slice-known = record { given = g'3 } }; slice-known2 = record { given = g'4 } }; slice-known3 = record { given = g'5 } }; slice-known4 = record { given = g'6 } }; slice-known5 = record { given = g'7 } }, λ g'8. lay1 record { before = record { before = record { before = record { before = record { before = record { before = record { before = record { before = record { before = c; shared-slice-known = record { given = g } }; shared-slice-known2 = record { given = g' } }; shared-slice-known3 = record { given = g'' } }; slice-known = record { given = g'3 } }; slice-known2 = record { given = g'4 } }; slice-known3 = record { given = g'5 } }; slice-known4 = record { given = g'6 } }; slice-known5 = record { given = g'7 } }; n-kmers = Called.called ps·0 r·0 (claims· .1) T12 (Num.vAt 15 λ x. x, tt) (m11 record { before = record { before = record { before = record { before = record { before = record { before = record { before = c; shared-slice-known = record { given = g } }; shared-slice-known2 = record { given = g' } }; shared-slice-known3 = record { given = g'' } }; slice-known = record { given = g'3 } }; slice-known2 = record { given = g'4 } }; slice-known3 = record { given = g'5 } }; slice-known4 = record { given = g'6 } } g'7) g'8 })
@@ -3961,7 +3961,7 @@ module _ (claims· : Claims) where
             r·1
             (claims· .2)
             (claims· .3)
-            "longdust::run::prepare")
+            "longdust::run::in_range")
             (known2 : Plain.Known
             𝓤
             H
@@ -3973,7 +3973,7 @@ module _ (claims· : Claims) where
             r·2
             (claims· .4)
             (claims· .5)
-            "longdust::run::in_range")
+            "longdust::run::prepare")
             (known3 : Plain.Known
             𝓤
             H

@@ -252,7 +252,7 @@ abbrev e28 : Row.Entry
 e28 = (0, Rows.sc-here z0)
 
 abbrev y26 : Syntax.Ty
-y26 = Syntax.tyStruct (115 ∷ 99 ∷ 97 ∷ 110 ∷ 115 ∷ 58 ∷ 58 ∷ 80 ∷ 97 ∷ 114 ∷ 97 ∷ 109 ∷ 115 ∷ []) (Syntax.tcons y2 (Syntax.tcons y2 (Syntax.tcons y9 (Syntax.tcons y17 (Syntax.tcons y17 (Syntax.tcons Syntax.tyBool (Syntax.tcons y6 Syntax.tnil)))))))
+y26 = Syntax.tyStruct (115 ∷ 99 ∷ 97 ∷ 110 ∷ 115 ∷ 58 ∷ 58 ∷ 80 ∷ 97 ∷ 114 ∷ 97 ∷ 109 ∷ 115 ∷ []) (Syntax.tcons y2 (Syntax.tcons y2 (Syntax.tcons y9 (Syntax.tcons y17 (Syntax.tcons y17 (Syntax.tcons Syntax.tyBool (Syntax.tcons y6 (Syntax.tcons Syntax.tyBool Syntax.tnil))))))))
 
 abbrev e29 : Row.Entry
 e29 = (1, Rows.any-gone y26)

@@ -1,10 +1,6 @@
-use mathlib.Core.Path.{sym, ap, _∙_}
-use Prim.Native.Nat.{ℕ}
+use mathlib.Core.Path.{sym, _∙_}
 use native.Mathlib.Omega.{arith}
-use lib.ListN.{replicate}
 use Rattle.scans.proofs.Windows.{long}
-use Rattle.scans.proofs.Touched.{counted-touched}
-use Rattle.scans.proofs.Walk.{windowed-queued}
 use Rattle.scans.proofs.BackwardScan.{window-counts-are, window-below}
 use Rattle.scans.proofs.Searching.{some-left, next-finished, next-on}
 use borrow.Author.Needs.{needs}
@@ -14,24 +10,16 @@ use Rattle.scans.proofs.candidates.Search.next.Tie as tie
 abbrev start : tie.After-ended → tie.Start
 start c = c .before .before .before .before .before .before .before
 
-clear-from-requires : tie.Need-clear-from-requires
-clear-from-requires c κs =
-    let s = start (c .before .before) .pre in
-    let e = s .1 .1 .scan in
-    (windowed-queued (s .0) (s .1 .0 .1), (omega (arith, e .low-in, long (s .0)), counted-touched _ _ _ (e .counted)))
-
 finished-requires : tie.Need-finished-requires
 finished-requires c κs =
-    let s = start (c .before .before .before .before .before) .pre in
+    let s = start (c .before) .pre in
     let w = s .0 in
     (omega (arith, s .1 .1 .scan .found-in, long w, w .len-in, w .small), omega (arith, s .1 .1 .few, long w, w .len-in, w .small))
 
 returns : tie.Need-returns
 returns c =
-    let f = c .before .before .before in
-    let t = f .before .before in
-    let s = start (t .before) .pre in
-    next-finished _ _ _ _ (s .1 .1) (sym (t .before .ended .ensures) ∙ t .if1 .taken) _ _ (c .finished .ensures) (f .clear-from .ensures ∙ ap (λ (n : ℕ). replicate n 0) (s .1 .0 .1))
+    let t = c .before in
+    next-finished _ _ _ _ (start (t .before) .pre .1 .1) (sym (t .before .ended .ensures) ∙ t .if1 .taken) _ (c .finished .ensures)
 
 backward-on-requires : tie.Need-backward-on-requires
 backward-on-requires c κs =
@@ -58,9 +46,7 @@ next-spec =
     tie.close
     (tie.spec
     (λ c κs. search needs)
-    clear-from-requires
     finished-requires
-    (λ c. search needs)
     returns
     backward-on-requires
     gone-on-requires

@@ -5,15 +5,18 @@ use Rattle.scans.proofs.candidates.Search.new.Symbol
 use Rattle.scans.proofs.candidates.Search.next.Met as Met'
 use Rattle.scans.proofs.candidates.Search.next.Reads as Reads'
 use Rattle.scans.proofs.candidates.Search.next.Symbol as Symbol'
+use Rattle.scans.proofs.candidates.candidate_at.Met as Met''
+use Rattle.scans.proofs.CandidatesCandidateAtReads as Reads''
+use Rattle.scans.proofs.candidates.candidate_at.Symbol as Symbol''
 use Rattle.scans.proofs.candidates.scan_backward.Code
 use Rattle.scans.proofs.candidates.scan_backward.Key
 use Rattle.scans.proofs.CandidatesScanBackwardKinds as Kinds
 use Rattle.scans.proofs.candidates.scan_backward.Proof.Lts
-use Rattle.scans.proofs.CandidatesScanBackwardReads as Reads''
+use Rattle.scans.proofs.CandidatesScanBackwardReads as Reads'3
 use Rattle.scans.proofs.candidates.scan_backward.Statement
-use Rattle.scans.proofs.candidates.set_candidate.Met as Met''
-use Rattle.scans.proofs.CandidatesSetCandidateReads as Reads'3
-use Rattle.scans.proofs.candidates.set_candidate.Symbol as Symbol''
+use Rattle.scans.proofs.candidates.set_candidate.Met as Met'3
+use Rattle.scans.proofs.CandidatesSetCandidateReads as Reads'4
+use Rattle.scans.proofs.candidates.set_candidate.Symbol as Symbol'3
 use borrow.Fn.Run
 use borrow.Fn.Written
 use contract.Running
@@ -30,9 +33,11 @@ Start = λ Inv μ. Lts.Start (
   Reads.Learnt,
   Reads'.Asked,
   Reads'.Learnt,
-  Reads'3.Asked,
-  Reads'3.Learnt,
-) Reads''.Pre Reads''.Post Inv μ
+  Reads'4.Asked,
+  Reads'4.Learnt,
+  Reads''.Asked,
+  Reads''.Learnt,
+) Reads'3.Pre Reads'3.Post Inv μ
 
 abbrev pub After-shared-slice-known : (Inv : InvT-loop) → (μ : MeasureT-loop) → Type 0
 After-shared-slice-known = λ Inv μ. Lts.After-shared-slice-known (
@@ -40,9 +45,11 @@ After-shared-slice-known = λ Inv μ. Lts.After-shared-slice-known (
   Reads.Learnt,
   Reads'.Asked,
   Reads'.Learnt,
-  Reads'3.Asked,
-  Reads'3.Learnt,
-) Reads''.Pre Reads''.Post Inv μ
+  Reads'4.Asked,
+  Reads'4.Learnt,
+  Reads''.Asked,
+  Reads''.Learnt,
+) Reads'3.Pre Reads'3.Post Inv μ
 
 abbrev pub After-shared-slice-known2 : (Inv : InvT-loop) → (μ : MeasureT-loop) → Type 0
 After-shared-slice-known2 = λ Inv μ. Lts.After-shared-slice-known2 (
@@ -50,9 +57,11 @@ After-shared-slice-known2 = λ Inv μ. Lts.After-shared-slice-known2 (
   Reads.Learnt,
   Reads'.Asked,
   Reads'.Learnt,
-  Reads'3.Asked,
-  Reads'3.Learnt,
-) Reads''.Pre Reads''.Post Inv μ
+  Reads'4.Asked,
+  Reads'4.Learnt,
+  Reads''.Asked,
+  Reads''.Learnt,
+) Reads'3.Pre Reads'3.Post Inv μ
 
 abbrev pub After-shared-slice-known3 : (Inv : InvT-loop) → (μ : MeasureT-loop) → Type 0
 After-shared-slice-known3 = λ Inv μ. Lts.After-shared-slice-known3 (
@@ -60,9 +69,11 @@ After-shared-slice-known3 = λ Inv μ. Lts.After-shared-slice-known3 (
   Reads.Learnt,
   Reads'.Asked,
   Reads'.Learnt,
-  Reads'3.Asked,
-  Reads'3.Learnt,
-) Reads''.Pre Reads''.Post Inv μ
+  Reads'4.Asked,
+  Reads'4.Learnt,
+  Reads''.Asked,
+  Reads''.Learnt,
+) Reads'3.Pre Reads'3.Post Inv μ
 
 abbrev pub After-shared-slice-known4 : (Inv : InvT-loop) → (μ : MeasureT-loop) → Type 0
 After-shared-slice-known4 = λ Inv μ. Lts.After-shared-slice-known4 (
@@ -70,9 +81,11 @@ After-shared-slice-known4 = λ Inv μ. Lts.After-shared-slice-known4 (
   Reads.Learnt,
   Reads'.Asked,
   Reads'.Learnt,
-  Reads'3.Asked,
-  Reads'3.Learnt,
-) Reads''.Pre Reads''.Post Inv μ
+  Reads'4.Asked,
+  Reads'4.Learnt,
+  Reads''.Asked,
+  Reads''.Learnt,
+) Reads'3.Pre Reads'3.Post Inv μ
 
 abbrev pub After-slice-known : (Inv : InvT-loop) → (μ : MeasureT-loop) → Type 0
 After-slice-known = λ Inv μ. Lts.After-slice-known (
@@ -80,9 +93,11 @@ After-slice-known = λ Inv μ. Lts.After-slice-known (
   Reads.Learnt,
   Reads'.Asked,
   Reads'.Learnt,
-  Reads'3.Asked,
-  Reads'3.Learnt,
-) Reads''.Pre Reads''.Post Inv μ
+  Reads'4.Asked,
+  Reads'4.Learnt,
+  Reads''.Asked,
+  Reads''.Learnt,
+) Reads'3.Pre Reads'3.Post Inv μ
 
 abbrev pub After-new : (Inv : InvT-loop) → (μ : MeasureT-loop) → Type 0
 After-new = λ Inv μ. Lts.After-new (
@@ -90,9 +105,11 @@ After-new = λ Inv μ. Lts.After-new (
   Reads.Learnt,
   Reads'.Asked,
   Reads'.Learnt,
-  Reads'3.Asked,
-  Reads'3.Learnt,
-) Reads''.Pre Reads''.Post Inv μ
+  Reads'4.Asked,
+  Reads'4.Learnt,
+  Reads''.Asked,
+  Reads''.Learnt,
+) Reads'3.Pre Reads'3.Post Inv μ
 
 abbrev pub At-loop : (Inv : InvT-loop) → (μ : MeasureT-loop) → Type 0
 At-loop = λ Inv μ. Lts.At-loop (
@@ -100,9 +117,11 @@ At-loop = λ Inv μ. Lts.At-loop (
   Reads.Learnt,
   Reads'.Asked,
   Reads'.Learnt,
-  Reads'3.Asked,
-  Reads'3.Learnt,
-) Reads''.Pre Reads''.Post Inv μ
+  Reads'4.Asked,
+  Reads'4.Learnt,
+  Reads''.Asked,
+  Reads''.Learnt,
+) Reads'3.Pre Reads'3.Post Inv μ
 
 abbrev pub In-loop : (Inv : InvT-loop) → (μ : MeasureT-loop) → Type 0
 In-loop = λ Inv μ. Lts.In-loop (
@@ -110,9 +129,11 @@ In-loop = λ Inv μ. Lts.In-loop (
   Reads.Learnt,
   Reads'.Asked,
   Reads'.Learnt,
-  Reads'3.Asked,
-  Reads'3.Learnt,
-) Reads''.Pre Reads''.Post Inv μ
+  Reads'4.Asked,
+  Reads'4.Learnt,
+  Reads''.Asked,
+  Reads''.Learnt,
+) Reads'3.Pre Reads'3.Post Inv μ
 
 abbrev pub After-loop : (Inv : InvT-loop) → (μ : MeasureT-loop) → Type 0
 After-loop = λ Inv μ. Lts.After-loop (
@@ -120,9 +141,11 @@ After-loop = λ Inv μ. Lts.After-loop (
   Reads.Learnt,
   Reads'.Asked,
   Reads'.Learnt,
-  Reads'3.Asked,
-  Reads'3.Learnt,
-) Reads''.Pre Reads''.Post Inv μ
+  Reads'4.Asked,
+  Reads'4.Learnt,
+  Reads''.Asked,
+  Reads''.Learnt,
+) Reads'3.Pre Reads'3.Post Inv μ
 
 abbrev pub After-next-arg : (Inv : InvT-loop) → (μ : MeasureT-loop) → Type 0
 After-next-arg = λ Inv μ. Lts.After-next-arg (
@@ -130,9 +153,11 @@ After-next-arg = λ Inv μ. Lts.After-next-arg (
   Reads.Learnt,
   Reads'.Asked,
   Reads'.Learnt,
-  Reads'3.Asked,
-  Reads'3.Learnt,
-) Reads''.Pre Reads''.Post Inv μ
+  Reads'4.Asked,
+  Reads'4.Learnt,
+  Reads''.Asked,
+  Reads''.Learnt,
+) Reads'3.Pre Reads'3.Post Inv μ
 
 abbrev pub After-next : (Inv : InvT-loop) → (μ : MeasureT-loop) → Type 0
 After-next = λ Inv μ. Lts.After-next (
@@ -140,9 +165,11 @@ After-next = λ Inv μ. Lts.After-next (
   Reads.Learnt,
   Reads'.Asked,
   Reads'.Learnt,
-  Reads'3.Asked,
-  Reads'3.Learnt,
-) Reads''.Pre Reads''.Post Inv μ
+  Reads'4.Asked,
+  Reads'4.Learnt,
+  Reads''.Asked,
+  Reads''.Learnt,
+) Reads'3.Pre Reads'3.Post Inv μ
 
 abbrev pub After-scan-counts : (Inv : InvT-loop) → (μ : MeasureT-loop) → Type 0
 After-scan-counts = λ Inv μ. Lts.After-scan-counts (
@@ -150,9 +177,11 @@ After-scan-counts = λ Inv μ. Lts.After-scan-counts (
   Reads.Learnt,
   Reads'.Asked,
   Reads'.Learnt,
-  Reads'3.Asked,
-  Reads'3.Learnt,
-) Reads''.Pre Reads''.Post Inv μ
+  Reads'4.Asked,
+  Reads'4.Learnt,
+  Reads''.Asked,
+  Reads''.Learnt,
+) Reads'3.Pre Reads'3.Post Inv μ
 
 abbrev pub After-slice-known2 : (Inv : InvT-loop) → (μ : MeasureT-loop) → Type 0
 After-slice-known2 = λ Inv μ. Lts.After-slice-known2 (
@@ -160,9 +189,11 @@ After-slice-known2 = λ Inv μ. Lts.After-slice-known2 (
   Reads.Learnt,
   Reads'.Asked,
   Reads'.Learnt,
-  Reads'3.Asked,
-  Reads'3.Learnt,
-) Reads''.Pre Reads''.Post Inv μ
+  Reads'4.Asked,
+  Reads'4.Learnt,
+  Reads''.Asked,
+  Reads''.Learnt,
+) Reads'3.Pre Reads'3.Post Inv μ
 
 abbrev pub Then1 : (Inv : InvT-loop) → (μ : MeasureT-loop) → Type 0
 Then1 = λ Inv μ. Lts.Then1 (
@@ -170,9 +201,11 @@ Then1 = λ Inv μ. Lts.Then1 (
   Reads.Learnt,
   Reads'.Asked,
   Reads'.Learnt,
-  Reads'3.Asked,
-  Reads'3.Learnt,
-) Reads''.Pre Reads''.Post Inv μ
+  Reads'4.Asked,
+  Reads'4.Learnt,
+  Reads''.Asked,
+  Reads''.Learnt,
+) Reads'3.Pre Reads'3.Post Inv μ
 
 abbrev pub After-set-candidate-arg : (Inv : InvT-loop) → (μ : MeasureT-loop) → Type 0
 After-set-candidate-arg = λ Inv μ. Lts.After-set-candidate-arg (
@@ -180,9 +213,11 @@ After-set-candidate-arg = λ Inv μ. Lts.After-set-candidate-arg (
   Reads.Learnt,
   Reads'.Asked,
   Reads'.Learnt,
-  Reads'3.Asked,
-  Reads'3.Learnt,
-) Reads''.Pre Reads''.Post Inv μ
+  Reads'4.Asked,
+  Reads'4.Learnt,
+  Reads''.Asked,
+  Reads''.Learnt,
+) Reads'3.Pre Reads'3.Post Inv μ
 
 abbrev pub After-struct-known : (Inv : InvT-loop) → (μ : MeasureT-loop) → Type 0
 After-struct-known = λ Inv μ. Lts.After-struct-known (
@@ -190,9 +225,11 @@ After-struct-known = λ Inv μ. Lts.After-struct-known (
   Reads.Learnt,
   Reads'.Asked,
   Reads'.Learnt,
-  Reads'3.Asked,
-  Reads'3.Learnt,
-) Reads''.Pre Reads''.Post Inv μ
+  Reads'4.Asked,
+  Reads'4.Learnt,
+  Reads''.Asked,
+  Reads''.Learnt,
+) Reads'3.Pre Reads'3.Post Inv μ
 
 abbrev pub After-set-candidate : (Inv : InvT-loop) → (μ : MeasureT-loop) → Type 0
 After-set-candidate = λ Inv μ. Lts.After-set-candidate (
@@ -200,9 +237,11 @@ After-set-candidate = λ Inv μ. Lts.After-set-candidate (
   Reads.Learnt,
   Reads'.Asked,
   Reads'.Learnt,
-  Reads'3.Asked,
-  Reads'3.Learnt,
-) Reads''.Pre Reads''.Post Inv μ
+  Reads'4.Asked,
+  Reads'4.Learnt,
+  Reads''.Asked,
+  Reads''.Learnt,
+) Reads'3.Pre Reads'3.Post Inv μ
 
 abbrev pub After-candidates : (Inv : InvT-loop) → (μ : MeasureT-loop) → Type 0
 After-candidates = λ Inv μ. Lts.After-candidates (
@@ -210,9 +249,11 @@ After-candidates = λ Inv μ. Lts.After-candidates (
   Reads.Learnt,
   Reads'.Asked,
   Reads'.Learnt,
-  Reads'3.Asked,
-  Reads'3.Learnt,
-) Reads''.Pre Reads''.Post Inv μ
+  Reads'4.Asked,
+  Reads'4.Learnt,
+  Reads''.Asked,
+  Reads''.Learnt,
+) Reads'3.Pre Reads'3.Post Inv μ
 
 abbrev pub Else1 : (Inv : InvT-loop) → (μ : MeasureT-loop) → Type 0
 Else1 = λ Inv μ. Lts.Else1 (
@@ -220,9 +261,59 @@ Else1 = λ Inv μ. Lts.Else1 (
   Reads.Learnt,
   Reads'.Asked,
   Reads'.Learnt,
-  Reads'3.Asked,
-  Reads'3.Learnt,
-) Reads''.Pre Reads''.Post Inv μ
+  Reads'4.Asked,
+  Reads'4.Learnt,
+  Reads''.Asked,
+  Reads''.Learnt,
+) Reads'3.Pre Reads'3.Post Inv μ
+
+abbrev pub After-candidate-at-arg : (Inv : InvT-loop) → (μ : MeasureT-loop) → Type 0
+After-candidate-at-arg = λ Inv μ. Lts.After-candidate-at-arg (
+  Reads.Asked,
+  Reads.Learnt,
+  Reads'.Asked,
+  Reads'.Learnt,
+  Reads'4.Asked,
+  Reads'4.Learnt,
+  Reads''.Asked,
+  Reads''.Learnt,
+) Reads'3.Pre Reads'3.Post Inv μ
+
+abbrev pub After-candidate-at : (Inv : InvT-loop) → (μ : MeasureT-loop) → Type 0
+After-candidate-at = λ Inv μ. Lts.After-candidate-at (
+  Reads.Asked,
+  Reads.Learnt,
+  Reads'.Asked,
+  Reads'.Learnt,
+  Reads'4.Asked,
+  Reads'4.Learnt,
+  Reads''.Asked,
+  Reads''.Learnt,
+) Reads'3.Pre Reads'3.Post Inv μ
+
+abbrev pub After-struct-known2 : (Inv : InvT-loop) → (μ : MeasureT-loop) → Type 0
+After-struct-known2 = λ Inv μ. Lts.After-struct-known2 (
+  Reads.Asked,
+  Reads.Learnt,
+  Reads'.Asked,
+  Reads'.Learnt,
+  Reads'4.Asked,
+  Reads'4.Learnt,
+  Reads''.Asked,
+  Reads''.Learnt,
+) Reads'3.Pre Reads'3.Post Inv μ
+
+abbrev pub After-struct-known3 : (Inv : InvT-loop) → (μ : MeasureT-loop) → Type 0
+After-struct-known3 = λ Inv μ. Lts.After-struct-known3 (
+  Reads.Asked,
+  Reads.Learnt,
+  Reads'.Asked,
+  Reads'.Learnt,
+  Reads'4.Asked,
+  Reads'4.Learnt,
+  Reads''.Asked,
+  Reads''.Learnt,
+) Reads'3.Pre Reads'3.Post Inv μ
 
 abbrev pub Need-new-requires : (Inv : InvT-loop) → (μ : MeasureT-loop) → Type 0
 Need-new-requires = λ Inv μ. Lts.Need-new-requires (
@@ -230,9 +321,11 @@ Need-new-requires = λ Inv μ. Lts.Need-new-requires (
   Reads.Learnt,
   Reads'.Asked,
   Reads'.Learnt,
-  Reads'3.Asked,
-  Reads'3.Learnt,
-) Reads''.Pre Reads''.Post Inv μ
+  Reads'4.Asked,
+  Reads'4.Learnt,
+  Reads''.Asked,
+  Reads''.Learnt,
+) Reads'3.Pre Reads'3.Post Inv μ
 
 abbrev pub Need-loop-holds : (Inv : InvT-loop) → (μ : MeasureT-loop) → Type 0
 Need-loop-holds = λ Inv μ. Lts.Need-loop-holds (
@@ -240,9 +333,11 @@ Need-loop-holds = λ Inv μ. Lts.Need-loop-holds (
   Reads.Learnt,
   Reads'.Asked,
   Reads'.Learnt,
-  Reads'3.Asked,
-  Reads'3.Learnt,
-) Reads''.Pre Reads''.Post Inv μ
+  Reads'4.Asked,
+  Reads'4.Learnt,
+  Reads''.Asked,
+  Reads''.Learnt,
+) Reads'3.Pre Reads'3.Post Inv μ
 
 abbrev pub Need-next-requires : (Inv : InvT-loop) → (μ : MeasureT-loop) → Type 0
 Need-next-requires = λ Inv μ. Lts.Need-next-requires (
@@ -250,9 +345,11 @@ Need-next-requires = λ Inv μ. Lts.Need-next-requires (
   Reads.Learnt,
   Reads'.Asked,
   Reads'.Learnt,
-  Reads'3.Asked,
-  Reads'3.Learnt,
-) Reads''.Pre Reads''.Post Inv μ
+  Reads'4.Asked,
+  Reads'4.Learnt,
+  Reads''.Asked,
+  Reads''.Learnt,
+) Reads'3.Pre Reads'3.Post Inv μ
 
 abbrev pub Need-sub-set-candidate : (Inv : InvT-loop) → (μ : MeasureT-loop) → Type 0
 Need-sub-set-candidate = λ Inv μ. Lts.Need-sub-set-candidate (
@@ -260,9 +357,11 @@ Need-sub-set-candidate = λ Inv μ. Lts.Need-sub-set-candidate (
   Reads.Learnt,
   Reads'.Asked,
   Reads'.Learnt,
-  Reads'3.Asked,
-  Reads'3.Learnt,
-) Reads''.Pre Reads''.Post Inv μ
+  Reads'4.Asked,
+  Reads'4.Learnt,
+  Reads''.Asked,
+  Reads''.Learnt,
+) Reads'3.Pre Reads'3.Post Inv μ
 
 abbrev pub Need-set-candidate-requires : (Inv : InvT-loop) → (μ : MeasureT-loop) → Type 0
 Need-set-candidate-requires = λ Inv μ. Lts.Need-set-candidate-requires (
@@ -270,9 +369,11 @@ Need-set-candidate-requires = λ Inv μ. Lts.Need-set-candidate-requires (
   Reads.Learnt,
   Reads'.Asked,
   Reads'.Learnt,
-  Reads'3.Asked,
-  Reads'3.Learnt,
-) Reads''.Pre Reads''.Post Inv μ
+  Reads'4.Asked,
+  Reads'4.Learnt,
+  Reads''.Asked,
+  Reads''.Learnt,
+) Reads'3.Pre Reads'3.Post Inv μ
 
 abbrev pub Need-loop-less : (Inv : InvT-loop) → (μ : MeasureT-loop) → Type 0
 Need-loop-less = λ Inv μ. Lts.Need-loop-less (
@@ -280,9 +381,11 @@ Need-loop-less = λ Inv μ. Lts.Need-loop-less (
   Reads.Learnt,
   Reads'.Asked,
   Reads'.Learnt,
-  Reads'3.Asked,
-  Reads'3.Learnt,
-) Reads''.Pre Reads''.Post Inv μ
+  Reads'4.Asked,
+  Reads'4.Learnt,
+  Reads''.Asked,
+  Reads''.Learnt,
+) Reads'3.Pre Reads'3.Post Inv μ
 
 abbrev pub Need-loop-again : (Inv : InvT-loop) → (μ : MeasureT-loop) → Type 0
 Need-loop-again = λ Inv μ. Lts.Need-loop-again (
@@ -290,9 +393,11 @@ Need-loop-again = λ Inv μ. Lts.Need-loop-again (
   Reads.Learnt,
   Reads'.Asked,
   Reads'.Learnt,
-  Reads'3.Asked,
-  Reads'3.Learnt,
-) Reads''.Pre Reads''.Post Inv μ
+  Reads'4.Asked,
+  Reads'4.Learnt,
+  Reads''.Asked,
+  Reads''.Learnt,
+) Reads'3.Pre Reads'3.Post Inv μ
 
 abbrev pub Need-loop-less-2 : (Inv : InvT-loop) → (μ : MeasureT-loop) → Type 0
 Need-loop-less-2 = λ Inv μ. Lts.Need-loop-less-2 (
@@ -300,9 +405,11 @@ Need-loop-less-2 = λ Inv μ. Lts.Need-loop-less-2 (
   Reads.Learnt,
   Reads'.Asked,
   Reads'.Learnt,
-  Reads'3.Asked,
-  Reads'3.Learnt,
-) Reads''.Pre Reads''.Post Inv μ
+  Reads'4.Asked,
+  Reads'4.Learnt,
+  Reads''.Asked,
+  Reads''.Learnt,
+) Reads'3.Pre Reads'3.Post Inv μ
 
 abbrev pub Need-loop-again-2 : (Inv : InvT-loop) → (μ : MeasureT-loop) → Type 0
 Need-loop-again-2 = λ Inv μ. Lts.Need-loop-again-2 (
@@ -310,9 +417,47 @@ Need-loop-again-2 = λ Inv μ. Lts.Need-loop-again-2 (
   Reads.Learnt,
   Reads'.Asked,
   Reads'.Learnt,
-  Reads'3.Asked,
-  Reads'3.Learnt,
-) Reads''.Pre Reads''.Post Inv μ
+  Reads'4.Asked,
+  Reads'4.Learnt,
+  Reads''.Asked,
+  Reads''.Learnt,
+) Reads'3.Pre Reads'3.Post Inv μ
+
+abbrev pub Need-candidate-at-requires : (Inv : InvT-loop) → (μ : MeasureT-loop) → Type 0
+Need-candidate-at-requires = λ Inv μ. Lts.Need-candidate-at-requires (
+  Reads.Asked,
+  Reads.Learnt,
+  Reads'.Asked,
+  Reads'.Learnt,
+  Reads'4.Asked,
+  Reads'4.Learnt,
+  Reads''.Asked,
+  Reads''.Learnt,
+) Reads'3.Pre Reads'3.Post Inv μ
+
+abbrev pub Need-cast-t21 : (Inv : InvT-loop) → (μ : MeasureT-loop) → Type 0
+Need-cast-t21 = λ Inv μ. Lts.Need-cast-t21 (
+  Reads.Asked,
+  Reads.Learnt,
+  Reads'.Asked,
+  Reads'.Learnt,
+  Reads'4.Asked,
+  Reads'4.Learnt,
+  Reads''.Asked,
+  Reads''.Learnt,
+) Reads'3.Pre Reads'3.Post Inv μ
+
+abbrev pub Need-cast-t22 : (Inv : InvT-loop) → (μ : MeasureT-loop) → Type 0
+Need-cast-t22 = λ Inv μ. Lts.Need-cast-t22 (
+  Reads.Asked,
+  Reads.Learnt,
+  Reads'.Asked,
+  Reads'.Learnt,
+  Reads'4.Asked,
+  Reads'4.Learnt,
+  Reads''.Asked,
+  Reads''.Learnt,
+) Reads'3.Pre Reads'3.Post Inv μ
 
 abbrev pub Need-same-length : (Inv : InvT-loop) → (μ : MeasureT-loop) → Type 0
 Need-same-length = λ Inv μ. Lts.Need-same-length (
@@ -320,9 +465,11 @@ Need-same-length = λ Inv μ. Lts.Need-same-length (
   Reads.Learnt,
   Reads'.Asked,
   Reads'.Learnt,
-  Reads'3.Asked,
-  Reads'3.Learnt,
-) Reads''.Pre Reads''.Post Inv μ
+  Reads'4.Asked,
+  Reads'4.Learnt,
+  Reads''.Asked,
+  Reads''.Learnt,
+) Reads'3.Pre Reads'3.Post Inv μ
 
 abbrev pub Need-same-length-2 : (Inv : InvT-loop) → (μ : MeasureT-loop) → Type 0
 Need-same-length-2 = λ Inv μ. Lts.Need-same-length-2 (
@@ -330,9 +477,11 @@ Need-same-length-2 = λ Inv μ. Lts.Need-same-length-2 (
   Reads.Learnt,
   Reads'.Asked,
   Reads'.Learnt,
-  Reads'3.Asked,
-  Reads'3.Learnt,
-) Reads''.Pre Reads''.Post Inv μ
+  Reads'4.Asked,
+  Reads'4.Learnt,
+  Reads''.Asked,
+  Reads''.Learnt,
+) Reads'3.Pre Reads'3.Post Inv μ
 
 abbrev pub Need-returns : (Inv : InvT-loop) → (μ : MeasureT-loop) → Type 0
 Need-returns = λ Inv μ. Lts.Need-returns (
@@ -340,9 +489,11 @@ Need-returns = λ Inv μ. Lts.Need-returns (
   Reads.Learnt,
   Reads'.Asked,
   Reads'.Learnt,
-  Reads'3.Asked,
-  Reads'3.Learnt,
-) Reads''.Pre Reads''.Post Inv μ
+  Reads'4.Asked,
+  Reads'4.Learnt,
+  Reads''.Asked,
+  Reads''.Learnt,
+) Reads'3.Pre Reads'3.Post Inv μ
 
 module _ {M : Type 1} where
   pub spec :
@@ -357,6 +508,9 @@ module _ {M : Type 1} where
       (answer : Need-loop-again Inv μ) →
       (answer : Need-loop-less-2 Inv μ) →
       (answer : Need-loop-again-2 Inv μ) →
+      (answer : Need-candidate-at-requires Inv μ) →
+      (answer : Need-cast-t21 Inv μ) →
+      (answer : Need-cast-t22 Inv μ) →
       (answer : Need-same-length Inv μ) →
       (answer : Need-same-length-2 Inv μ) →
       (answer : Need-returns Inv μ) →
@@ -365,45 +519,74 @@ module _ {M : Type 1} where
         Reads.Learnt,
         Reads'.Asked,
         Reads'.Learnt,
-        Reads'3.Asked,
-        Reads'3.Learnt,
-      ) Reads''.Pre Reads''.Post M
+        Reads'4.Asked,
+        Reads'4.Learnt,
+        Reads''.Asked,
+        Reads''.Learnt,
+      ) Reads'3.Pre Reads'3.Post M
   spec =
       λ Inv μ answer answer' answer'' answer'3 answer'4 answer'5 answer'6 answer'7 answer'8
-      answer'9 answer'10 answer'11. Lts.spec
-      (Reads.Asked, Reads.Learnt, Reads'.Asked, Reads'.Learnt, Reads'3.Asked, Reads'3.Learnt)
-      Reads''.Pre Reads''.Post Inv μ answer answer' answer'' answer'3 answer'4 answer'5 answer'6
-      answer'7 answer'8 answer'9 answer'10 answer'11
+      answer'9 answer'10 answer'11 answer'12 answer'13 answer'14. Lts.spec (
+        Reads.Asked,
+        Reads.Learnt,
+        Reads'.Asked,
+        Reads'.Learnt,
+        Reads'4.Asked,
+        Reads'4.Learnt,
+        Reads''.Asked,
+        Reads''.Learnt,
+      )
+      Reads'3.Pre
+      Reads'3.Post
+      Inv
+      μ
+      answer
+      answer'
+      answer''
+      answer'3
+      answer'4
+      answer'5
+      answer'6
+      answer'7
+      answer'8
+      answer'9
+      answer'10
+      answer'11
+      answer'12
+      answer'13
+      answer'14
 
   pub close : Lts.Closed (
     Reads.Asked,
     Reads.Learnt,
     Reads'.Asked,
     Reads'.Learnt,
-    Reads'3.Asked,
-    Reads'3.Learnt,
-  ) Reads''.Pre Reads''.Post M → Statement.statement M
+    Reads'4.Asked,
+    Reads'4.Learnt,
+    Reads''.Asked,
+    Reads''.Learnt,
+  ) Reads'3.Pre Reads'3.Post M → Statement.statement M
   unfolding Code.routine Running.tablesOf
   close =
       λ closed 𝓤 H 𝓜 𝓖 𝓡. Written.close
       6
       Kinds.ps
       Kinds.r
-      Reads''.Ghost
-      Reads''.requires
-      Reads''.ensures
-      Reads''.pre-read
-      Reads''.Pinned
-      Reads''.Owned
-      Reads''.post-read
+      Reads'3.Ghost
+      Reads'3.requires
+      Reads'3.ensures
+      Reads'3.pre-read
+      Reads'3.Pinned
+      Reads'3.Owned
+      Reads'3.post-read
       record { M = M; 𝓤 = 𝓤; H = H; 𝓜 = 𝓜; 𝓖 = 𝓖; 𝓡 = 𝓡 }
       Code.env
       Key.name
       Code.function
       (Code.unfolded 𝓤 H 𝓜 𝓡)
       (λ κs a g. tt)
-      (λ κs. Reads''.owns κs record { M = M; 𝓤 = 𝓤; H = H; 𝓜 = 𝓜; 𝓖 = 𝓖; 𝓡 = 𝓡 })
-      (Reads''.passes record { M = M; 𝓤 = 𝓤; H = H; 𝓜 = 𝓜; 𝓖 = 𝓖; 𝓡 = 𝓡 })
+      (λ κs. Reads'3.owns κs record { M = M; 𝓤 = 𝓤; H = H; 𝓜 = 𝓜; 𝓖 = 𝓖; 𝓡 = 𝓡 })
+      (Reads'3.passes record { M = M; 𝓤 = 𝓤; H = H; 𝓜 = 𝓜; 𝓖 = 𝓖; 𝓡 = 𝓡 })
       λ g. closed
       𝓤
       H
@@ -424,10 +607,17 @@ module _ {M : Type 1} where
       Symbol'.routine
       Code.calls-scans·candidates·Search·next
       (Met'.met 𝓤 H 𝓜 𝓖 𝓡))
-      (Reads'3.known
+      (Reads'4.known
+      record { M = M; 𝓤 = 𝓤; H = H; 𝓜 = 𝓜; 𝓖 = 𝓖; 𝓡 = 𝓡 }
+      Code.env
+      Symbol'3.name
+      Symbol'3.routine
+      Code.calls-scans·candidates·set-candidate
+      (Met'3.met 𝓤 H 𝓜 𝓖 𝓡))
+      (Reads''.known
       record { M = M; 𝓤 = 𝓤; H = H; 𝓜 = 𝓜; 𝓖 = 𝓖; 𝓡 = 𝓡 }
       Code.env
       Symbol''.name
       Symbol''.routine
-      Code.calls-scans·candidates·set-candidate
+      Code.calls-scans·candidates·candidate-at
       (Met''.met 𝓤 H 𝓜 𝓖 𝓡))

@@ -195,7 +195,7 @@ abbrev e16 : Row.Entry
 e16 = (0, Rows.whole q4)
 
 abbrev y15 : Syntax.Ty
-y15 = Syntax.tyStruct (115 ∷ 99 ∷ 97 ∷ 110 ∷ 115 ∷ 58 ∷ 58 ∷ 80 ∷ 97 ∷ 114 ∷ 97 ∷ 109 ∷ 115 ∷ []) (Syntax.tcons y0 (Syntax.tcons y0 (Syntax.tcons y7 (Syntax.tcons y1 (Syntax.tcons y1 (Syntax.tcons Syntax.tyBool (Syntax.tcons y5 Syntax.tnil)))))))
+y15 = Syntax.tyStruct (115 ∷ 99 ∷ 97 ∷ 110 ∷ 115 ∷ 58 ∷ 58 ∷ 80 ∷ 97 ∷ 114 ∷ 97 ∷ 109 ∷ 115 ∷ []) (Syntax.tcons y0 (Syntax.tcons y0 (Syntax.tcons y7 (Syntax.tcons y1 (Syntax.tcons y1 (Syntax.tcons Syntax.tyBool (Syntax.tcons y5 (Syntax.tcons Syntax.tyBool Syntax.tnil))))))))
 
 abbrev e17 : Row.Entry
 e17 = (1, Rows.any-gone y15)

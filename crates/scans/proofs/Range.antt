@@ -1,6 +1,7 @@
 -- Where the flag of a checked setup says yes, T and the table entries lie in the ranges that the evidence asks for.
-use mathlib.Core.Path.{_≡_, subst}
+use mathlib.Core.Path.{_≡_, sym, subst}
 use Prim.Native.Nat.{ℕ, zero, suc, _≤_, _<_}
+use native.Mathlib.Nat.{eq-or-lt-of-le}
 use native.Mathlib.Omega.{arith}
 use mathlib.Core.Logic.{⊎-elim}
 use mathlib.Core.Bool.{Bool, _&&_}
@@ -12,18 +13,17 @@ use lib.Ieee.Fits.{and-l, and-r}
 use Rattle.floats.specs.Binary64.{zero64, sixteen, twoTo20}
 use Rattle.floats.proofs.Order.{lt-le}
 use Rattle.floats.proofs.Range.{ranged-16, ranged-20}
-use Rattle.intervals.proofs.Order.{lt-or-le}
 use Rattle.scans.specs.Setup.{Setup, lnAt, fAt}
 use Rattle.scans.proofs.Gain.{InRange}
-use Rattle.strand.specs.Range.{between, tableInRange, inRange, CheckedSetup}
+use Rattle.scans.specs.Range.{between, tableInRange, inRange, CheckedSetup}
 
 table-at : (high : Float) (table : List Float) (w : ℕ) → T (tableInRange high table w) → (c : ℕ) → 0 < c → c ≤ w → T (between high (getD table c nan))
 unfolding tableInRange
 table-at high table zero t c a b = absurd (omega arith)
 table-at high table (suc w) t c a b =
     let last : Bool = between high (getD table (suc w) nan) in
-    ⊎-elim (λ (l : c < suc w). table-at high table w (and-l (tableInRange high table w) last t) c a (omega arith))
-    (λ (l : suc w ≤ c). let e : suc w ≡ c = omega arith in subst (λ (z : ℕ). T (between high (getD table z nan))) e (and-r (tableInRange high table w) last t)) (lt-or-le c (suc w))
+    ⊎-elim (λ (e : c ≡ suc w). subst (λ (z : ℕ). T (between high (getD table z nan))) (sym e) (and-r (tableInRange high table w) last t))
+    (λ (l : c < suc w). table-at high table w (and-l (tableInRange high table w) last t) c a (omega arith)) (eq-or-lt-of-le b)
 
 pub in-range : (S : Setup) → CheckedSetup S → T (inRange S) → InRange S
 unfolding inRange
