@@ -29,7 +29,7 @@ use Rattle.scans.proofs.Counting.{count-le}
 use Rattle.scans.proofs.Ring.{ring-index-at, queue-at, window-length, window-newest}
 use Rattle.scans.proofs.Touched.{counted-touched, touched-part}
 use Rattle.scans.proofs.Walk.{queued-below}
-use Rattle.scans.proofs.CarriedScan.{carried-forward, found-carried}
+use Rattle.scans.proofs.CarriedScan.{carried-forward, found-carried, uncertified}
 use Rattle.scans.proofs.QuickFind.{quick-inside, quick-find}
 
 -- Nothing is told.
@@ -40,7 +40,7 @@ carries-off S q b counts r k off =
 -- The quick scan b met no near tie, and its best place is at index j, where the carried scan c began.
 -- `counts` are those of the places from j on, the newest of which is e.
 module _ (S : Setup) (q₀ : List Place) (e : Place) (below : Below (kmers S) (q₀ ++ e ∷ [])) (b : BackwardState) (counts₀ : List ℕ) (k : ScansQuick S (q₀ ++ e ∷ []) (restOf b counts₀)) (clear : b .paused ≡ false)
-    (j : ℕ) (found : b .found ≡ suc j) (inside : j ≤ length q₀) (from : b .low ≤ j) (c : Carry) (on : c .on ≡ true) (carried : Carried S (drop j q₀) c) (low : lt (b .best ⊕ slack) (c .best) ≡ false)
+    (j : ℕ) (found : b .found ≡ suc j) (inside : j ≤ length q₀) (from : b .low ≤ j) (c : Carry) (on : c .on ≡ true) (carried : Carried S q₀ j c) (low : lt (b .best ⊕ slack) (c .best) ≡ false)
     (counts : List ℕ) (n : Counted (kmers S) counts (drop j (q₀ ++ e ∷ []))) (l : ℕ) (nth : l ≡ length (q₀ ++ e ∷ []) - j) where
   abbrev q : List Place
   q = q₀ ++ e ∷ []
@@ -57,17 +57,17 @@ module _ (S : Setup) (q₀ : List Place) (e : Place) (below : Below (kmers S) (q
   told : le (c .best) sl ≡ true → Answers S q (dustBackward S q) (record { found = b .found; carry = carriedAhead S l counts e c }) counts
   told high =
       let forward : dustForward S q j (b .best) ≡ o =
-      carried-forward S q₀ e j inside c on carried (b .best) (subst (λ (t : Bool). T (not t)) (sym low) tt) counts below n s sl refl (ap (λ (z : ℕ). s ⊖ fAt S z) nth) (subst T (sym high) tt) in
+      carried-forward S q₀ e j inside c on (carried .sums) (b .best) (subst (λ (t : Bool). T (not t)) (sym low) tt) counts below n s sl refl (ap (λ (z : ℕ). s ⊖ fAt S z) nth) (subst T (sym high) tt) in
       let some : 0 < length q = omega (arith, length-append q₀ (e ∷ [])) in
       let same : dustBackward S q ≡ record { find = at j; counts = counts } = quick-find S q below (restOf b counts₀) k clear j o found forward refl in
-      let begun : Carried S (drop j q) (carriedAhead S l counts e c) =
-      found-carried S q j (b .best) some (ap (λ (z : Forward). z .sums .found) forward) (carriedAhead S l counts e c) (ap (λ (z : Forward). z .sums .s) (sym forward)) (ap (λ (z : Forward). z .sums .best) (sym forward)) in
+      let begun : Carried S q j (carriedAhead S l counts e c) =
+      uncertified (found-carried S q j (b .best) some (ap (λ (z : Forward). z .sums .found) forward) (carriedAhead S l counts e c) (ap (λ (z : Forward). z .sums .s) (sym forward)) (ap (λ (z : Forward). z .sums .best) (sym forward))) refl in
       rw same
       (record {
         settles = record { find-is = rw found; counts-are = refl };
         begins = λ i z.
             let p : j ≡ i = omega arith in
-            (high, subst (λ (x : ℕ). Carried S (drop x q) (carriedAhead S l counts e c)) p begun);
+            (high, subst (λ (x : ℕ). Carried S q x (carriedAhead S l counts e c)) p begun);
         ends = λ z. absurd (let x : ⊥ = omega arith in x);
       })
 
@@ -127,7 +127,7 @@ module _ (p : Params) (ring : List ℕ) (head len : ℕ) (ln f : List Float) (co
       count-in x =
           omega (arith, start-counted .counted x, count-le x (drop start (window ring head len)), length-drop start (window ring head len), size, r .queued .len-in, r .ln-long)
 
-      pub carries-ahead : (c c′ : Carry) → c .on ≡ true → Carried S (drop start (window ring head (len - 1))) c → lt (b .best ⊕ slack) (c .best) ≡ false
+      pub carries-ahead : (c c′ : Carry) → c .on ≡ true → Carried S (window ring head (len - 1)) start c → lt (b .best ⊕ slack) (c .best) ≡ false
           → c′ ≡ carriedAhead S (len - start) counts (decode newest) c → CarriesAhead S (window ring head len) b c′ counts
       carries-ahead c c′ on carried low told =
           let q₀ : List Place = window ring head (len - 1) in

@@ -2,7 +2,7 @@
 use mathlib.Core.Path.{_≡_, refl, sym, ap, ap₂, _∙_, subst}
 use Prim.Native.Nat.{ℕ, _+_, _-_, _≤_, _<_}
 use native.Mathlib.Omega.{arith}
-use mathlib.Core.Bool.{Bool, true, false, cond, not}
+use mathlib.Core.Bool.{Bool, true, false, cond, not, true≢false}
 use mathlib.Core.List.{List, [], _∷_, _++_, append-nil}
 use lib.ListN.{length, drop, length-append, length-drop}
 use lib.Seq.{append-snoc, drop-append-le, ext-getD}
@@ -14,11 +14,12 @@ use Rattle.floats.proofs.Tests.{le-sure}
 use Rattle.floats.proofs.Sums.{zero-near}
 use Rattle.letters.specs.Place.{Place, ambiguous, plain, BelowAt, Below}
 use Rattle.scans.specs.declared.Carry.{Carry}
+use Rattle.scans.specs.declared.Certificate.{Certificate}
 use Rattle.scans.specs.Setup.{Setup, lnAt, fAt, kmers}
 use Rattle.scans.specs.Counts.{raise, cleared}
 use Rattle.scans.specs.Scans.{value, ForwardSums, forwardStart, forwardJudged, Forward, forwardFrom, dustForward}
 use Rattle.scans.specs.Terms.Window.{countedValue, CountsEntry}
-use Rattle.scans.specs.Terms.Carry.{wholeForward, Carried, carriedOn, CarriesOn}
+use Rattle.scans.specs.Terms.Carry.{wholeForward, Summed, Carried, newestScore}
 use Rattle.scans.proofs.Test.{by-test}
 use Rattle.scans.proofs.Values.{raised-value}
 use Rattle.scans.proofs.Counting.{hit-self, count-snoc, below-left, below-right, below-drop, Counted, raise-counted, cleared-counted}
@@ -27,6 +28,10 @@ use Rattle.scans.proofs.WholeScan.{sum, score, judged, whole, whole-ste
 
 pub counted-unique : (m : ℕ) (counts counts′ : List ℕ) (q : List Place) → Counted m counts q → Counted m counts′ q → counts ≡ counts′
 counted-unique m counts counts′ q c d = ext-getD 0 counts counts′ (c .long ∙ sym (d .long)) (λ i h. c .counted i ∙ sym (d .counted i))
+
+-- A certificate that is off says nothing.
+pub uncertified : {S : Setup} {q : List Place} {j : ℕ} {c : Carry} → Summed S (drop j q) c → c .certificate .on ≡ false → Carried S q j c
+uncertified sums off = record { sums = sums; certified = λ _. record { bounds = λ on. absurd (true≢false (sym on ∙ off)) } }
 
 module _ (S : Setup) where
   whole-counted : (seen es : List Place) (l i : ℕ) (a : ForwardSums) (counts : List ℕ) → Below (kmers S) es → Counted (kmers S) counts seen → Counted (kmers S) (whole S es l i a counts .counts) (seen ++ es)
@@ -43,7 +48,12 @@ module _ (S : Setup) where
 zero-self : T (le zero64 zero64)
 zero-self = le-sure zero-near zero-near (omega arith)
 
--- ---- One place more.
+-- ---- One place more: its value is added, and a score as high as the best is the new best. `counts` are those of the places before, and d is the new certificate.
+abbrev pub carriedOn : Setup → ℕ → List ℕ → Place → Carry → Certificate → Carry
+carriedOn S l counts e c d =
+    let sl : Float = newestScore S l counts e c in
+    record { on = c .on; s = c .s ⊕ (value S counts e ⊖ S .score-threshold); best = cond (le (c .best) sl) sl (c .best); certificate = d }
+
 module _ (S : Setup) (es : List Place) (e : Place) where
   abbrev W : Forward
   W = wholeForward S es
@@ -55,24 +65,24 @@ module _ (S : Setup) (es : List Place) (e : Place) where
       (subst (λ (b : Bool). T (not b)) (sym (never-above (W .sums .best))) tt)
       ∙ whole-step S e [] (length es + 1) (length es) (W .sums) (W .counts)
 
-  module _ (c : Carry) (counts : List ℕ) (k : Carried S es c) (b : Below (kmers S) es) (n : Counted (kmers S) counts es) where
+  module _ (c : Carry) (counts : List ℕ) (k : Summed S es c) (b : Below (kmers S) es) (n : Counted (kmers S) counts es) where
     whole-counts : W .counts ≡ counts
     whole-counts = counted-unique (kmers S) (W .counts) counts es (whole-forward-counted S es b) n
 
-    pub carried-next : Carried S (es ++ e ∷ []) (carriedOn S (length es + 1) counts e c)
-    carried-next =
+    pub carried-next : (d : Certificate) → Summed S (es ++ e ∷ []) (carriedOn S (length es + 1) counts e c d)
+    carried-next d =
         record {
           s-is = λ on. ap (λ (w : Forward). w .sums .s) whole-snoc ∙ judged-s S (W .sums) (sum S (W .sums) (W .counts) e) (score S (W .sums) (W .counts) e (length es + 1)) (length es) ∙ rw (k .s-is on, whole-counts);
           best-is = λ on. ap (λ (w : Forward). w .sums .best) whole-snoc ∙ judged-best S (W .sums) (sum S (W .sums) (W .counts) e) (score S (W .sums) (W .counts) e (length es + 1)) (length es) ∙ rw (k .s-is on, k .best-is on, whole-counts);
         }
 
 -- The code's step: v is the value of the counted place.
-pub carries-on : (S : Setup) (l : ℕ) (e : Place) (c : Carry) (counts counts′ : List ℕ) (v : Float) → CountsEntry (S .ln) counts e v counts′ → BelowAt (length counts) e → (t : Bool)
+pub carried-step : (S : Setup) (l : ℕ) (e : Place) (c : Carry) (d : Certificate) (counts counts′ : List ℕ) (v : Float) → CountsEntry (S .ln) counts e v counts′ → BelowAt (length counts) e → (t : Bool)
     → le (c .best) (c .s ⊕ (v ⊖ S .score-threshold) ⊖ fAt S l) ≡ t
-    → CarriesOn S l e c (record { on = c .on; s = c .s ⊕ (v ⊖ S .score-threshold); best = cond t (c .s ⊕ (v ⊖ S .score-threshold) ⊖ fAt S l) (c .best) }) counts counts′
-carries-on S l e c counts counts′ v k b t h =
+    → record { on = c .on; s = c .s ⊕ (v ⊖ S .score-threshold); best = cond t (c .s ⊕ (v ⊖ S .score-threshold) ⊖ fAt S l) (c .best); certificate = d } ≡ carriedOn S l counts e c d
+carried-step S l e c d counts counts′ v k b t h =
     let z : v ≡ value S counts e = k .value-is ∙ ap (λ (g : List ℕ). countedValue (S .ln) g e) (k .counts-are) ∙ raised-value S counts e b in
-    record { carry-is = rw (← h, z); counts-are = k .counts-are }
+    rw (← h, z)
 
 -- ---- The scan from index j of a window q whose newest place is e.
 last-step : (S : Setup) (limit : Float) (e : Place) (l i : ℕ) (a : ForwardSums) (counts : List ℕ) → forwardFrom S limit (e ∷ []) l i a counts ≡ record { sums = judged S a counts e l i; counts = raise counts e }
@@ -91,7 +101,7 @@ counted-value : (S : Setup) (m : ℕ) (es : List Place) (e : Place) (before afte
 counted-value S m es ambiguous before after c d = refl
 counted-value S m es (plain x) before after c d = ap (λ (z : ℕ). lnAt S z) (omega (arith, c .counted x, d .counted x, count-snoc x es (plain x), hit-self x))
 
-module _ (S : Setup) (q₀ : List Place) (e : Place) (j : ℕ) (inside : j ≤ length q₀) (c : Carry) (on : c .on ≡ true) (k : Carried S (drop j q₀) c) (m : Float) (low : T (not (lt (m ⊕ slack) (c .best)))) where
+module _ (S : Setup) (q₀ : List Place) (e : Place) (j : ℕ) (inside : j ≤ length q₀) (c : Carry) (on : c .on ≡ true) (k : Summed S (drop j q₀) c) (m : Float) (low : T (not (lt (m ⊕ slack) (c .best)))) where
   abbrev q : List Place
   q = q₀ ++ e ∷ []
 
@@ -163,7 +173,7 @@ module _ (S : Setup) (q : List Place) (j : ℕ) (m : Float) (some : 0 < length q
   found-alike : Alike S (dustForward S q j m) (wholeForward S (drop j q))
   found-alike = subst (λ (w : Forward). Alike S w (wholeForward S (drop j q))) (sym found-whole) (index-free S (drop j q) 1 j 0 forwardStart forwardStart (cleared S) refl refl)
 
-  pub found-carried : (c : Carry) → c .s ≡ dustForward S q j m .sums .s → c .best ≡ dustForward S q j m .sums .best → Carried S (drop j q) c
+  pub found-carried : (c : Carry) → c .s ≡ dustForward S q j m .sums .s → c .best ≡ dustForward S q j m .sums .best → Summed S (drop j q) c
   found-carried c ps pb = record { s-is = λ _. sym (ps ∙ found-alike .s-same); best-is = λ _. sym (pb ∙ found-alike .best-same) }
 
   pub found-counted : Below (kmers S) q → Counted (kmers S) (dustForward S q j m .counts) (drop j q)

@@ -41,7 +41,7 @@ module _ (S : Setup) (R : InRange S) where
   t = S .score-threshold
 
   -- What a place adds is the ln entry that it adds to the places read before.
-  value-added : (counts : List ℕ) (seen : List Place) (e : Place) → Counted (kmers S) counts seen → value S counts e ≡ added S seen e
+  pub value-added : (counts : List ℕ) (seen : List Place) (e : Place) → Counted (kmers S) counts seen → value S counts e ≡ added S seen e
   value-added counts seen ambiguous c = refl
   value-added counts seen (plain x) c = ap (λ (z : ℕ). lnAt S z) (omega (arith, c .counted x))
 

@@ -3,7 +3,7 @@ use mathlib.Core.Path.{_≡_, refl, subst}
 use mathlib.Core.Bool.{Bool, _&&_}
 use mathlib.Core.List.{List}
 use mathlib.Core.Logic.{⊎-elim}
-use Prim.Native.Nat.{ℕ, zero, suc, _+_, _-_, _*_, _^_, _≤_, _<_}
+use Prim.Native.Nat.{ℕ, zero, suc, _+_, _-_, _*_, _≤_, _<_}
 use native.Mathlib.Nat.{eq-or-lt-of-le}
 use native.Mathlib.Omega.{arith}
 use lib.ListN.{getD}
@@ -18,21 +18,14 @@ use Rattle.floats.proofs.Tests.{le-near}
 use Rattle.floats.specs.Value.{Finite}
 use Rattle.floats.proofs.Rounded.{Near, Ranged, eps, pos64}
 use Rattle.scans.specs.Setup.{Setup, lnAt, fAt}
+unfoldable pub use Rattle.scans.specs.Terms.Certified.{margin, unevenness}
 use Rattle.scans.specs.Terms.Shape.{fStep, usualTo, Usual}
 use Rattle.scans.proofs.Gain.{InRange}
 use Rattle.scans.proofs.Range.{in-range}
 
--- 2^-12, in units of 2^-1074.
-unfoldable pub margin : ℕ
-margin = 2 ^ 1062
-
 pub margin-eps : margin ≡ 4398046511104 * eps
 unfolding margin eps
 margin-eps = refl
-
--- 2^-31, by which differences of f may fall: four times what the roundings of two differences, compared as floats, come to.
-unfoldable pub unevenness : ℕ
-unevenness = 2 ^ 1043
 
 pub unevenness-eps : unevenness ≡ 8388608 * eps
 unfolding unevenness eps

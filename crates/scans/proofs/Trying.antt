@@ -12,6 +12,7 @@ use borrow.Author.Tests.{lt-ltb, le-ltb, eq-eqb, ne-eqb}
 use Rattle.letters.specs.Place.{Place}
 use Rattle.scans.specs.declared.forward.ForwardState.{ForwardState}
 use Rattle.scans.specs.declared.ForwardPosition.{ForwardPosition}
+use Rattle.scans.specs.declared.Carry.{Carry}
 use Rattle.scans.specs.declared.Scanned.{Scanned}
 use Rattle.scans.specs.declared.candidates.Trial.{Trial}
 use Rattle.scans.specs.Setup.{Setup}
@@ -19,9 +20,9 @@ use Rattle.scans.specs.Counts.{cleared}
 use Rattle.scans.specs.Scans.{none, at, Outcome, ForwardSums, Candidate, noCandidate, dustForward, tryFrom}
 use Rattle.scans.specs.Terms.Parts.{Finds}
 use Rattle.scans.specs.Terms.Search.{candidateOf, FreshTrial, Leads, NextTrial}
-use Rattle.scans.specs.Terms.Carry.{Carried, Touched, Answers}
+use Rattle.scans.specs.Terms.Carry.{begunCarry, Carried, Touched, Answers}
 use Rattle.scans.proofs.Touched.{dust-forward-touched}
-use Rattle.scans.proofs.CarriedScan.{found-carried}
+use Rattle.scans.proofs.CarriedScan.{found-carried, uncertified}
 
 -- No find.
 pub answers-none : (S : Setup) (q : List Place) (o : Outcome) (r : Scanned) (counts : List ℕ) → o .find ≡ none → (r .found ≡ 0) × (r .carry .on ≡ false) → counts ≡ cleared S → Answers S q o r counts
@@ -85,10 +86,11 @@ module _ (S : Setup) (q : List Place) where
       tried-here cs o here l = next cs o l ∙ rw (here, le-ltb (place + 1) (a .furthest) h, ← found-is, ← k .counts-are)
 
       pub trial-found : 0 < length q → st .found ≡ length q → (b : Trial) → b .left ≡ 0 → b .scanned .found ≡ place + 1
-          → (b .scanned .carry .on ≡ true) × (b .scanned .carry .s ≡ st .s) × (b .scanned .carry .best ≡ st .best) → NextTrial S q c a b counts counts′
+          → b .scanned .carry ≡ begunCarry (st .s) (st .best) → NextTrial S q c a b counts counts′
       trial-found entries e b over f y =
           let r : Scanned = b .scanned in
-          let carried = found-carried S q place score entries (sym found-is ∙ e) (r .carry) (y .1 ∙ ap (λ (z : ForwardSums). z .s) (k .sums-are)) (y .2 ∙ ap (λ (z : ForwardSums). z .best) (k .sums-are)) in
+          let sums = found-carried S q place score entries (sym found-is ∙ e) (r .carry) (ap (λ (z : Carry). z .s) y ∙ ap (λ (z : ForwardSums). z .s) (k .sums-are)) (ap (λ (z : Carry). z .best) y ∙ ap (λ (z : ForwardSums). z .best) (k .sums-are)) in
+          let carried : Carried S q place (r .carry) = uncertified sums (ap (λ (z : Carry). z .certificate .on) y) in
           record {
             less = omega arith;
             leads = λ cs o here l.
@@ -102,7 +104,7 @@ module _ (S : Setup) (q : List Place) where
                         settles = record { find-is = rw (f, add-one place); counts-are = refl };
                         begins = λ j z.
                             let p : place ≡ j = omega arith in
-                            (y .0, subst (λ (x : ℕ). Carried S (drop x q) (r .carry)) p carried);
+                            (ap (λ (z : Carry). z .on) y, subst (λ (x : ℕ). Carried S q x (r .carry)) p carried);
                         ends = λ z. absurd (let n : ⊥ = omega arith in n);
                       });
                 };

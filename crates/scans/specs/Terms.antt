@@ -3,6 +3,8 @@ pub mod Counted
 pub mod Shape
 pub mod Window
 pub mod Parts
+pub mod Certified
 pub mod Carry
 pub mod Search
 pub mod Fails
+pub mod Made

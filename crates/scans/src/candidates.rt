@@ -255,11 +255,7 @@ impl Trial {
                 furthest: len,
                 scanned: Scanned {
                     found: place + 1,
-                    carry: Carry {
-                        on: true,
-                        s: st.s,
-                        best: st.best,
-                    },
+                    carry: Carry::begun(st.s, st.best),
                 },
             };
         }

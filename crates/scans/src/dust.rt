@@ -2,7 +2,7 @@
 
 ghost use mathlib.Core.Path.{_≡_};
 ghost use Prim.Native.Nat.{_-_, _^_, _<_};
-ghost use lib.ListN.{length, drop, replicate};
+ghost use lib.ListN.{length, replicate};
 ghost use Rattle.scans.specs.Terms.Numbers.{setupOf};
 ghost use Rattle.scans.specs.Scans.{dustBackward};
 ghost use Rattle.scans.specs.Terms.Shape.{Shaped};
@@ -36,7 +36,7 @@ pub fn dust_backward(
     requires { ⌜ Windowed p (now queue) head len (now «window_counts») (length (now ln)) ⌝ }
     requires { ⌜ Roomy p (length (now f)) (length (now «scan_counts»)) (length (now candidates)) ⌝ }
     requires { ⌜ (0 < len) × (now «scan_counts» ≡ replicate (4 ^ p .kmer) 0) ⌝ }
-    requires { ⌜ Carried (setupOf p (now ln) (now f)) (drop start (window (now queue) head (len - 1))) carry ⌝ }
+    requires { ⌜ Carried (setupOf p (now ln) (now f)) (window (now queue) head (len - 1)) start carry ⌝ }
     requires { ⌜ Shaped p (now ln) (now f) ⌝ }
     ensures { λ r. ⌜ (let S = setupOf p (now (ln .entry)) (now (f .entry)) in let q = window (now (queue .entry)) head len in
         Answers S q (dustBackward S q) r (now («scan_counts» .exit))) ⌝ }

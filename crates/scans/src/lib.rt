@@ -11,19 +11,26 @@
 // | `dust_backward`, its first loop | candidates: `scan_backward`; backward: `backward_on` from peak to peak, a `backward_part` at a time |
 // | `dust_backward`, its second loop | candidates: `try_candidates`, unless fails: `none_ends` tells that it finds nothing |
 // | `dust_backward` as a whole | dust: `dust_backward`, which first asks quick: `find_quickly`, a fast form for the letters after a find |
+//
+// certain: `find_certain` leaves a search out where a certificate of the last find's start tells that it would find that start again; certify makes the certificate, kept keeps it.
 
 mod backward;
 mod candidates;
 mod carried;
+mod certain;
+mod certify;
 mod counts;
 mod dust;
 mod fails;
 mod forward;
+mod kept;
 mod limits;
 mod queue;
 mod quick;
 mod step;
 
+pub use carried::nothing;
+pub use certain::find_certain;
 pub use counts::count_entry;
 pub use counts::lower_entry;
 pub use dust::dust_backward;
@@ -59,6 +66,22 @@ pub struct Carry {
     pub on: bool,
     pub s: f64,
     pub best: f64,
+    pub certificate: Certificate,
+}
+
+// While it is on, the start of the carried scan is what a backward scan finds, wherever that scan is best at the newest entry.
+pub struct Certificate {
+    pub on: bool,
+    // How many letters it may still last.
+    pub left: usize,
+    // How many of the newest entries are near.
+    pub near: usize,
+    // At least the sum of their ln entries.
+    pub h: f64,
+    // At least each score of the other low entries.
+    pub u: f64,
+    // At most what the start scores above an older one.
+    pub gap: f64,
 }
 
 // One past the index found, 0 for none, and the scan that is carried on.

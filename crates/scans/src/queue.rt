@@ -5,7 +5,7 @@ ghost use Prim.Native.Nat.{_<_, _≤_};
 ghost use lib.ListN.{length, drop, replicate};
 ghost use Rattle.letters.specs.Terms.Entry.{decoded};
 ghost use Rattle.scans.specs.Terms.Counted.{Counted};
-ghost use Rattle.scans.specs.Terms.Window.{ringIndex, ringEnd, window};
+ghost use Rattle.scans.specs.Terms.Window.{ringIndex, ringEnd, window, newestIn};
 ghost use Rattle.scans.specs.Terms.Carry.{Touched};
 ghost use Rattle.scans.specs.Terms.Parts.{Queued, Coded, Walked};
 use crate::counts::lower_entry;
@@ -36,6 +36,15 @@ pub fn ring_end(window: usize, head: usize, j: usize) -> usize
         return i;
     }
     window
+}
+
+// The newest entry.
+pub fn newest_entry(queue: &[u32], head: usize, len: usize) -> u32
+    requires { ⌜ (head < length (now queue)) × (0 < len) × (len ≤ length (now queue)) × (length (now queue) ≤ 65535) ⌝ }
+    ensures { λ r. ⌜ r ≡ newestIn (now (queue .entry)) head len ⌝ }
+{
+    let at = ring_index(queue.len(), head, len - 1);
+    queue[at]
 }
 
 // Takes the entries of a straight part out of the scan counts.

@@ -3,7 +3,7 @@
 ghost use mathlib.Core.Path.{_≡_};
 ghost use mathlib.Core.Bool.{true};
 ghost use Prim.Native.Nat.{_-_, _^_, _<_};
-ghost use lib.ListN.{length, drop, replicate};
+ghost use lib.ListN.{length, replicate};
 ghost use Rattle.scans.specs.Terms.Numbers.{setupOf};
 ghost use Rattle.scans.specs.Terms.Window.{window, Windowed};
 ghost use Rattle.scans.specs.Terms.Carry.{Carried, CarriesAhead, FindsQuickly};
@@ -71,7 +71,7 @@ fn carry_ahead(
     requires { ⌜ Ringed (now queue) head len (length (now ln)) (length (now f)) (length (now «scan_counts»)) ⌝ }
     requires { ⌜ (0 < len) × (carry .on ≡ true) × (length (now «scan_counts») ≡ 4 ^ p .kmer) ⌝ }
     requires { ⌜ ScansQuick (setupOf p (now ln) (now f)) (window (now queue) head len) (restOf st (now «scan_counts»)) ⌝ }
-    requires { ⌜ Carried (setupOf p (now ln) (now f)) (drop start (window (now queue) head (len - 1))) carry ⌝ }
+    requires { ⌜ Carried (setupOf p (now ln) (now f)) (window (now queue) head (len - 1)) start carry ⌝ }
     ensures { λ r. ⌜ CarriesAhead (setupOf p (now (ln .entry)) (now (f .entry))) (window (now (queue .entry)) head len) st r
         (now («scan_counts» .exit)) ⌝ }
 {
@@ -109,7 +109,7 @@ pub fn find_quickly(
 ) -> Scanned
     requires { ⌜ Windowed p (now queue) head len (now «window_counts») (length (now ln)) ⌝ }
     requires { ⌜ (0 < len) × (p .«window_size» < length (now f)) × (now «scan_counts» ≡ replicate (4 ^ p .kmer) 0) ⌝ }
-    requires { ⌜ Carried (setupOf p (now ln) (now f)) (drop start (window (now queue) head (len - 1))) carry ⌝ }
+    requires { ⌜ Carried (setupOf p (now ln) (now f)) (window (now queue) head (len - 1)) start carry ⌝ }
     ensures { λ r. ⌜ FindsQuickly (setupOf p (now (ln .entry)) (now (f .entry))) (window (now (queue .entry)) head len) r
         (now («scan_counts» .exit)) ⌝ }
 {

@@ -4,7 +4,7 @@ use mathlib.Core.Bool.{Bool, true, false, not, true≢false}
 use mathlib.Core.List.{List, [], _∷_, _++_}
 use Prim.Native.Nat.{ℕ, zero, suc, _+_, _-_, _≤_, _<_}
 use native.Mathlib.Omega.{arith}
-use lib.ListN.{length, getD, drop, replicate, length-set, length-append, length-drop, length-replicate}
+use lib.ListN.{length, getD, drop, replicate, length-set, length-append, length-replicate}
 use lib.Seq.{drop-append-le}
 use lib.IntN.{ℤ, pos, negsuc, pos-ne-negsuc}
 use borrow.Author.Tests.{ne-eqb}
@@ -17,11 +17,12 @@ use Rattle.scans.specs.Counts.{raise, lower, cleared}
 use Rattle.scans.specs.Terms.Counted.{Counted}
 use Rattle.scans.specs.Scans.{Find, none, at, Outcome, dustBackward}
 use Rattle.scans.specs.Terms.Window.{findOf}
-use Rattle.scans.specs.Terms.Carry.{Carried, Touched, countsLeft, Answers, carriedOn}
-use Rattle.scans.proofs.Counting.{below-left, below-right, below-drop, raise-counted}
+use Rattle.scans.specs.Terms.Carry.{Carried, Touched, countsLeft, Answers, CarriesOn}
+use Rattle.scans.proofs.Counting.{below-right, raise-counted}
 use Rattle.scans.proofs.Touched.{touched-cleared, touched-none, counted-touched, touched-more, touched-raise, touched-lower, touched-part}
 use Rattle.scans.proofs.ForwardScore.{forward-inside}
-use Rattle.scans.proofs.CarriedScan.{carried-next, found-counted}
+use Rattle.scans.proofs.CarriedScan.{found-counted}
+use Rattle.scans.proofs.CertificateKept.{certified-left}
 use Rattle.scans.proofs.Finds.{backward-facts}
 use Rattle.strand.specs.Step.{whole, countsWithout, lastQWithout}
 use Rattle.strand.specs.declared.Window.{Window}
@@ -47,8 +48,12 @@ known-same k a l c =
 abbrev says : ℤ → Bool → Carry → Window
 says last live carry = record { sum = zero64; «last_q» = last; head = 0; len = 0; live = live; carry = carry }
 
-no-sums : {S : Setup} {es : List Place} {c : Carry} → c .on ≡ false → Carried S es c
-no-sums off = record { s-is = λ on. absurd (true≢false (sym on ∙ off)); best-is = λ on. absurd (true≢false (sym on ∙ off)) }
+no-sums : {S : Setup} {q : List Place} {j : ℕ} {c : Carry} → c .on ≡ false → Carried S q j c
+no-sums off =
+    record {
+      sums = record { s-is = λ on. absurd (true≢false (sym on ∙ off)); best-is = λ on. absurd (true≢false (sym on ∙ off)) };
+      certified = λ on. absurd (true≢false (sym on ∙ off));
+    }
 
 -- No scan count is above 0.
 known-clear : {S : Setup} {q : List Place} {last : ℤ} {c : Carry} {counts : List ℕ} → counts ≡ cleared S → c .on ≡ false → KnownCounts S q (says last false c) counts
@@ -77,7 +82,7 @@ known-touched l t off =
     }
 
 -- And a scan over them is carried.
-known-counted : {S : Setup} {q : List Place} {j : ℕ} {c : Carry} {counts : List ℕ} → j ≤ length q → Counted (kmers S) counts (drop j q) → Carried S (drop j q) c
+known-counted : {S : Setup} {q : List Place} {j : ℕ} {c : Carry} {counts : List ℕ} → j ≤ length q → Counted (kmers S) counts (drop j q) → Carried S q j c
     → KnownCounts S q (says (pos j) true c) counts
 known-counted {S} {q} {j} {counts = counts} l n s =
     record {
@@ -108,11 +113,11 @@ lower-cleared S (plain x) =
     touched-none (lower z (plain x)) (touched-lower z (plain x) [] (touched-cleared (kmers S) (plain x ∷ [])))
     ∙ ap (λ (n : ℕ). replicate n 0) (length-set z x (getD z x 0 - 1) ∙ length-replicate (kmers S) 0)
 
-oldest : (S : Setup) (e : Place) (q : List Place) (last : ℤ) (live : Bool) (c : Carry) (counts : List ℕ) → KnownCounts S (e ∷ q) (says last live c) counts
+oldest : (S : Setup) (e : Place) (q : List Place) (last : ℤ) (live : Bool) (c : Carry) (counts : List ℕ) → Below (kmers S) (e ∷ q) → suc (length q) ≤ S .window-size → KnownCounts S (e ∷ q) (says last live c) counts
     → KnownCounts S q (says (lastQWithout last) live (carryWithout last c)) (countsWithout last counts e)
-oldest S e q (pos zero) false c counts k = known-clear (ap (λ (z : List ℕ). lower z e) (k .clear refl) ∙ lower-cleared S e) refl
-oldest S e q (pos zero) true c counts k = known-touched (omega arith) (touched-lower counts e q (k .touched refl)) refl
-oldest S e q (pos (suc j)) live c counts k =
+oldest S e q (pos zero) false c counts b l k = known-clear (ap (λ (z : List ℕ). lower z e) (k .clear refl) ∙ lower-cleared S e) refl
+oldest S e q (pos zero) true c counts b l k = known-touched (omega arith) (touched-lower counts e q (k .touched refl)) refl
+oldest S e q (pos (suc j)) live c counts b within k =
     record {
       clear = k .clear;
       from = λ _. refl;
@@ -120,14 +125,14 @@ oldest S e q (pos (suc j)) live c counts k =
       touched = k .touched;
       live = k .live;
       counted = k .counted;
-      carried = k .carried;
+      carried = record { sums = k .carried .sums; certified = λ on. certified-left e q b within (k .carried .certified on) };
     }
-oldest S e q (negsuc j) false c counts k = known-clear (k .clear refl) (known-off k refl)
-oldest S e q (negsuc j) true c counts k = absurd (pos-ne-negsuc 0 j (sym (k .from refl)))
+oldest S e q (negsuc j) false c counts b l k = known-clear (k .clear refl) (known-off k refl)
+oldest S e q (negsuc j) true c counts b l k = absurd (pos-ne-negsuc 0 j (sym (k .from refl)))
 
-pub known-oldest : {S : Setup} {e : Place} {q : List Place} {w w′ : Window} {counts : List ℕ} → KnownCounts S (e ∷ q) w counts
+pub known-oldest : {S : Setup} {e : Place} {q : List Place} {w w′ : Window} {counts : List ℕ} → Below (kmers S) (e ∷ q) → suc (length q) ≤ S .window-size → KnownCounts S (e ∷ q) w counts
     → w′ .«last_q» ≡ lastQWithout (w .«last_q») → w′ .live ≡ w .live → w′ .carry ≡ carryWithout (w .«last_q») (w .carry) → KnownCounts S q w′ (countsWithout (w .«last_q») counts e)
-known-oldest {S} {e} {q} {w} {counts = counts} k a l c = known-same (oldest S e q (w .«last_q») (w .live) (w .carry) counts (known-same k refl refl refl)) a l c
+known-oldest {S} {e} {q} {w} {counts = counts} b h k a l c = known-same (oldest S e q (w .«last_q») (w .live) (w .carry) counts b h (known-same k refl refl refl)) a l c
 
 -- ---- The newest entry joins, and is no find.
 module _ {S : Setup} {q : List Place} {w : Window} {counts : List ℕ} (k : KnownCounts S q w counts) where
@@ -149,32 +154,26 @@ module _ {S : Setup} {q : List Place} {w : Window} {counts : List ℕ} (k : Know
         carried = no-sums off;
       }
 
-  known-next : (e : Place) → Below (kmers S) (q ++ e ∷ []) → w .carry .on ≡ true
-      → KnownCounts S (q ++ e ∷ []) (says (pos lastQ) true (carriedOn S (length (drop lastQ q) + 1) counts e (w .carry))) (raise counts e)
-  known-next e b on =
+  known-next : (e : Place) → Below (kmers S) (q ++ e ∷ []) → w .carry .on ≡ true → {c : Carry} {counts′ : List ℕ} → CarriesOn S q e lastQ (w .carry) c counts counts′
+      → KnownCounts S (q ++ e ∷ []) (says (pos lastQ) true c) counts′
+  known-next e b on {c} {counts′} next =
       let l = k .live on in
-      let es = drop lastQ q in
       let n = k .counted on in
-      let bes : Below (kmers S) es = below-drop (kmers S) lastQ q (below-left (kmers S) q (e ∷ []) b) in
       known-counted (omega (arith, k .inside l, length-append q (e ∷ [])))
-      (subst (λ (z : List Place). Counted (kmers S) (raise counts e) z) (sym (more e l)) (raise-counted (kmers S) counts es e (below-right (kmers S) q (e ∷ []) b .0) n))
-      (subst (λ (z : List Place). Carried S z (carriedOn S (length es + 1) counts e (w .carry))) (sym (more e l)) (carried-next S es e (w .carry) counts (k .carried) bes n))
+      (subst (λ (z : List ℕ). Counted (kmers S) z (drop lastQ (q ++ e ∷ []))) (sym (next .counts-are))
+      (subst (λ (z : List Place). Counted (kmers S) (raise counts e) z) (sym (more e l)) (raise-counted (kmers S) counts (drop lastQ q) e (below-right (kmers S) q (e ∷ []) b .0) n)))
+      (next .carries on n (k .carried))
 
-pub known-passed : {S : Setup} {q : List Place} {e : Place} {w w′ : Window} {counts counts′ : List ℕ} → Below (kmers S) (q ++ e ∷ []) → w .len ≡ length q + 1
-    → KnownCounts S q w counts → Passes S w e w′ counts counts′ → KnownCounts S (q ++ e ∷ []) w′ counts′
-known-passed {S} {q} {e} {w} {w′} {counts} {counts′} b n k p = go (w .carry .on) refl
+pub known-passed : {S : Setup} (q : List Place) {q′ : List Place} (e : Place) {w w′ : Window} {counts counts′ : List ℕ} → Below (kmers S) (q ++ e ∷ []) → q′ ≡ q ++ e ∷ []
+    → KnownCounts S q w counts → Passes S q′ w w′ counts counts′ → KnownCounts S (q ++ e ∷ []) w′ counts′
+known-passed {S} q e {w} {w′} {counts} {counts′} b joins k p = go (w .carry .on) refl
   where
     go : (t : Bool) → w .carry .on ≡ t → KnownCounts S (q ++ e ∷ []) w′ counts′
     go false off = rw (p .off off .0, p .off off .1) (known-uncounted k e off)
     go true on =
-        let j : ℕ = whole (w .«last_q») in
-        let same = p .on on .0 in
-        let next = p .on on .1 in
+        let same = p .same on in
         let l = k .live on in
-        let size : w .len - j ≡ length (drop j q) + 1 = omega (arith, n, k .inside l, length-drop j q) in
-        subst (λ (z : List ℕ). KnownCounts S (q ++ e ∷ []) w′ z) (sym (next .counts-are))
-        (known-same (known-next k e b on) (ap (λ (z : Window). z .«last_q») same ∙ k .from l) (ap (λ (z : Window). z .live) same ∙ l)
-        (next .carry-is ∙ ap (λ (z : ℕ). carriedOn S z counts e (w .carry)) size))
+        known-same (known-next k e b on (p .on on q e joins)) (ap (λ (z : Window). z .«last_q») same ∙ k .from l) (ap (λ (z : Window). z .live) same ∙ l) refl
 
 -- ---- A find by extension.
 pub known-extended : {S : Setup} {q : List Place} {w : Window} {counts : List ℕ} (x : ℕ) → KnownCounts S q w counts

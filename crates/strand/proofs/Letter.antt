@@ -165,8 +165,8 @@ module _ {p : Params} {ln f : List Float} {a a′ : State} {r : Sought} {ring wi
       }
 
 -- Without a find.
-pub passed-find : {p : Params} {ln f : List Float} {a a′ : State} {counts counts′ : List ℕ} (saved : List Interval)
-    → PassedOn p ln f a a′ counts counts′ → TakesFind (p .kmer) a (sought (a′ .window) 0) a′ saved saved
+pub passed-find : {p : Params} {ln f : List Float} {ring : List ℕ} {a a′ : State} {counts counts′ : List ℕ} (saved : List Interval)
+    → PassedOn p ln f ring a a′ counts counts′ → TakesFind (p .kmer) a (sought (a′ .window) 0) a′ saved saved
 passed-find saved t =
     record {
       kmer-is = t .kmer-is;

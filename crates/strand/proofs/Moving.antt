@@ -210,7 +210,7 @@ module _ {p : Params} {ln : List Float} {a b : Window} {ring counts scan-counts 
       (record {
         known = λ f k.
             rw (head-is, scan-is)
-            (known-oldest (subst (λ (z : List Place). KnownCounts (setupOf p ln f) z a scan-counts) (left-window w full) k) last-is refl refl);
+            (known-oldest (subst (λ (z : List Place). Below (4 ^ p .kmer) z) (left-window w full) (window-below w)) (omega (arith, ap length (left-window w full), long w, w .len-in)) (subst (λ (z : List Place). KnownCounts (setupOf p ln f) z a scan-counts) (left-window w full) k) last-is refl refl);
         run-is = λ f o saved.
             rw (le-leb (p .«window_size») (length q) (omega (arith, long w)), head-is, last-is, scan-is, sum-is)
             (rw (less-is (setupOf p ln f) counts q (w .counted) (a .sum) (decode (getD ring (a .head) 0)))

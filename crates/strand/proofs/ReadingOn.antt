@@ -14,7 +14,6 @@ use Rattle.intervals.specs.Interval.{Interval}
 use Rattle.scans.specs.declared.Params.{Params}
 use Rattle.scans.specs.Setup.{Setup}
 use Rattle.scans.specs.Terms.Numbers.{setupOf}
-use Rattle.scans.proofs.Windows.{long}
 use Rattle.strand.specs.Step.{Run, isAt, whole, step, runFrom}
 use Rattle.strand.specs.declared.Open.{Open}
 use Rattle.strand.specs.declared.State.{State}
@@ -36,11 +35,11 @@ run-turn S codes i a l = ap (λ (z : List Place). runFrom S i a z) (places-drop 
 
 -- A letter that is not searched from is no find.
 module _ {p : Params} {ln f : List Float} {a a′ : State} {ring window-counts counts counts′ : List ℕ} (n : Entered p ln f (a .window) (entryOf (p .kmer) (a .kmer)) ring window-counts counts)
-    (h : isSearched (p .«min_start_cnt») window-counts (newestOf p a) ≡ false) (t : PassedOn p ln f a a′ counts counts′) where
+    (h : isSearched (p .«min_start_cnt») window-counts (newestOf p a) ≡ false) (t : PassedOn p ln f ring a a′ counts counts′) where
   unfound : SeeksAt p ln f a ring counts (sought (a′ .window) 0) counts′
   unfound saved =
       seeks-passed (look-unsearched (setupOf p ln f) (a .i) (held a ring counts saved) (newestOf p a) window-counts (n .windowed .counted) h) (n .known) (n .newest) refl
-      (window-below (n .windowed)) (sym (long (n .windowed))) (t .passes)
+      (window-below (n .windowed)) (t .passes)
 
   passes-by : isAt (a .hand .end) (a .i + 1) ≡ false → (saved : List Interval) → Settled p ln f a a′ ring window-counts counts saved counts′ saved
   passes-by past saved = settles past (n .windowed) unfound (passed-find saved t)
@@ -71,7 +70,7 @@ module _ {p : Params} {codes : List ℕ} {ln f : List Float} {a a₁ : State} (l
         stops = λ _. record { before = a; ring₀ = ring; counts₀ = counts; skims = s; enters = n; searched = t };
       }
 
-  module _ (h : isSearched (p .«min_start_cnt») window-counts′ (newestOf p a₁) ≡ false) {a′ : State} {counts′ : List ℕ} (t : PassedOn p ln f a₁ a′ counts₁ counts′) where
+  module _ (h : isSearched (p .«min_start_cnt») window-counts′ (newestOf p a₁) ≡ false) {a′ : State} {counts′ : List ℕ} (t : PassedOn p ln f ring′ a₁ a′ counts₁ counts′) where
     i-after : a′ .i ≡ a .i + 1
     i-after = t .i-is ∙ ap (λ (i : ℕ). i + 1) (n .i-is)
 

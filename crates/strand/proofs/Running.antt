@@ -28,18 +28,18 @@ use Rattle.strand.specs.declared.Open.{Open}
 use Rattle.strand.specs.declared.State.{State}
 use Rattle.strand.specs.declared.Look.{Look}
 use Rattle.strand.specs.declared.Look.the-variants.{Pass, Extension, Scan}
-use Rattle.strand.specs.Terms.KnownCounts.{KnownCounts, Sought, sought, Passing, Clearing, extendedOf, answeredBy}
+use Rattle.strand.specs.Terms.KnownCounts.{KnownCounts, Sought, sought, Passing, extendedOf, answeredBy}
 use Rattle.strand.specs.Terms.Like.{Like}
 use Rattle.strand.specs.Terms.Entering.{held, newestOf, Entered}
 use Rattle.strand.specs.Terms.Searching.{Looks}
 use Rattle.strand.specs.Terms.Finding.{Closing, savedIn, Saving, TakesFind, PassedOn}
 use Rattle.strand.specs.Terms.ReadingOn.{unread, Skims, Stops}
-use Rattle.strand.specs.Terms.Running.{PartLent, StrandLent, Finished, StartOk, Shaped, Before, ScanAnswer, Due, StrandList}
+use Rattle.strand.specs.Terms.Running.{PartLent, StrandLent, Finished, StartOk, Shaped, Before, ScanAnswer, Asking, Due, StrandList}
 use Rattle.strand.proofs.Shape.{ShapedAt, shaped-more, saved-room, begin-shaped, step-shaped}
 use Rattle.strand.proofs.KnownCounts.{known-unread}
 use Rattle.strand.proofs.Like.{ended, like-refl, like-start, like-end, like-saved}
 use Rattle.strand.proofs.Moving.{window-below}
-use Rattle.strand.proofs.Searching.{passing, clearing, seeks-answered, looked-counts, seeks-passed, seeks-extended, seeks-scanned}
+use Rattle.strand.proofs.Searching.{passing, seeks-answered, looked-counts, seeks-passed, seeks-extended, seeks-scanned}
 use Rattle.strand.proofs.Letter.{Settled, SeeksAt, found-within, settles, passed-find, stepped}
 use Rattle.strand.proofs.ReadingOn.{run-turn}
 
@@ -200,14 +200,14 @@ module _ {p : Params} {codes : List ℕ} {ln f : List Float} {a : State} {ring�
 
   -- Nothing more.
   pub look-passing : {n-f : ℕ} → look ≡ Pass → length counts₁ ≡ 4 ^ p .kmer → p .«window_size» < n-f
-      → Passing p (r .window) (entryOf (p .kmer) (r .kmer)) (length ln) n-f counts₁
+      → Passing p (r .window) ring window-counts (length ln) n-f counts₁
   look-passing e = passing (entered-as (looked-counts (k []) e))
 
-  pub before-passed : {a′ : State} {counts′ : List ℕ} → look ≡ Pass → PassedOn p ln f r a′ counts₁ counts′ → Before p codes ln f a′ ring window-counts counts′ list
+  pub before-passed : {a′ : State} {counts′ : List ℕ} → look ≡ Pass → PassedOn p ln f ring r a′ counts₁ counts′ → Before p codes ln f a′ ring window-counts counts′ list
   before-passed {a′} e t =
       let saved = savedIn (r .hand .count) list in
       before-next {q = sought (a′ .window) 0}
-      (λ saved. seeks-passed (k saved) (entered .known) (entered .newest) e (window-below (entered .windowed)) (sym (long (entered .windowed))) (t .passes))
+      (λ saved. seeks-passed (k saved) (entered .known) (entered .newest) e (window-below (entered .windowed)) (t .passes))
       (subst (λ (o : Open). TakesFind (p .kmer) r (sought (a′ .window) 0) a′ saved (savedIn (o .count) list)) (sym (t .hand-is)) (passed-find saved t))
       (subst (λ (o : Open). o .count ≤ length list) (sym (t .hand-is ∙ stopped-hand v s l)) (v .count-in))
 
@@ -222,15 +222,24 @@ module _ {p : Params} {codes : List ℕ} {ln f : List Float} {a : State} {ring�
     abbrev entered-still : Entered p ln f (r .window) (entryOf (p .kmer) (r .kmer)) ring window-counts counts₁
     entered-still = entered-as (looked-counts (k []) e)
 
-    pub scan-clearing : length counts₁ ≡ 4 ^ p .kmer → Clearing (r .window) (window ring (r .window .head) (r .window .len)) counts₁
-    scan-clearing c = clearing (entered-still .known) (entered .windowed) refl c
+    pub scan-asking : length counts₁ ≡ 4 ^ p .kmer → p .«window_size» < length f → Asking p ln f (r .window) ring window-counts counts₁
+    scan-asking c h = record { some = entered .some; windowed = entered .windowed; known = entered-still .known; counts-is = c; f-long = h }
 
     answer-seeks : {b : Scanned} {counts′ : List ℕ} → ScanAnswer p ln f (r .window) ring b counts′
         → SeeksAt p ln f r ring counts (answeredBy (r .window) (b .found) (b .carry)) counts′
     answer-seeks h saved =
         seeks-scanned (k saved) e (seeks-answered (omega (arith, long (entered .windowed), entered .some)) (window-below (entered .windowed)) h refl)
 
-    pub due-scan : {counts₂ : List ℕ} → counts₂ ≡ replicate (length counts₁) 0 → length counts₁ ≡ 4 ^ p .kmer
+    -- A carried scan tells its answer.
+    pub answer-within : {b : Scanned} {counts′ : List ℕ} → ScanAnswer p ln f (r .window) ring b counts′ → b .found ≤ r .window .len
+    answer-within h = found-within (setupOf p ln f) (r .i) (r .hand) entered (answer-seeks h [])
+
+    pub before-answered : {b : Scanned} {a′ : State} {counts′ : List ℕ} {list′ : List (List ℕ)} → ScanAnswer p ln f (r .window) ring b counts′
+        → TakesFind (p .kmer) r (answeredBy (r .window) (b .found) (b .carry)) a′ (savedIn (r .hand .count) list) (savedIn (a′ .hand .count) list′)
+        → a′ .hand .count ≤ length list′ → Before p codes ln f a′ ring window-counts counts′ list′
+    before-answered {b} h = before-next {q = answeredBy (r .window) (b .found) (b .carry)} (answer-seeks h)
+
+    pub due-scan : {counts₂ : List ℕ} {n : ℕ} → counts₂ ≡ replicate n 0 → n ≡ 4 ^ p .kmer
         → Saving (r .hand) list → Due p codes ln f r ring window-counts counts₂ list
     due-scan y c can-save =
         record {
@@ -239,8 +248,8 @@ module _ {p : Params} {codes : List ℕ} {ln f : List Float} {a : State} {ring�
           clear = cleared-is c y;
           carried = entered-still .known .carried;
           saving = can-save;
-          within = λ b counts′ h. found-within (setupOf p ln f) (r .i) (r .hand) entered (answer-seeks h []);
-          leads = λ b a′ counts′ list′ h t. before-next {q = answeredBy (r .window) (b .found) (b .carry)} (answer-seeks h) t;
+          within = λ b counts′ h. answer-within h;
+          leads = λ b a′ counts′ list′ h t. before-answered h t;
         }
 
 -- The last interval is saved.

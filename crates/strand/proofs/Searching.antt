@@ -5,7 +5,7 @@ use mathlib.Core.Bool.{Bool, true, false, cond, _&&_, _||_, true≢false}
 use mathlib.Core.List.{List, [], _∷_, _++_}
 use Prim.Native.Nat.{ℕ, zero, suc, _+_, _-_, _/_, _%_, _^_, _≤_, _<_}
 use native.Mathlib.Omega.{arith}
-use lib.ListN.{length, getD, drop, replicate, length-append, length-drop}
+use lib.ListN.{length, getD, drop, replicate, length-drop}
 use lib.Seq.{drop-append-le}
 use lib.Dec.{leb, eqb}
 use lib.IntN.{ℤ, pos, _-ℤ_}
@@ -25,8 +25,9 @@ use Rattle.scans.specs.Setup.{Setup, kmers}
 use Rattle.scans.specs.Terms.Numbers.{setupOf}
 use Rattle.scans.specs.Counts.{count, raise}
 use Rattle.scans.specs.Scans.{Find, none, at, Outcome, extends, ifBackward, dustBackward}
+use Rattle.scans.specs.Terms.Counted.{Counted}
 use Rattle.scans.specs.Terms.Window.{queue, window, findOf, Windowed, Extends}
-use Rattle.scans.specs.Terms.Carry.{Touched, countsLeft, Answers, CarriesOn}
+use Rattle.scans.specs.Terms.Carry.{Carried, Touched, countsLeft, Answers, CarriesOn, FindsCertain}
 use Rattle.scans.proofs.Counting.{count-le}
 use Rattle.scans.proofs.Windows.{long}
 use Rattle.scans.proofs.Touched.{touched-more}
@@ -39,6 +40,7 @@ use Rattle.strand.specs.Terms.KnownCounts.{KnownCounts, Sought, Passing,
 use Rattle.strand.specs.Terms.Entering.{held, Entered}
 use Rattle.strand.specs.Terms.Searching.{isSearched, triedBy, Extended, lookBy, lookedAs, countsLooked, Looks}
 use Rattle.strand.specs.Terms.Finding.{lastQBy}
+use Rattle.strand.specs.Terms.Running.{Asking, Told}
 use Rattle.strand.proofs.Moving.{window-split, older-long}
 use Rattle.strand.proofs.KnownCounts.{known-passed, known-extended, known-answered}
 
@@ -133,46 +135,46 @@ module _ (S : Setup) (i : ℕ) (a : Run) (e : ℕ) where
         look-none s = rw h (record { outcome-is = rw (often, sym answer ∙ t, sym y ∙ s, counts-by t); counts-are = counts-by t })
 
 -- ---- No find: what the carried scan makes of the newest entry.
-module _ {S : Setup} {w : Window} {e : Place} {counts : List ℕ} where
-  pub passes-on : {l : ℕ} {carry : Carry} {counts′ : List ℕ} → w .carry .on ≡ true → l ≡ whole (w .«last_q») → CarriesOn S (w .len - l) e (w .carry) carry counts counts′
-      → Passes S w e (rescanned w (w .live) carry) counts counts′
+module _ {S : Setup} {q : List Place} {w : Window} {counts : List ℕ} where
+  pub passes-on : {l : ℕ} {carry : Carry} {counts′ : List ℕ} → w .carry .on ≡ true → l ≡ whole (w .«last_q»)
+      → ((q₀ : List Place) (e : Place) → q ≡ q₀ ++ e ∷ [] → CarriesOn S q₀ e l (w .carry) carry counts counts′) → Passes S q w (rescanned w (w .live) carry) counts counts′
   passes-on {carry = carry} {counts′} on l-is h =
       record {
         off = λ off. absurd (true≢false (sym on ∙ off));
-        on = λ _. (refl, subst (λ (l : ℕ). CarriesOn S (w .len - l) e (w .carry) carry counts counts′) l-is h);
+        same = λ _. refl;
+        on = λ _ q₀ e joins. subst (λ (l : ℕ). CarriesOn S q₀ e l (w .carry) carry counts counts′) l-is (h q₀ e joins);
       }
 
-  pub passes-off : w .carry .on ≡ false → Passes S w e w counts counts
-  passes-off off = record { off = λ _. (refl, refl); on = λ on. absurd (true≢false (sym on ∙ off)) }
+  pub passes-off : w .carry .on ≡ false → Passes S q w w counts counts
+  passes-off off = record { off = λ _. (refl, refl); same = λ _. refl; on = λ on. absurd (true≢false (sym on ∙ off)) }
 
 -- A carried scan can go on to an entry that has entered.
 pub passing : {p : Params} {ln f : List Float} {w : Window} {e n-f : ℕ} {ring window-counts counts : List ℕ} → Entered p ln f w e ring window-counts counts
-    → length counts ≡ 4 ^ p .kmer → p .«window_size» < n-f → Passing p w e (length ln) n-f counts
-passing {w = w} {e} {ring = ring} n c f =
+    → length counts ≡ 4 ^ p .kmer → p .«window_size» < n-f → Passing p w ring window-counts (length ln) n-f counts
+passing {w = w} {ring = ring} n c f =
     let k = n .known in
     let h = n .windowed in
     let q = window ring (w .head) (w .len - 1) in
     let j = whole (w .«last_q») in
     record {
-      some = n .some;
-      len-in = h .len-in;
-      small = h .small;
-      ln-long = h .ln-long;
       f-long = f;
-      below = omega (arith, n .below, c);
-      from = λ on. k .from (k .live on);
-      inside = λ on. omega (arith, k .inside (k .live on), older-long h);
-      few = λ on. omega (arith, k .counted on .counted (e / 2), count-le (e / 2) (drop j q), length-drop j q, older-long h, n .some);
+      joining = λ on. record {
+        windowed = h;
+        some = n .some;
+        long = c;
+        few = λ x. omega (arith, k .counted on .counted x, count-le x (drop j q), length-drop j q, older-long h, n .some);
+      };
+      inside = λ on. omega (arith, k .inside (k .live on), older-long h, n .some);
     }
 
-passes-same : {S : Setup} {w : Window} {e : Place} {w′ : Window} {counts counts′ : List ℕ} → Passes S w e w′ counts counts′
+passes-same : {S : Setup} {q : List Place} {w w′ : Window} {counts counts′ : List ℕ} → Passes S q w w′ counts counts′
     → w′ ≡ rescanned w (w′ .live) (w′ .carry)
 passes-same {w = w} {w′ = w′} h = go (w .carry .on) refl
   where
     go : (t : Bool) → w .carry .on ≡ t → w′ ≡ rescanned w (w′ .live) (w′ .carry)
     go false off = rw (h .off off .0)
     go true on =
-        let same = h .on on .0 in
+        let same = h .same on in
         same ∙ ap (λ (l : Bool). rescanned w l (w′ .carry)) (sym (ap (λ (z : Window). z .live) same))
 
 -- ---- The backward scan. Scan counts that places before the newest have raised are cleared with those of all.
@@ -196,6 +198,30 @@ module _ {S : Setup} {p : Params} {w : Window} {counts ring window-counts : List
         touched = λ on. rw e (touched-all refl on);
         clear = λ off. k .clear off ∙ ap (λ (n : ℕ). replicate n 0) (sym c);
       }
+
+-- What the carried scan tells of it.
+module _ {p : Params} {ln f : List Float} {w : Window} {ring window-counts counts : List ℕ} (a : Asking p ln f w ring window-counts counts) where
+  module _ (on : w .carry .on ≡ true) {l : ℕ} (l-is : l ≡ whole (w .«last_q»)) where
+    pub asks : (l < w .len) × (w .carry .on ≡ true) × (p .«window_size» < length f) × Counted (4 ^ p .kmer) counts (drop l (window ring (w .head) (w .len - 1)))
+    asks =
+        let k = a .known in
+        (omega (arith, l-is, k .inside (k .live on), older-long (a .windowed), a .some), on, a .f-long, subst (λ (j : ℕ). Counted (4 ^ p .kmer) counts (drop j (window ring (w .head) (w .len - 1)))) (sym l-is) (k .counted on))
+
+    pub asks-carried : Carried (setupOf p ln f) (window ring (w .head) (w .len - 1)) l (w .carry)
+    asks-carried = subst (λ (j : ℕ). Carried (setupOf p ln f) (window ring (w .head) (w .len - 1)) j (w .carry)) (sym l-is) (a .known .carried)
+
+    pub told-certain : {r : Scanned} {counts′ : List ℕ} → FindsCertain (setupOf p ln f) (window ring (w .head) (w .len)) l r counts′ → Told p ln f w ring r counts′
+    told-certain {r} {counts′} h =
+        record {
+          tells = h .tells;
+          clearing = λ z. record {
+            touched = λ _. (omega (arith, l-is, asks .0), subst (λ (j : ℕ). Touched counts′ (drop j (window ring (w .head) (w .len)))) l-is (h .touched z));
+            clear = λ off. absurd (true≢false (sym (a .known .live on) ∙ off));
+          };
+        }
+
+  pub told-none : {r : Scanned} → (r .found ≡ 0) × (r .carry .on ≡ false) → Told p ln f w ring r counts
+  told-none z = record { tells = λ n. absurd (n (z .0)); clearing = λ _. clearing (a .known) (a .windowed) refl (a .counts-is) }
 
 left-found : (S : Setup) (o : Outcome) (r : ℕ) → findOf r ≡ o .find → 0 < r → countsLeft S (o .find) (o .counts) ≡ o .counts
 left-found S o zero h l = absurd (let b : ⊥ = omega arith in b)
@@ -232,15 +258,14 @@ module _ {S : Setup} {i : ℕ} {a : Run} {e : Place} {r : Look} {counts : List �
   looked-counts t = h .counts-are ∙ ap (λ (z : Look). countsLooked z (a .counts) e) t
 
   module _ {q : List Place} {w : Window} (k : KnownCounts S q w (a .counts)) (newest : a .window ≡ q ++ e ∷ []) where
-    pub seeks-passed : {w′ : Window} {counts′ : List ℕ} → r ≡ Pass → Below (kmers S) (a .window) → w .len ≡ length (a .window) → Passes S w e w′ counts counts′
+    pub seeks-passed : {w′ : Window} {counts′ : List ℕ} → r ≡ Pass → Below (kmers S) (a .window) → Passes S (a .window) w w′ counts counts′
         → Seeks S (a .window) w (lookBy S i a e) (record { window = w′; found = 0 }) counts′
-    seeks-passed t b n p =
-        let long : w .len ≡ length q + 1 = omega (arith, n, ap length newest, length-append q (e ∷ [])) in
+    seeks-passed t b p =
         record {
           find-is = sym (ap (λ (o : Outcome). o .find) (outcome-by t));
           counts-are = λ l. absurd (let b : ⊥ = omega (arith, l) in b);
           known = rw newest
-              (known-passed (subst (λ (z : List Place). Below (kmers S) z) newest b) long (subst (λ (z : List ℕ). KnownCounts S q w z) (sym (looked-counts t)) k) p);
+              (known-passed q e (subst (λ (z : List Place). Below (kmers S) z) newest b) newest (subst (λ (z : List ℕ). KnownCounts S q w z) (sym (looked-counts t)) k) p);
           same = passes-same p;
         }
 

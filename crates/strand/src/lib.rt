@@ -5,7 +5,7 @@
 // | its locals, the window's ends | `State`: the rolling k-mer, the next letter, `Window` and `Open` |
 // | a turn of its loop up to the new entry | `State::enter`, with `Window::make_room` and `Window::join` |
 // | the tests before a search | `State::is_searched`, `State::look` |
-// | what follows a search | `State::passed`, `State::extended`, `State::answered` |
+// | what follows a search | `State::passed`, `State::extended`, `State::answered`; `Window::certain` leaves backward scans out |
 // | its loop | `skim` over letters that are not searched from, in `until_scan` over letters without a backward scan, in `inner_process` |
 
 ghost use mathlib.Core.Path.{_≡_};
@@ -31,7 +31,7 @@ ghost use Rattle.strand.specs.Terms.Entering.{held, newestOf, sumLess, s
 ghost use Rattle.strand.specs.Terms.Searching.{triedBy, Extended, isSearched, Looks};
 ghost use Rattle.strand.specs.Terms.Finding.{lastQBy, savedIn, Found, Saving, TakesFind, PassedOn};
 ghost use Rattle.strand.specs.Terms.ReadingOn.{unread, Read, Skimmed};
-ghost use Rattle.strand.specs.Terms.Running.{PartLent, StrandLent, Before, Reached, StrandList};
+ghost use Rattle.strand.specs.Terms.Running.{PartLent, StrandLent, Asking, Told, Before, Reached, StrandList};
 
 // ---- The window.
 
@@ -168,20 +168,64 @@ impl Window {
     fn passed(
         mut self,
         p: scans::Params,
-        entry: u32,
         ln: &[f64],
         f: &[f64],
+        queue: &[u32],
+        window_counts: &[u16],
         scan_counts: &mut [u16],
     ) -> Self
-        requires { ⌜ Passing p self entry (length (now ln)) (length (now f)) (now «scan_counts») ⌝ }
-        ensures { λ r. ⌜ Passes (setupOf p (now (ln .entry)) (now (f .entry))) self (decode entry) r
+        requires { ⌜ Passing p self (now queue) (now «window_counts») (length (now ln)) (length (now f)) (now «scan_counts») ⌝ }
+        ensures { λ r. ⌜ Passes (setupOf p (now (ln .entry)) (now (f .entry))) (window (now (queue .entry)) (self .head) (self .len)) self r
             (now («scan_counts» .entry)) (now («scan_counts» .exit)) ⌝ }
     {
         if self.carry.on {
-            let l = self.len - self.last_q_index();
-            self.carry = self.carry.next(p, l, entry, ln, f, scan_counts);
+            let from = self.last_q_index();
+            let carry = self.carry.next(
+                p,
+                from,
+                queue,
+                self.head,
+                self.len,
+                window_counts,
+                ln,
+                f,
+                scan_counts,
+            );
+            self.carry = carry.copied();
         }
         self
+    }
+
+    // The answer of the backward scan that is due, where a carried scan tells it.
+    fn certain(
+        self,
+        p: scans::Params,
+        ln: &[f64],
+        f: &[f64],
+        queue: &[u32],
+        window_counts: &[u16],
+        scan_counts: &mut [u16],
+    ) -> scans::Scanned
+        requires { ⌜ Asking p (now ln) (now f) self (now queue) (now «window_counts») (now «scan_counts») ⌝ }
+        requires { ⌜ Shaped p (now ln) (now f) ⌝ }
+        ensures { λ r. ⌜ Told p (now (ln .entry)) (now (f .entry)) self (now (queue .entry)) r (now («scan_counts» .exit)) ⌝ }
+    {
+        if self.carry.on {
+            let from = self.last_q_index();
+            return scans::find_certain(
+                p,
+                self.carry,
+                from,
+                queue,
+                self.head,
+                self.len,
+                window_counts,
+                ln,
+                f,
+                scan_counts,
+            );
+        }
+        scans::nothing()
     }
 
     // The window with the scan counts that a find by extension leaves.
@@ -407,13 +451,22 @@ impl State {
     }
 
     // Letter i is no find: a carried scan goes on to it.
-    fn passed(mut self, p: scans::Params, ln: &[f64], f: &[f64], scan_counts: &mut [u16]) -> Self
-        requires { ⌜ (self .kmer .value < 16777216) × (self .i < 2147483648) ⌝ }
-        requires { ⌜ Passing p (self .window) (entryOf (p .kmer) (self .kmer)) (length (now ln)) (length (now f)) (now «scan_counts») ⌝ }
-        ensures { λ r. ⌜ PassedOn p (now (ln .entry)) (now (f .entry)) self r (now («scan_counts» .entry)) (now («scan_counts» .exit)) ⌝ }
+    fn passed(
+        mut self,
+        p: scans::Params,
+        ln: &[f64],
+        f: &[f64],
+        queue: &[u32],
+        window_counts: &[u16],
+        scan_counts: &mut [u16],
+    ) -> Self
+        requires { ⌜ self .i < 2147483648 ⌝ }
+        requires { ⌜ Passing p (self .window) (now queue) (now «window_counts») (length (now ln)) (length (now f)) (now «scan_counts») ⌝ }
+        ensures { λ r. ⌜ PassedOn p (now (ln .entry)) (now (f .entry)) (now (queue .entry)) self r (now («scan_counts» .entry))
+            (now («scan_counts» .exit)) ⌝ }
     {
-        let entry = self.kmer.entry(p.kmer);
-        self.window = self.window.passed(p, entry, ln, f, scan_counts);
+        self.window = self.window
+            .passed(p, ln, f, queue, window_counts, scan_counts);
         self.i += 1;
         self
     }
@@ -555,7 +608,7 @@ fn skim(
         if st.is_searched(p, window_counts) {
             return st;
         }
-        st = st.passed(p, ln, f, scan_counts);
+        st = st.passed(p, ln, f, queue, window_counts, scan_counts);
     }
     st
 }
@@ -570,7 +623,7 @@ fn begin(window_counts: &mut [u16], scan_counts: &mut [u16]) -> State
     State::new()
 }
 
-// Goes on to the next letter whose backward scan is due, with cleared scan counts, or to the end.
+// Goes on to the next letter whose backward scan is due and has to be made, with cleared scan counts, or to the end.
 fn until_scan(
     p: scans::Params,
     from: State,
@@ -584,6 +637,7 @@ fn until_scan(
 ) -> State
     requires { ⌜ PartLent p (length (now codes)) (length (now f)) (length (now «scan_counts»)) (length (now list)) ⌝ }
     requires { ⌜ Before p (now codes) (now ln) (now f) from (now queue) (now «window_counts») (now «scan_counts») (now list) ⌝ }
+    requires { ⌜ Shaped p (now ln) (now f) ⌝ }
     ensures { λ r. ⌜ Reached p (now (codes .entry)) (now (ln .entry)) (now (f .entry)) (from .i) r
         (now (queue .exit)) (now («window_counts» .exit)) (now («scan_counts» .exit)) (now (list .exit)) ⌝ }
 {
@@ -597,6 +651,11 @@ fn until_scan(
         match look {
             Look::Scan => {
                 let window = st.window;
+                let r = window.certain(p, ln, f, queue, window_counts, scan_counts);
+                if r.found != 0 {
+                    st = st.answered(p, r, list);
+                    continue;
+                }
                 window.clear(queue, scan_counts);
                 return st;
             }
@@ -605,7 +664,7 @@ fn until_scan(
                 continue;
             }
             Look::Pass => {
-                st = st.passed(p, ln, f, scan_counts);
+                st = st.passed(p, ln, f, queue, window_counts, scan_counts);
                 continue;
             }
         }

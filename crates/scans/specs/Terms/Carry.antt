@@ -1,8 +1,8 @@
 -- A fast form of the forward scan of the paper, 'Step and scans': the last find's, carried on letter by letter, equals the forward scan over its places that no limit stops.
 -- The terms of its contracts, with those of the scan counts that a scan leaves.
 use mathlib.Core.Path.{_≡_}
-use mathlib.Core.Bool.{true, false, cond}
-use mathlib.Core.List.{List}
+use mathlib.Core.Bool.{true, false}
+use mathlib.Core.List.{List, [], _∷_, _++_}
 use Prim.Native.Nat.{ℕ, suc, _≤_}
 use lib.ListN.{getD, drop}
 use lib.Ieee.{Float, le, inf}
@@ -12,10 +12,12 @@ use Rattle.letters.specs.Place.{Place}
 use Rattle.scans.specs.declared.Carry.{Carry}
 use Rattle.scans.specs.declared.Scanned.{Scanned}
 use Rattle.scans.specs.declared.backward.BackwardState.{BackwardState}
-use Rattle.scans.specs.Setup.{Setup, fAt}
+use Rattle.scans.specs.Setup.{Setup, fAt, kmers}
 use Rattle.scans.specs.Counts.{count, raise, cleared}
 use Rattle.scans.specs.Scans.{Find, none, at, Outcome, value, Forward, forwardStart, forwardFrom, dustBackward}
+use Rattle.scans.specs.Terms.Counted.{Counted}
 use Rattle.scans.specs.Terms.Window.{countedValue, findOf}
+use Rattle.scans.specs.Terms.Certified.{noCertificate, Certified}
 
 -- The forward scan over all of the places: nothing is above its limit, so it is never stopped.
 abbrev pub wholeForward : Setup → List Place → Forward
@@ -23,12 +25,21 @@ wholeForward S es = forwardFrom S (inf false) es 1 0 forwardStart (cleared S)
 
 -- No scan is carried.
 abbrev pub noCarry : Carry
-noCarry = record { on = false; s = zero64; best = zero64 }
+noCarry = record { on = false; s = zero64; best = zero64; certificate = noCertificate }
 
--- While it is on, the carried sums are those of the forward scan over all of the places.
-pub record Carried (S : Setup) (es : List Place) (c : Carry) : Type 0 where
+-- A find's forward scan begins to be carried.
+abbrev pub begunCarry : (s best : Float) → Carry
+begunCarry s best = record { on = true; s = s; best = best; certificate = noCertificate }
+
+-- While it is on, the carried sums are those of the forward scan over all of the places es.
+pub record Summed (S : Setup) (es : List Place) (c : Carry) : Type 0 where
   pub s-is : c .on ≡ true → wholeForward S es .sums .s ≡ c .s
   pub best-is : c .on ≡ true → wholeForward S es .sums .best ≡ c .best
+
+-- Over the places of the window q from index j on, with a certificate of that start.
+pub record Carried (S : Setup) (q : List Place) (j : ℕ) (c : Carry) : Type 0 where
+  pub sums : Summed S (drop j q) c
+  pub certified : c .on ≡ true → Certified S q j (c .certificate)
 
 -- No count is above how often its k-mer stands among the places, so that a count above 0 is that of one of them.
 pub record Touched (counts : List ℕ) (es : List Place) : Type 0 where
@@ -46,26 +57,25 @@ pub record Settles (S : Setup) (o : Outcome) (r : ℕ) (counts : List ℕ) : Typ
 -- And a find begins a carried scan, of the places from the find on.
 pub record Answers (S : Setup) (q : List Place) (o : Outcome) (r : Scanned) (counts : List ℕ) : Type 0 where
   pub settles : Settles S o (r .found) counts
-  pub begins : (j : ℕ) → r .found ≡ suc j → (r .carry .on ≡ true) × Carried S (drop j q) (r .carry)
+  pub begins : (j : ℕ) → r .found ≡ suc j → (r .carry .on ≡ true) × Carried S q j (r .carry)
   pub ends : r .found ≡ 0 → r .carry .on ≡ false
 
--- One place more, the l-th of the scan: its value is added, and a score as high as the best is the new best. `counts` are those of the places before.
-abbrev pub carriedOn : Setup → ℕ → List ℕ → Place → Carry → Carry
-carriedOn S l counts e c =
-    let s : Float = c .s ⊕ (value S counts e ⊖ S .score-threshold) in
-    let sl : Float = s ⊖ fAt S l in
-    record { on = c .on; s = s; best = cond (le (c .best) sl) sl (c .best) }
-
--- The same with counts that have the place already; on only where the place is the best.
+-- The newest place e, the l-th of the scan, is added, with counts that have it already; on only where it is the best.
 abbrev pub carriedAhead : Setup → ℕ → List ℕ → Place → Carry → Carry
 carriedAhead S l counts e c =
     let s : Float = c .s ⊕ (countedValue (S .ln) counts e ⊖ S .score-threshold) in
     let sl : Float = s ⊖ fAt S l in
-    record { on = le (c .best) sl; s = s; best = sl }
+    record { on = le (c .best) sl; s = s; best = sl; certificate = noCertificate }
 
-pub record CarriesOn (S : Setup) (l : ℕ) (e : Place) (c c′ : Carry) (counts counts′ : List ℕ) : Type 0 where
-  pub carry-is : c′ ≡ carriedOn S l counts e c
+-- The score of a place e, the l-th of the scan; `counts` are those of the places before.
+abbrev pub newestScore : Setup → ℕ → List ℕ → Place → Carry → Float
+newestScore S l counts e c = c .s ⊕ (value S counts e ⊖ S .score-threshold) ⊖ fAt S l
+
+-- A place e joins the window q₀, and the scan from index j on is carried on to it.
+pub record CarriesOn (S : Setup) (q₀ : List Place) (e : Place) (j : ℕ) (c c′ : Carry) (counts counts′ : List ℕ) : Type 0 where
   pub counts-are : counts′ ≡ raise counts e
+  pub on-is : c′ .on ≡ c .on
+  pub carries : c .on ≡ true → Counted (kmers S) counts (drop j q₀) → Carried S q₀ j c → Carried S (q₀ ++ e ∷ []) j c′
 
 -- After the quick scan b of a window: a carried scan that is on tells the find, which is b's best place. Otherwise only entries that b read have touched the counts.
 pub record CarriesAhead (S : Setup) (q : List Place) (b : BackwardState) (r : Carry) (counts : List ℕ) : Type 0 where
@@ -76,3 +86,8 @@ pub record CarriesAhead (S : Setup) (q : List Place) (b : BackwardState) (r : Ca
 pub record FindsQuickly (S : Setup) (q : List Place) (r : Scanned) (counts : List ℕ) : Type 0 where
   pub tells : (r .found ≡ 0 → ⊥) → Answers S q (dustBackward S q) r counts
   pub clears : r .found ≡ 0 → counts ≡ cleared S
+
+-- A find that the certificate of the start at index j tells is the definition's; where it tells none, only places from j on have touched the counts.
+pub record FindsCertain (S : Setup) (q : List Place) (j : ℕ) (r : Scanned) (counts : List ℕ) : Type 0 where
+  pub tells : (r .found ≡ 0 → ⊥) → Answers S q (dustBackward S q) r counts
+  pub touched : r .found ≡ 0 → Touched counts (drop j q)

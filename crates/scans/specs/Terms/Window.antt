@@ -46,6 +46,17 @@ pub record Windowed (p : Params) (ring : List ℕ) (head len : ℕ) (window-coun
   pub below : (j : ℕ) → j < len → getD (queue ring head len) j 0 / 2 < 4 ^ p .kmer
   pub counted : (x : ℕ) → getD window-counts x 0 ≡ count x (window ring head len)
 
+-- The newest entry.
+abbrev pub newestIn : List ℕ → ℕ → ℕ → ℕ
+newestIn ring head len = getD (queue ring head len) (len - 1) 0
+
+-- The newest entry has joined the window, and is still to join the scan counts, none of which is as high as the window is long.
+pub record Joining (p : Params) (ring : List ℕ) (head len : ℕ) (window-counts : List ℕ) (ln-length : ℕ) (counts : List ℕ) : Type 0 where
+  pub windowed : Windowed p ring head len window-counts ln-length
+  pub some : 0 < len
+  pub long : length counts ≡ 4 ^ p .kmer
+  pub few : (x : ℕ) → getD counts x 0 < len
+
 -- The ln entry of a place's count, 0 if ambiguous.
 abbrev pub countedValue : List Float → List ℕ → Place → Float
 countedValue ln counts ambiguous = zero64

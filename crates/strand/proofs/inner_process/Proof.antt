@@ -61,7 +61,7 @@ until-scan-requires : tie.Need-until-scan-requires Inv-loop μ-loop
 until-scan-requires c κs =
     let g = c .before .before .before .before in
     let h = g .loop .inv in
-    (part-lent (start g .pre .0) (h .counts-are) (h .same-list), h .inv)
+    (part-lent (start g .pre .0) (h .counts-are) (h .same-list), (h .inv, start g .pre .1))
 
 close-requires : tie.Need-close-requires Inv-loop μ-loop
 close-requires c κs =

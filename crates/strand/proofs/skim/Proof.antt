@@ -81,16 +81,16 @@ returns c =
 
 passed-requires : tie.Need-passed-requires Inv-loop μ-loop
 passed-requires c κs =
-    let e = letter (c .before .before) in
+    let e = letter (c .before .before .before .before) in
     let b = start (looped e) .pre .0 in
     let n = enters e in
-    ((small n (b .0), omega (arith, n .i-is, tested e .if1 .taken, b .1)), passing (n .entered) (same-scan e ∙ b .3) (b .2))
+    (omega (arith, n .i-is, tested e .if1 .taken, b .1), passing (n .entered) (same-scan e ∙ b .3) (b .2))
 
 abbrev passed : tie.After-slice-known7 Inv-loop μ-loop → tie.After-passed Inv-loop μ-loop
 passed c = c .before .before
 
 abbrev unsearched : tie.After-passed Inv-loop μ-loop → tie.Else2 Inv-loop μ-loop
-unsearched c = c .before .before
+unsearched c = c .before .before .before .before
 
 loop-less : tie.Need-loop-less Inv-loop μ-loop
 loop-less c =
@@ -109,7 +109,7 @@ loop-again c =
       skims = skims-on l (enters e) not (x .ensures) (looped e .loop .inv .skims);
       same-queue = same-ring e;
       same-window-counts = same-window e;
-      same-scan-counts = x .kept .1 .1 .1 .1 .0 ∙ same-scan e;
+      same-scan-counts = x .kept .1 .1 .1 .1 .1 .1 .0 ∙ same-scan e;
     }
 
 returns-2 : tie.Need-returns-2 Inv-loop μ-loop

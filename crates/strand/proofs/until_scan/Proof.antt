@@ -13,7 +13,7 @@ use Rattle.strand.specs.Terms.Finding.{Saving}
 use Rattle.strand.specs.Terms.ReadingOn.{Stops}
 use Rattle.strand.specs.Terms.Running.{Before}
 use Rattle.strand.proofs.ReadingOn.{small}
-use Rattle.strand.proofs.Running.{saving, stopped-hand, stopped-further, inv-end, look-passing, scan-clearing, before-passed, before-extended, due-scan}
+use Rattle.strand.proofs.Running.{saving, stopped-hand, stopped-further, inv-end, look-passing, scan-asking, answer-within, before-answered, before-passed, before-extended, due-scan}
 use Rattle.strand.proofs.until_scan.Statement.{statement}
 use Rattle.strand.proofs.until_scan.Tie as tie
 
@@ -83,7 +83,7 @@ further c = stopped-further (looped (skimmed c) .loop .inv .inv) (stops c) (c .i
 loop-holds : tie.Need-loop-holds Inv-loop μ-loop
 loop-holds c =
     let b = c .before .before .before .before .before .before in
-    record { inv = b .pre .1; further = omega arith; same-queue = refl; same-window-counts = refl; same-scan-counts = refl; same-list = refl }
+    record { inv = b .pre .1 .0; further = omega arith; same-queue = refl; same-window-counts = refl; same-scan-counts = refl; same-list = refl }
 
 skim-requires : tie.Need-skim-requires Inv-loop μ-loop
 skim-requires c κs =
@@ -134,33 +134,100 @@ same-looked c = c .look .kept .1 .1 .1 .1 .1 .1 .0 ∙ same-scan (skimmed (stopp
 all-counts : (c : tie.After-look Inv-loop μ-loop) → length (c .look .last .1 .1 .1 .1 .1 .1 .0) ≡ 4 ^ start (looped (skimmed (stopped c))) .args .p .kmer
 all-counts c = same-looked c ∙ start (looped (skimmed (stopped c))) .pre .0 .counts-is
 
-clear-requires : tie.Need-clear-requires Inv-loop μ-loop
-clear-requires c κs =
-    let t = c .before .before .before in
+abbrev due-at : tie.After-certain Inv-loop μ-loop → tie.After-enum-told Inv-loop μ-loop
+due-at c = c .before .before .before .before .before
+
+abbrev told : tie.Then2 Inv-loop μ-loop → tie.After-certain Inv-loop μ-loop
+told c = c .before .before .before .before
+
+abbrev untold : tie.Else2 Inv-loop μ-loop → tie.After-certain Inv-loop μ-loop
+untold c = c .before .before .before .before
+
+certain-requires : tie.Need-certain-requires Inv-loop μ-loop
+certain-requires c κs =
+    let t = c .before .before .before .before in
     let l = scanning t in
     let x = stopped l in
-    let s = stops x in (
-      windowed-queued (s .enters .entered .windowed) (all-counts l),
-      scan-clearing (looped (skimmed x) .loop .inv .inv) s (x .if1 .left) (l .look .ensures) (t .enum-told .given .1) (all-counts l),
+    let g = looped (skimmed x) in
+    let b = start g .pre in
+    (scan-asking (g .loop .inv .inv) (stops x) (x .if1 .left) (l .look .ensures) (t .enum-told .given .1) (all-counts l) (b .0 .f-long), b .1 .1)
+
+-- The carried scan leaves the number of scan counts too.
+same-certain : (c : tie.After-certain Inv-loop μ-loop) → length (c .certain .last .1 .1 .1 .1 .1 .1 .0) ≡ length (start (looped (skimmed (stopped (scanning (due-at c))))) .args .scan-counts .now)
+same-certain c = c .certain .kept .1 .1 .1 .1 .1 .1 .0 ∙ same-looked (scanning (due-at c))
+
+certain-counts : (c : tie.After-certain Inv-loop μ-loop) → length (c .certain .last .1 .1 .1 .1 .1 .1 .0) ≡ 4 ^ start (looped (skimmed (stopped (scanning (due-at c))))) .args .p .kmer
+certain-counts c = same-certain c ∙ start (looped (skimmed (stopped (scanning (due-at c))))) .pre .0 .counts-is
+
+answered-requires : tie.Need-answered-requires Inv-loop μ-loop
+answered-requires c κs =
+    let d = c .before in
+    let k = told d in
+    let t = due-at k in
+    let l = scanning t in
+    let x = stopped l in
+    let g = looped (skimmed x) in
+    let w = stops x .enters .entered .windowed in (
+      (
+        omega (arith, letter-small x),
+        omega (arith, w .len-in, w .small),
+        answer-within (g .loop .inv .inv) (stops x) (x .if1 .left) (l .look .ensures) (t .enum-told .given .1) (k .certain .ensures .tells (d .if2 .taken)),
+        start g .pre .0 .kmer-small,
+      ),
+      can-save-there x,
     )
 
-abbrev cleared : tie.After-slice-known8 Inv-loop μ-loop → tie.After-clear Inv-loop μ-loop
+abbrev answer : tie.After-answered Inv-loop μ-loop → tie.Then2 Inv-loop μ-loop
+answer c = c .before .before
+
+loop-less : tie.Need-loop-less Inv-loop μ-loop
+loop-less c =
+    let y = c .before in
+    let x = stopped (scanning (due-at (told (answer y)))) in
+    omega (arith, x .if1 .left, further x, y .answered .ensures .0 .i-is)
+
+loop-again : tie.Need-loop-again Inv-loop μ-loop
+loop-again c =
+    let y = c .before in
+    let d = answer y in
+    let k = told d in
+    let t = due-at k in
+    let l = scanning t in
+    let x = stopped l in
+    let h = looped (skimmed x) .loop .inv in
+    record {
+      inv = before-answered (h .inv) (stops x) (x .if1 .left) (l .look .ensures) (t .enum-told .given .1) (k .certain .ensures .tells (d .if2 .taken)) (y .answered .ensures .0) (y .answered .ensures .1);
+      further = omega (arith, h .further, further x, y .answered .ensures .0 .i-is);
+      same-queue = same-ring (skimmed x);
+      same-window-counts = same-window (skimmed x);
+      same-scan-counts = same-certain k;
+      same-list = y .answered .kept .1 .1 .1 .0 ∙ h .same-list;
+    }
+
+clear-requires : tie.Need-clear-requires Inv-loop μ-loop
+clear-requires c κs =
+    let d = c .before .before in
+    let k = untold d in
+    (windowed-queued (stops (stopped (scanning (due-at k))) .enters .entered .windowed) (certain-counts k), k .certain .ensures .clearing (d .if2 .left))
+
+abbrev cleared : tie.After-slice-known9 Inv-loop μ-loop → tie.After-clear Inv-loop μ-loop
 cleared c = c .before .before
 
-abbrev due-at : tie.After-clear Inv-loop μ-loop → tie.After-look Inv-loop μ-loop
-due-at c = scanning (c .before .before .before .before)
+abbrev missed : tie.After-clear Inv-loop μ-loop → tie.After-certain Inv-loop μ-loop
+missed c = untold (c .before .before .before)
 
 returns-2 : tie.Need-returns-2 Inv-loop μ-loop
 returns-2 c =
     let d = cleared c in
-    let t = d .before .before .before .before in
+    let k = missed d in
+    let t = due-at k in
     let l = scanning t in
     let x = stopped l in
     let g = looped (skimmed x) in
     record {
       further = omega (arith, g .loop .inv .further, further x);
       ended = λ h. absurd (let b : ⊥ = omega (arith, h, x .if1 .left) in b);
-      due = λ _. due-scan (g .loop .inv .inv) (stops x) (x .if1 .left) (l .look .ensures) (t .enum-told .given .1) (d .clear .ensures) (all-counts l) (can-save-there x);
+      due = λ _. due-scan (g .loop .inv .inv) (stops x) (x .if1 .left) (l .look .ensures) (t .enum-told .given .1) (d .clear .ensures) (certain-counts k) (can-save-there x);
     }
 
 extended-requires : tie.Need-extended-requires Inv-loop μ-loop
@@ -171,20 +238,20 @@ extended-requires c κs =
     let w = n .windowed in
     ((omega (arith, letter-small x), omega (arith, w .len-in, w .small), omega (arith, n .some), b .kmer-small), can-save-there x)
 
-abbrev extended : tie.After-list Inv-loop μ-loop → tie.After-extended Inv-loop μ-loop
+abbrev extended : tie.After-list2 Inv-loop μ-loop → tie.After-extended Inv-loop μ-loop
 extended c = c .before
 
 abbrev extension : tie.After-extended Inv-loop μ-loop → tie.After-enum-told2 Inv-loop μ-loop
 extension c = c .before .before
 
-loop-less : tie.Need-loop-less Inv-loop μ-loop
-loop-less c =
+loop-less-2 : tie.Need-loop-less-2 Inv-loop μ-loop
+loop-less-2 c =
     let y = extended c in
     let x = stopped (extending (extension y)) in
     omega (arith, x .if1 .left, further x, y .extended .ensures .0 .i-is)
 
-loop-again : tie.Need-loop-again Inv-loop μ-loop
-loop-again c =
+loop-again-2 : tie.Need-loop-again-2 Inv-loop μ-loop
+loop-again-2 c =
     let y = extended c in
     let t = extension y in
     let l = extending t in
@@ -202,29 +269,29 @@ loop-again c =
 
 passed-requires : tie.Need-passed-requires Inv-loop μ-loop
 passed-requires c κs =
-    let t = c .before in
+    let t = c .before .before .before in
     let l = passing t in
     let x = stopped l in
     let g = looped (skimmed x) in
     let b = start g .pre .0 in (
-      (small (stops x .enters) (b .kmer-small), omega (arith, letter-small x)),
+      omega (arith, letter-small x),
       look-passing (g .loop .inv .inv) (stops x) (x .if1 .left) (l .look .ensures) (t .enum-told3 .given .1) (all-counts l) (b .f-long),
     )
 
-abbrev passed : tie.After-slice-known9 Inv-loop μ-loop → tie.After-passed Inv-loop μ-loop
+abbrev passed : tie.After-slice-known10 Inv-loop μ-loop → tie.After-passed Inv-loop μ-loop
 passed c = c .before .before
 
 abbrev no-find : tie.After-passed Inv-loop μ-loop → tie.After-enum-told3 Inv-loop μ-loop
-no-find c = c .before .before
+no-find c = c .before .before .before .before
 
-loop-less-2 : tie.Need-loop-less-2 Inv-loop μ-loop
-loop-less-2 c =
+loop-less-3 : tie.Need-loop-less-3 Inv-loop μ-loop
+loop-less-3 c =
     let y = passed c in
     let x = stopped (passing (no-find y)) in
     omega (arith, x .if1 .left, further x, y .passed .ensures .i-is)
 
-loop-again-2 : tie.Need-loop-again-2 Inv-loop μ-loop
-loop-again-2 c =
+loop-again-3 : tie.Need-loop-again-3 Inv-loop μ-loop
+loop-again-3 c =
     let y = passed c in
     let t = no-find y in
     let l = passing t in
@@ -236,7 +303,7 @@ loop-again-2 c =
       further = omega (arith, h .further, further x, y .passed .ensures .i-is);
       same-queue = same-ring k;
       same-window-counts = same-window k;
-      same-scan-counts = y .passed .kept .1 .1 .1 .1 .0 ∙ same-looked l;
+      same-scan-counts = y .passed .kept .1 .1 .1 .1 .1 .1 .0 ∙ same-looked l;
       same-list = h .same-list;
     }
 
@@ -255,17 +322,21 @@ until-scan-spec =
     returns
     look-requires
     (λ c. search needs)
+    certain-requires
+    answered-requires
+    loop-less
+    loop-again
     clear-requires
-    (λ c. same-ring (skimmed (stopped (due-at (cleared c)))))
-    (λ c. same-window (skimmed (stopped (due-at (cleared c)))))
-    (λ c. cleared c .clear .kept .1 .1 .0 ∙ same-looked (due-at (cleared c)))
-    (λ c. looped (skimmed (stopped (due-at (cleared c)))) .loop .inv .same-list)
+    (λ c. same-ring (skimmed (stopped (scanning (due-at (missed (cleared c)))))))
+    (λ c. same-window (skimmed (stopped (scanning (due-at (missed (cleared c)))))))
+    (λ c. cleared c .clear .kept .1 .1 .0 ∙ same-certain (missed (cleared c)))
+    (λ c. looped (skimmed (stopped (scanning (due-at (missed (cleared c)))))) .loop .inv .same-list)
     returns-2
     (λ c. search needs)
     extended-requires
-    loop-less
-    loop-again
+    loop-less-2
+    loop-again-2
     (λ c. search needs)
     passed-requires
-    loop-less-2
-    loop-again-2)
+    loop-less-3
+    loop-again-3)

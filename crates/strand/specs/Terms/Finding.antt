@@ -10,13 +10,12 @@ use Rattle.scans.specs.declared.Params.{Params}
 use Rattle.scans.specs.Terms.Numbers.{setupOf}
 use Rattle.scans.specs.Counts.{count}
 use Rattle.scans.specs.Scans.{Find, none, at}
-use Rattle.scans.specs.Terms.Window.{findOf}
+use Rattle.scans.specs.Terms.Window.{findOf, window}
 use Rattle.strand.specs.Step.{firstLetter, startAfter, saveFrom, savedAfter}
 use Rattle.strand.specs.declared.Window.{Window}
 use Rattle.strand.specs.declared.Open.{Open}
 use Rattle.strand.specs.declared.State.{State}
 use Rattle.strand.specs.Terms.KnownCounts.{Sought, Passes}
-use Rattle.strand.specs.Terms.Entering.{newestOf}
 
 abbrev pub lastQBy : Window → Find → Window
 lastQBy w none = w
@@ -64,8 +63,8 @@ pub record TakesFind (k : ℕ) (a : State) (r : Sought) (a′ : State) (saved sa
   pub found : Found k (a .i) (r .window .len) (a .hand) (a′ .hand) (findOf (r .found)) saved saved′
 
 -- Without a find.
-pub record PassedOn (p : Params) (ln f : List Float) (a a′ : State) (counts counts′ : List ℕ) : Type 0 where
+pub record PassedOn (p : Params) (ln f : List Float) (ring : List ℕ) (a a′ : State) (counts counts′ : List ℕ) : Type 0 where
   pub kmer-is : a′ .kmer ≡ a .kmer
   pub i-is : a′ .i ≡ a .i + 1
   pub hand-is : a′ .hand ≡ a .hand
-  pub passes : Passes (setupOf p ln f) (a .window) (newestOf p a) (a′ .window) counts counts′
+  pub passes : Passes (setupOf p ln f) (window ring (a .window .head) (a .window .len)) (a .window) (a′ .window) counts counts′

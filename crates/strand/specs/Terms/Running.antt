@@ -20,7 +20,7 @@ use Rattle.strand.specs.declared.Open.{Open}
 use Rattle.strand.specs.declared.State.{State}
 use Rattle.scans.specs.declared.Scanned.{Scanned}
 use Rattle.strand.specs.Terms.Like.{Like}
-use Rattle.strand.specs.Terms.KnownCounts.{answeredBy}
+use Rattle.strand.specs.Terms.KnownCounts.{KnownCounts, Clearing, answeredBy}
 use Rattle.strand.specs.Terms.Entering.{held}
 use Rattle.strand.specs.Terms.Finding.{savedIn, Saving, TakesFind}
 use Rattle.strand.specs.Terms.ReadingOn.{Read}
@@ -71,12 +71,24 @@ abbrev pub ScanAnswer : Params → (ln f : List Float) → Window → List ℕ �
 ScanAnswer p ln f w ring r counts′ =
     Answers (setupOf p ln f) (window ring (w .head) (w .len)) (dustBackward (setupOf p ln f) (window ring (w .head) (w .len))) r counts′
 
+-- What the carried scan asks to tell the answer, from the counts before the newest entry, and how it tells it: where it does not, the counts can be cleared.
+pub record Asking (p : Params) (ln f : List Float) (w : Window) (ring window-counts counts : List ℕ) : Type 0 where
+  pub some : 0 < w .len
+  pub windowed : Windowed p ring (w .head) (w .len) window-counts (length ln)
+  pub known : KnownCounts (setupOf p ln f) (window ring (w .head) (w .len - 1)) w counts
+  pub counts-is : length counts ≡ 4 ^ p .kmer
+  pub f-long : p .«window_size» < length f
+
+pub record Told (p : Params) (ln f : List Float) (w : Window) (ring : List ℕ) (r : Scanned) (counts : List ℕ) : Type 0 where
+  pub tells : (r .found ≡ 0 → ⊥) → ScanAnswer p ln f w ring r counts
+  pub clearing : r .found ≡ 0 → Clearing w (window ring (w .head) (w .len)) counts
+
 -- Whatever the answer, the run stands before the next letter when it is taken.
 pub record Due (p : Params) (codes : List ℕ) (ln f : List Float) (a : State) (ring window-counts counts : List ℕ) (list : List (List ℕ)) : Type 0 where
   pub some : 0 < a .window .len
   pub windowed : Windowed p ring (a .window .head) (a .window .len) window-counts (length ln)
   pub clear : counts ≡ replicate (4 ^ p .kmer) 0
-  pub carried : Carried (setupOf p ln f) (drop (whole (a .window .«last_q»)) (window ring (a .window .head) (a .window .len - 1))) (a .window .carry)
+  pub carried : Carried (setupOf p ln f) (window ring (a .window .head) (a .window .len - 1)) (whole (a .window .«last_q»)) (a .window .carry)
   pub saving : Saving (a .hand) list
   pub within : (r : Scanned) (counts′ : List ℕ) → ScanAnswer p ln f (a .window) ring r counts′ → r .found ≤ a .window .len
   pub leads : (r : Scanned) (a′ : State) (counts′ : List ℕ) (list′ : List (List ℕ)) → ScanAnswer p ln f (a .window) ring r counts′

@@ -99,58 +99,61 @@ abbrev y3 : Syntax.Ty
 y3 = Syntax.tyFloat Ieee.binary64
 
 abbrev y4 : Syntax.Ty
-y4 = Syntax.tyStruct (115 ∷ 99 ∷ 97 ∷ 110 ∷ 115 ∷ 58 ∷ 58 ∷ 67 ∷ 97 ∷ 114 ∷ 114 ∷ 121 ∷ []) (Syntax.tcons Syntax.tyBool (Syntax.tcons y3 (Syntax.tcons y3 Syntax.tnil)))
+y4 = Syntax.tyStruct (115 ∷ 99 ∷ 97 ∷ 110 ∷ 115 ∷ 58 ∷ 58 ∷ 67 ∷ 101 ∷ 114 ∷ 116 ∷ 105 ∷ 102 ∷ 105 ∷ 99 ∷ 97 ∷ 116 ∷ 101 ∷ []) (Syntax.tcons Syntax.tyBool (Syntax.tcons y1 (Syntax.tcons y1 (Syntax.tcons y3 (Syntax.tcons y3 (Syntax.tcons y3 Syntax.tnil))))))
 
 abbrev y5 : Syntax.Ty
-y5 = Syntax.tyStruct (115 ∷ 116 ∷ 114 ∷ 97 ∷ 110 ∷ 100 ∷ 58 ∷ 58 ∷ 87 ∷ 105 ∷ 110 ∷ 100 ∷ 111 ∷ 119 ∷ []) (Syntax.tcons y3 (Syntax.tcons y1 (Syntax.tcons y1 (Syntax.tcons y1 (Syntax.tcons Syntax.tyBool (Syntax.tcons y4 Syntax.tnil))))))
+y5 = Syntax.tyStruct (115 ∷ 99 ∷ 97 ∷ 110 ∷ 115 ∷ 58 ∷ 58 ∷ 67 ∷ 97 ∷ 114 ∷ 114 ∷ 121 ∷ []) (Syntax.tcons Syntax.tyBool (Syntax.tcons y3 (Syntax.tcons y3 (Syntax.tcons y4 Syntax.tnil))))
 
 abbrev y6 : Syntax.Ty
-y6 = Syntax.tyStruct (115 ∷ 116 ∷ 114 ∷ 97 ∷ 110 ∷ 100 ∷ 58 ∷ 58 ∷ 79 ∷ 112 ∷ 101 ∷ 110 ∷ []) (Syntax.tcons y1 (Syntax.tcons y1 (Syntax.tcons y1 Syntax.tnil)))
+y6 = Syntax.tyStruct (115 ∷ 116 ∷ 114 ∷ 97 ∷ 110 ∷ 100 ∷ 58 ∷ 58 ∷ 87 ∷ 105 ∷ 110 ∷ 100 ∷ 111 ∷ 119 ∷ []) (Syntax.tcons y3 (Syntax.tcons y1 (Syntax.tcons y1 (Syntax.tcons y1 (Syntax.tcons Syntax.tyBool (Syntax.tcons y5 Syntax.tnil))))))
 
 abbrev y7 : Syntax.Ty
-y7 = Syntax.tyStruct (115 ∷ 116 ∷ 114 ∷ 97 ∷ 110 ∷ 100 ∷ 58 ∷ 58 ∷ 83 ∷ 116 ∷ 97 ∷ 116 ∷ 101 ∷ []) (Syntax.tcons y2 (Syntax.tcons y1 (Syntax.tcons y5 (Syntax.tcons y6 Syntax.tnil))))
+y7 = Syntax.tyStruct (115 ∷ 116 ∷ 114 ∷ 97 ∷ 110 ∷ 100 ∷ 58 ∷ 58 ∷ 79 ∷ 112 ∷ 101 ∷ 110 ∷ []) (Syntax.tcons y1 (Syntax.tcons y1 (Syntax.tcons y1 Syntax.tnil)))
 
 abbrev y8 : Syntax.Ty
-y8 = Syntax.tyStruct (115 ∷ 99 ∷ 97 ∷ 110 ∷ 115 ∷ 58 ∷ 58 ∷ 83 ∷ 99 ∷ 97 ∷ 110 ∷ 110 ∷ 101 ∷ 100 ∷ []) (Syntax.tcons y1 (Syntax.tcons y4 Syntax.tnil))
+y8 = Syntax.tyStruct (115 ∷ 116 ∷ 114 ∷ 97 ∷ 110 ∷ 100 ∷ 58 ∷ 58 ∷ 83 ∷ 116 ∷ 97 ∷ 116 ∷ 101 ∷ []) (Syntax.tcons y2 (Syntax.tcons y1 (Syntax.tcons y6 (Syntax.tcons y7 Syntax.tnil))))
 
 abbrev y9 : Syntax.Ty
-y9 = Syntax.tyInt Syntax.w16
+y9 = Syntax.tyStruct (115 ∷ 99 ∷ 97 ∷ 110 ∷ 115 ∷ 58 ∷ 58 ∷ 83 ∷ 99 ∷ 97 ∷ 110 ∷ 110 ∷ 101 ∷ 100 ∷ []) (Syntax.tcons y1 (Syntax.tcons y5 Syntax.tnil))
 
 abbrev y10 : Syntax.Ty
-y10 = Syntax.tyRef Syntax.erased Syntax.mut y9
+y10 = Syntax.tyInt Syntax.w16
 
 abbrev y11 : Syntax.Ty
-y11 = Syntax.tyStruct (38 ∷ 91 ∷ 93 ∷ []) (Syntax.tcons y10 (Syntax.tcons y1 Syntax.tnil))
+y11 = Syntax.tyRef Syntax.erased Syntax.mut y10
 
 abbrev y12 : Syntax.Ty
-y12 = Syntax.tyRef Syntax.erased Syntax.mut y0
+y12 = Syntax.tyStruct (38 ∷ 91 ∷ 93 ∷ []) (Syntax.tcons y11 (Syntax.tcons y1 Syntax.tnil))
 
 abbrev y13 : Syntax.Ty
-y13 = Syntax.tyStruct (38 ∷ 91 ∷ 93 ∷ []) (Syntax.tcons y12 (Syntax.tcons y1 Syntax.tnil))
+y13 = Syntax.tyRef Syntax.erased Syntax.mut y0
 
 abbrev y14 : Syntax.Ty
-y14 = Syntax.tyRef Syntax.erased Syntax.mut (Syntax.tyArray y0 2)
+y14 = Syntax.tyStruct (38 ∷ 91 ∷ 93 ∷ []) (Syntax.tcons y13 (Syntax.tcons y1 Syntax.tnil))
 
 abbrev y15 : Syntax.Ty
-y15 = Syntax.tyStruct (38 ∷ 91 ∷ 93 ∷ []) (Syntax.tcons y14 (Syntax.tcons y1 Syntax.tnil))
+y15 = Syntax.tyRef Syntax.erased Syntax.mut (Syntax.tyArray y0 2)
 
 abbrev y16 : Syntax.Ty
-y16 = Syntax.tyRef Syntax.erased Syntax.imm y0
+y16 = Syntax.tyStruct (38 ∷ 91 ∷ 93 ∷ []) (Syntax.tcons y15 (Syntax.tcons y1 Syntax.tnil))
 
 abbrev y17 : Syntax.Ty
-y17 = Syntax.tyStruct (38 ∷ 91 ∷ 93 ∷ []) (Syntax.tcons y16 (Syntax.tcons y1 Syntax.tnil))
+y17 = Syntax.tyRef Syntax.erased Syntax.imm y0
 
 abbrev y18 : Syntax.Ty
-y18 = Syntax.tyRef Syntax.erased Syntax.imm y9
+y18 = Syntax.tyStruct (38 ∷ 91 ∷ 93 ∷ []) (Syntax.tcons y17 (Syntax.tcons y1 Syntax.tnil))
 
 abbrev y19 : Syntax.Ty
-y19 = Syntax.tyStruct (38 ∷ 91 ∷ 93 ∷ []) (Syntax.tcons y18 (Syntax.tcons y1 Syntax.tnil))
+y19 = Syntax.tyRef Syntax.erased Syntax.imm y10
 
 abbrev y20 : Syntax.Ty
-y20 = Syntax.tyRef Syntax.erased Syntax.mut (Rec·memory.pointee (Rec·type.the-row .written))
+y20 = Syntax.tyStruct (38 ∷ 91 ∷ 93 ∷ []) (Syntax.tcons y19 (Syntax.tcons y1 Syntax.tnil))
 
 abbrev y21 : Syntax.Ty
-y21 = Syntax.tyStruct (38 ∷ 91 ∷ 93 ∷ []) (Syntax.tcons y20 (Syntax.tcons y1 Syntax.tnil))
+y21 = Syntax.tyRef Syntax.erased Syntax.mut (Rec·memory.pointee (Rec·type.the-row .written))
+
+abbrev y22 : Syntax.Ty
+y22 = Syntax.tyStruct (38 ∷ 91 ∷ 93 ∷ []) (Syntax.tcons y21 (Syntax.tcons y1 Syntax.tnil))
 
 abbrev q5 : Rows·type.RattleType
 q5 = Declared.row State.the-type
@@ -173,74 +176,74 @@ e0 = (0, Rows.any-gone y1)
 abbrev e1 : Row.Entry
 e1 = (1, Rows.whole q0)
 
-abbrev y22 : Syntax.Ty
-y22 = Syntax.tyInt Syntax.w8
-
 abbrev y23 : Syntax.Ty
-y23 = Syntax.tyRef (Syntax.named 0) Syntax.imm y22
-
-abbrev e2 : Row.Entry
-e2 = (2, Rows.sslice q1 y23 0)
+y23 = Syntax.tyInt Syntax.w8
 
 abbrev y24 : Syntax.Ty
-y24 = Syntax.tyRef (Syntax.named 1) Syntax.imm y3
+y24 = Syntax.tyRef (Syntax.named 0) Syntax.imm y23
 
-abbrev e3 : Row.Entry
-e3 = (3, Rows.sslice q2 y24 1)
+abbrev e2 : Row.Entry
+e2 = (2, Rows.sslice q1 y24 0)
 
 abbrev y25 : Syntax.Ty
-y25 = Syntax.tyRef (Syntax.named 2) Syntax.imm y3
+y25 = Syntax.tyRef (Syntax.named 1) Syntax.imm y3
 
-abbrev e4 : Row.Entry
-e4 = (4, Rows.sslice q2 y25 2)
+abbrev e3 : Row.Entry
+e3 = (3, Rows.sslice q2 y25 1)
 
 abbrev y26 : Syntax.Ty
-y26 = Syntax.tyRef (Syntax.named 3) Syntax.mut y0
+y26 = Syntax.tyRef (Syntax.named 2) Syntax.imm y3
 
-abbrev e5 : Row.Entry
-e5 = (5, Mut.mslice q3 y26 3)
+abbrev e4 : Row.Entry
+e4 = (4, Rows.sslice q2 y26 2)
 
 abbrev y27 : Syntax.Ty
-y27 = Syntax.tyRef (Syntax.named 4) Syntax.mut y9
+y27 = Syntax.tyRef (Syntax.named 3) Syntax.mut y0
 
-abbrev e6 : Row.Entry
-e6 = (6, Mut.mslice q4 y27 4)
+abbrev e5 : Row.Entry
+e5 = (5, Mut.mslice q3 y27 3)
 
 abbrev y28 : Syntax.Ty
-y28 = Syntax.tyRef (Syntax.named 5) Syntax.mut y9
+y28 = Syntax.tyRef (Syntax.named 4) Syntax.mut y10
 
-abbrev e7 : Row.Entry
-e7 = (7, Mut.mslice q4 y28 5)
+abbrev e6 : Row.Entry
+e6 = (6, Mut.mslice q4 y28 4)
 
 abbrev y29 : Syntax.Ty
-y29 = Syntax.tyRef (Syntax.named 6) Syntax.mut (Rec·memory.pointee (Rec·type.the-row .written))
+y29 = Syntax.tyRef (Syntax.named 5) Syntax.mut y10
 
-abbrev e8 : Row.Entry
-e8 = (8, Mut.mslice Rec·type.the-row y29 6)
+abbrev e7 : Row.Entry
+e7 = (7, Mut.mslice q4 y29 5)
 
 abbrev y30 : Syntax.Ty
-y30 = Syntax.tyRef (Syntax.named 7) Syntax.mut (Syntax.tyArray y0 2)
+y30 = Syntax.tyRef (Syntax.named 6) Syntax.mut (Rec·memory.pointee (Rec·type.the-row .written))
+
+abbrev e8 : Row.Entry
+e8 = (8, Mut.mslice Rec·type.the-row y30 6)
+
+abbrev y31 : Syntax.Ty
+y31 = Syntax.tyRef (Syntax.named 7) Syntax.mut (Syntax.tyArray y0 2)
 
 abbrev e9 : Row.Entry
-e9 = (9, Mut.mslice (Array.Array q3 2) y30 7)
+e9 = (9, Mut.mslice (Array.Array q3 2) y31 7)
 
 abbrev e10 : Row.Entry
-e10 = (10, Rows.any-gone y7)
+e10 = (10, Rows.any-gone y8)
 
 abbrev e11 : Row.Entry
 e11 = (11, Rows.any-gone y1)
 
 abbrev e12 : Row.Entry
-e12 = (12, Rows.any-gone y8)
+e12 = (12, Rows.any-gone y9)
 
 abbrev e13 : Row.Entry
-e13 = (13, Rows.any-gone y10)
+e13 = (13, Rows.any-gone y11)
 
 abbrev e14 : Row.Entry
-e14 = (14, Rows.any-gone y11)
+e14 = (14, Rows.any-gone y12)
 
 abbrev e15 : Row.Entry
-e15 = (15, Rows.any-gone y10)
+e15 = (15, Rows.any-gone y11)
 
 abbrev c0 : List.List Row.Entry
 c0 = e0 ∷ e1 ∷ e2 ∷ e3 ∷ e4 ∷ e5 ∷ e6 ∷ e7 ∷ []
@@ -249,31 +252,31 @@ abbrev c1 : List.List Row.Entry
 c1 = e8 ∷ e9 ∷ e10 ∷ e11 ∷ e12 ∷ e13 ∷ e14 ∷ e15 ∷ []
 
 abbrev e16 : Row.Entry
-e16 = (16, Rows.any-gone y11)
+e16 = (16, Rows.any-gone y12)
 
 abbrev e17 : Row.Entry
-e17 = (17, Rows.any-gone y12)
+e17 = (17, Rows.any-gone y13)
 
 abbrev e18 : Row.Entry
-e18 = (18, Rows.any-gone y13)
+e18 = (18, Rows.any-gone y14)
 
 abbrev e19 : Row.Entry
-e19 = (19, Rows.any-gone y10)
+e19 = (19, Rows.any-gone y11)
 
 abbrev e20 : Row.Entry
-e20 = (20, Rows.any-gone y11)
+e20 = (20, Rows.any-gone y12)
 
 abbrev e21 : Row.Entry
-e21 = (21, Rows.any-gone y10)
+e21 = (21, Rows.any-gone y11)
 
 abbrev e22 : Row.Entry
-e22 = (22, Rows.any-gone y11)
+e22 = (22, Rows.any-gone y12)
 
 abbrev e23 : Row.Entry
-e23 = (23, Rows.any-gone y14)
+e23 = (23, Rows.any-gone y15)
 
 abbrev e24 : Row.Entry
-e24 = (24, Rows.any-gone y15)
+e24 = (24, Rows.any-gone y16)
 
 abbrev e25 : Row.Entry
 e25 = (25, Rows.any-gone y1)
@@ -282,19 +285,19 @@ abbrev e26 : Row.Entry
 e26 = (26, Rows.any-gone Syntax.tyBool)
 
 abbrev e27 : Row.Entry
-e27 = (27, Rows.any-gone y14)
+e27 = (27, Rows.any-gone y15)
 
 abbrev e28 : Row.Entry
-e28 = (28, Rows.any-gone y15)
+e28 = (28, Rows.any-gone y16)
 
 abbrev e29 : Row.Entry
-e29 = (29, Rows.any-gone y16)
+e29 = (29, Rows.any-gone y17)
 
 abbrev e30 : Row.Entry
-e30 = (30, Rows.any-gone y17)
+e30 = (30, Rows.any-gone y18)
 
 abbrev e31 : Row.Entry
-e31 = (31, Rows.any-gone y18)
+e31 = (31, Rows.any-gone y19)
 
 abbrev c2 : List.List Row.Entry
 c2 = e16 ∷ e17 ∷ e18 ∷ e19 ∷ e20 ∷ e21 ∷ e22 ∷ e23 ∷ []
@@ -303,25 +306,25 @@ abbrev c3 : List.List Row.Entry
 c3 = e24 ∷ e25 ∷ e26 ∷ e27 ∷ e28 ∷ e29 ∷ e30 ∷ e31 ∷ []
 
 abbrev e32 : Row.Entry
-e32 = (32, Rows.any-gone y19)
+e32 = (32, Rows.any-gone y20)
 
 abbrev e33 : Row.Entry
-e33 = (33, Rows.any-gone y10)
+e33 = (33, Rows.any-gone y11)
 
 abbrev e34 : Row.Entry
-e34 = (34, Rows.any-gone y11)
+e34 = (34, Rows.any-gone y12)
 
 abbrev e35 : Row.Entry
-e35 = (35, Rows.any-gone y20)
+e35 = (35, Rows.any-gone y21)
 
 abbrev e36 : Row.Entry
-e36 = (36, Rows.any-gone y21)
+e36 = (36, Rows.any-gone y22)
 
 abbrev e37 : Row.Entry
-e37 = (37, Rows.any-gone y14)
+e37 = (37, Rows.any-gone y15)
 
 abbrev e38 : Row.Entry
-e38 = (38, Rows.any-gone y15)
+e38 = (38, Rows.any-gone y16)
 
 abbrev c4 : List.List Row.Entry
 c4 = e32 ∷ e33 ∷ e34 ∷ e35 ∷ e36 ∷ e37 ∷ e38 ∷ []
@@ -332,20 +335,20 @@ z0 = Row.sInt Syntax.w64
 abbrev e39 : Row.Entry
 e39 = (0, Rows.sc-here z0)
 
-abbrev y31 : Syntax.Ty
-y31 = Syntax.tyStruct (115 ∷ 99 ∷ 97 ∷ 110 ∷ 115 ∷ 58 ∷ 58 ∷ 80 ∷ 97 ∷ 114 ∷ 97 ∷ 109 ∷ 115 ∷ []) (Syntax.tcons y1 (Syntax.tcons y1 (Syntax.tcons y9 (Syntax.tcons y3 (Syntax.tcons y3 (Syntax.tcons Syntax.tyBool (Syntax.tcons y0 (Syntax.tcons Syntax.tyBool Syntax.tnil))))))))
+abbrev y32 : Syntax.Ty
+y32 = Syntax.tyStruct (115 ∷ 99 ∷ 97 ∷ 110 ∷ 115 ∷ 58 ∷ 58 ∷ 80 ∷ 97 ∷ 114 ∷ 97 ∷ 109 ∷ 115 ∷ []) (Syntax.tcons y1 (Syntax.tcons y1 (Syntax.tcons y10 (Syntax.tcons y3 (Syntax.tcons y3 (Syntax.tcons Syntax.tyBool (Syntax.tcons y0 (Syntax.tcons Syntax.tyBool Syntax.tnil))))))))
 
 abbrev e40 : Row.Entry
-e40 = (1, Rows.any-gone y31)
+e40 = (1, Rows.any-gone y32)
 
 abbrev c5 : List.List Row.Entry
 c5 = e39 ∷ e40 ∷ e2 ∷ e3 ∷ e4 ∷ e5 ∷ e6 ∷ e7 ∷ []
 
 abbrev e41 : Row.Entry
-e41 = (6, Relend.mslice-owed q4 y27 4 8 Row.off)
+e41 = (6, Relend.mslice-owed q4 y28 4 8 Row.off)
 
 abbrev e42 : Row.Entry
-e42 = (13, Relend.msptr q4 y10 8)
+e42 = (13, Relend.msptr q4 y11 8)
 
 abbrev c6 : List.List Row.Entry
 c6 = e0 ∷ e1 ∷ e2 ∷ e3 ∷ e4 ∷ e5 ∷ e41 ∷ e7 ∷ []
@@ -354,16 +357,16 @@ abbrev c7 : List.List Row.Entry
 c7 = e8 ∷ e9 ∷ e10 ∷ e11 ∷ e12 ∷ e42 ∷ e14 ∷ e15 ∷ []
 
 abbrev e43 : Row.Entry
-e43 = (14, Mut.mslice q4 y10 8)
+e43 = (14, Mut.mslice q4 y11 8)
 
 abbrev c8 : List.List Row.Entry
 c8 = e8 ∷ e9 ∷ e10 ∷ e11 ∷ e12 ∷ e13 ∷ e43 ∷ e15 ∷ []
 
 abbrev e44 : Row.Entry
-e44 = (7, Relend.mslice-owed q4 y28 5 9 Row.off)
+e44 = (7, Relend.mslice-owed q4 y29 5 9 Row.off)
 
 abbrev e45 : Row.Entry
-e45 = (15, Relend.msptr q4 y10 9)
+e45 = (15, Relend.msptr q4 y11 9)
 
 abbrev c9 : List.List Row.Entry
 c9 = e0 ∷ e1 ∷ e2 ∷ e3 ∷ e4 ∷ e5 ∷ e41 ∷ e44 ∷ []
@@ -372,7 +375,7 @@ abbrev c10 : List.List Row.Entry
 c10 = e8 ∷ e9 ∷ e10 ∷ e11 ∷ e12 ∷ e13 ∷ e43 ∷ e45 ∷ []
 
 abbrev e46 : Row.Entry
-e46 = (16, Mut.mslice q4 y10 9)
+e46 = (16, Mut.mslice q4 y11 9)
 
 abbrev c11 : List.List Row.Entry
 c11 = e46 ∷ e17 ∷ e18 ∷ e19 ∷ e20 ∷ e21 ∷ e22 ∷ e23 ∷ []
@@ -381,13 +384,13 @@ abbrev e47 : Row.Entry
 e47 = (10, Rows.whole q5)
 
 abbrev e48 : Row.Entry
-e48 = (14, Mut.msleft q4 y10)
+e48 = (14, Mut.msleft q4 y11)
 
 abbrev c12 : List.List Row.Entry
 c12 = e8 ∷ e9 ∷ e47 ∷ e11 ∷ e12 ∷ e13 ∷ e48 ∷ e15 ∷ []
 
 abbrev e49 : Row.Entry
-e49 = (16, Mut.msleft q4 y10)
+e49 = (16, Mut.msleft q4 y11)
 
 abbrev c13 : List.List Row.Entry
 c13 = e49 ∷ e17 ∷ e18 ∷ e19 ∷ e20 ∷ e21 ∷ e22 ∷ e23 ∷ []
@@ -399,88 +402,88 @@ abbrev c15 : List.List Row.Entry
 c15 = e8 ∷ e9 ∷ e47 ∷ e11 ∷ e12 ∷ e13 ∷ e14 ∷ e15 ∷ []
 
 abbrev e50 : Row.Entry
-e50 = (5, Relend.mslice-owed q3 y26 3 10 Row.off)
+e50 = (5, Relend.mslice-owed q3 y27 3 10 Row.off)
 
 abbrev c16 : List.List Row.Entry
 c16 = e0 ∷ e1 ∷ e2 ∷ e3 ∷ e4 ∷ e50 ∷ e6 ∷ e7 ∷ []
 
 abbrev e51 : Row.Entry
-e51 = (17, Relend.msptr q3 y12 10)
+e51 = (17, Relend.msptr q3 y13 10)
 
 abbrev c17 : List.List Row.Entry
 c17 = e16 ∷ e51 ∷ e18 ∷ e19 ∷ e20 ∷ e21 ∷ e22 ∷ e23 ∷ []
 
 abbrev e52 : Row.Entry
-e52 = (18, Mut.mslice q3 y12 10)
+e52 = (18, Mut.mslice q3 y13 10)
 
 abbrev c18 : List.List Row.Entry
 c18 = e16 ∷ e17 ∷ e52 ∷ e19 ∷ e20 ∷ e21 ∷ e22 ∷ e23 ∷ []
 
 abbrev e53 : Row.Entry
-e53 = (6, Relend.mslice-owed q4 y27 4 11 Row.off)
+e53 = (6, Relend.mslice-owed q4 y28 4 11 Row.off)
 
 abbrev c19 : List.List Row.Entry
 c19 = e0 ∷ e1 ∷ e2 ∷ e3 ∷ e4 ∷ e50 ∷ e53 ∷ e7 ∷ []
 
 abbrev e54 : Row.Entry
-e54 = (19, Relend.msptr q4 y10 11)
+e54 = (19, Relend.msptr q4 y11 11)
 
 abbrev c20 : List.List Row.Entry
 c20 = e16 ∷ e17 ∷ e52 ∷ e54 ∷ e20 ∷ e21 ∷ e22 ∷ e23 ∷ []
 
 abbrev e55 : Row.Entry
-e55 = (20, Mut.mslice q4 y10 11)
+e55 = (20, Mut.mslice q4 y11 11)
 
 abbrev c21 : List.List Row.Entry
 c21 = e16 ∷ e17 ∷ e52 ∷ e19 ∷ e55 ∷ e21 ∷ e22 ∷ e23 ∷ []
 
 abbrev e56 : Row.Entry
-e56 = (7, Relend.mslice-owed q4 y28 5 12 Row.off)
+e56 = (7, Relend.mslice-owed q4 y29 5 12 Row.off)
 
 abbrev c22 : List.List Row.Entry
 c22 = e0 ∷ e1 ∷ e2 ∷ e3 ∷ e4 ∷ e50 ∷ e53 ∷ e56 ∷ []
 
 abbrev e57 : Row.Entry
-e57 = (21, Relend.msptr q4 y10 12)
+e57 = (21, Relend.msptr q4 y11 12)
 
 abbrev c23 : List.List Row.Entry
 c23 = e16 ∷ e17 ∷ e52 ∷ e19 ∷ e55 ∷ e57 ∷ e22 ∷ e23 ∷ []
 
 abbrev e58 : Row.Entry
-e58 = (22, Mut.mslice q4 y10 12)
+e58 = (22, Mut.mslice q4 y11 12)
 
 abbrev c24 : List.List Row.Entry
 c24 = e16 ∷ e17 ∷ e52 ∷ e19 ∷ e55 ∷ e21 ∷ e58 ∷ e23 ∷ []
 
 abbrev e59 : Row.Entry
-e59 = (9, Relend.mslice-owed (Array.Array q3 2) y30 7 13 Row.off)
+e59 = (9, Relend.mslice-owed (Array.Array q3 2) y31 7 13 Row.off)
 
 abbrev c25 : List.List Row.Entry
 c25 = e8 ∷ e59 ∷ e47 ∷ e11 ∷ e12 ∷ e13 ∷ e14 ∷ e15 ∷ []
 
 abbrev e60 : Row.Entry
-e60 = (23, Relend.msptr (Array.Array q3 2) y14 13)
+e60 = (23, Relend.msptr (Array.Array q3 2) y15 13)
 
 abbrev c26 : List.List Row.Entry
 c26 = e16 ∷ e17 ∷ e52 ∷ e19 ∷ e55 ∷ e21 ∷ e58 ∷ e60 ∷ []
 
 abbrev e61 : Row.Entry
-e61 = (24, Mut.mslice (Array.Array q3 2) y14 13)
+e61 = (24, Mut.mslice (Array.Array q3 2) y15 13)
 
 abbrev c27 : List.List Row.Entry
 c27 = e61 ∷ e25 ∷ e26 ∷ e27 ∷ e28 ∷ e29 ∷ e30 ∷ e31 ∷ []
 
 abbrev e62 : Row.Entry
-e62 = (18, Mut.msleft q3 y12)
+e62 = (18, Mut.msleft q3 y13)
 
 abbrev e63 : Row.Entry
-e63 = (20, Mut.msleft q4 y10)
+e63 = (20, Mut.msleft q4 y11)
 
 abbrev e64 : Row.Entry
-e64 = (22, Mut.msleft q4 y10)
+e64 = (22, Mut.msleft q4 y11)
 
 abbrev e65 : Row.Entry
-e65 = (24, Mut.msleft (Array.Array q3 2) y14)
+e65 = (24, Mut.msleft (Array.Array q3 2) y15)
 
 abbrev c28 : List.List Row.Entry
 c28 = e16 ∷ e17 ∷ e62 ∷ e19 ∷ e63 ∷ e21 ∷ e64 ∷ e23 ∷ []
@@ -519,25 +522,25 @@ abbrev c37 : List.List Row.Entry
 c37 = e0 ∷ e40 ∷ e2 ∷ e3 ∷ e4 ∷ e5 ∷ e6 ∷ e7 ∷ []
 
 abbrev e68 : Row.Entry
-e68 = (9, Relend.mslice-owed (Array.Array q3 2) y30 7 14 Row.off)
+e68 = (9, Relend.mslice-owed (Array.Array q3 2) y31 7 14 Row.off)
 
 abbrev c38 : List.List Row.Entry
 c38 = e8 ∷ e68 ∷ e47 ∷ e11 ∷ e12 ∷ e13 ∷ e14 ∷ e15 ∷ []
 
 abbrev e69 : Row.Entry
-e69 = (27, Relend.msptr (Array.Array q3 2) y14 14)
+e69 = (27, Relend.msptr (Array.Array q3 2) y15 14)
 
 abbrev c39 : List.List Row.Entry
 c39 = e24 ∷ e25 ∷ e26 ∷ e69 ∷ e28 ∷ e29 ∷ e30 ∷ e31 ∷ []
 
 abbrev e70 : Row.Entry
-e70 = (28, Mut.mslice (Array.Array q3 2) y14 14)
+e70 = (28, Mut.mslice (Array.Array q3 2) y15 14)
 
 abbrev c40 : List.List Row.Entry
 c40 = e24 ∷ e25 ∷ e26 ∷ e27 ∷ e70 ∷ e29 ∷ e30 ∷ e31 ∷ []
 
 abbrev e71 : Row.Entry
-e71 = (28, Mut.msleft (Array.Array q3 2) y14)
+e71 = (28, Mut.msleft (Array.Array q3 2) y15)
 
 abbrev c41 : List.List Row.Entry
 c41 = e24 ∷ e25 ∷ e26 ∷ e27 ∷ e71 ∷ e29 ∷ e30 ∷ e31 ∷ []
@@ -552,73 +555,73 @@ abbrev c43 : List.List Row.Entry
 c43 = e8 ∷ e9 ∷ e47 ∷ e72 ∷ e12 ∷ e13 ∷ e14 ∷ e15 ∷ []
 
 abbrev e73 : Row.Entry
-e73 = (5, Reshare.mslice-owedS q3 y26 3 15 Row.off)
+e73 = (5, Reshare.mslice-owedS q3 y27 3 15 Row.off)
 
 abbrev c44 : List.List Row.Entry
 c44 = e0 ∷ e1 ∷ e2 ∷ e3 ∷ e4 ∷ e73 ∷ e6 ∷ e7 ∷ []
 
 abbrev e74 : Row.Entry
-e74 = (29, Relend.ssptr q3 y16 15)
+e74 = (29, Relend.ssptr q3 y17 15)
 
 abbrev c45 : List.List Row.Entry
 c45 = e24 ∷ e25 ∷ e26 ∷ e27 ∷ e28 ∷ e74 ∷ e30 ∷ e31 ∷ []
 
 abbrev e75 : Row.Entry
-e75 = (30, Rows.sslice q3 y16 15)
+e75 = (30, Rows.sslice q3 y17 15)
 
 abbrev c46 : List.List Row.Entry
 c46 = e24 ∷ e25 ∷ e26 ∷ e27 ∷ e28 ∷ e29 ∷ e75 ∷ e31 ∷ []
 
 abbrev e76 : Row.Entry
-e76 = (6, Reshare.mslice-owedS q4 y27 4 16 Row.off)
+e76 = (6, Reshare.mslice-owedS q4 y28 4 16 Row.off)
 
 abbrev c47 : List.List Row.Entry
 c47 = e0 ∷ e1 ∷ e2 ∷ e3 ∷ e4 ∷ e73 ∷ e76 ∷ e7 ∷ []
 
 abbrev e77 : Row.Entry
-e77 = (31, Relend.ssptr q4 y18 16)
+e77 = (31, Relend.ssptr q4 y19 16)
 
 abbrev c48 : List.List Row.Entry
 c48 = e24 ∷ e25 ∷ e26 ∷ e27 ∷ e28 ∷ e29 ∷ e75 ∷ e77 ∷ []
 
 abbrev e78 : Row.Entry
-e78 = (32, Rows.sslice q4 y18 16)
+e78 = (32, Rows.sslice q4 y19 16)
 
 abbrev c49 : List.List Row.Entry
 c49 = e78 ∷ e33 ∷ e34 ∷ e35 ∷ e36 ∷ e37 ∷ e38 ∷ []
 
 abbrev e79 : Row.Entry
-e79 = (7, Relend.mslice-owed q4 y28 5 17 Row.off)
+e79 = (7, Relend.mslice-owed q4 y29 5 17 Row.off)
 
 abbrev c50 : List.List Row.Entry
 c50 = e0 ∷ e1 ∷ e2 ∷ e3 ∷ e4 ∷ e73 ∷ e76 ∷ e79 ∷ []
 
 abbrev e80 : Row.Entry
-e80 = (33, Relend.msptr q4 y10 17)
+e80 = (33, Relend.msptr q4 y11 17)
 
 abbrev c51 : List.List Row.Entry
 c51 = e78 ∷ e80 ∷ e34 ∷ e35 ∷ e36 ∷ e37 ∷ e38 ∷ []
 
 abbrev e81 : Row.Entry
-e81 = (34, Mut.mslice q4 y10 17)
+e81 = (34, Mut.mslice q4 y11 17)
 
 abbrev c52 : List.List Row.Entry
 c52 = e78 ∷ e33 ∷ e81 ∷ e35 ∷ e36 ∷ e37 ∷ e38 ∷ []
 
 abbrev e82 : Row.Entry
-e82 = (8, Relend.mslice-owed Rec·type.the-row y29 6 18 Row.off)
+e82 = (8, Relend.mslice-owed Rec·type.the-row y30 6 18 Row.off)
 
 abbrev c53 : List.List Row.Entry
 c53 = e82 ∷ e9 ∷ e47 ∷ e72 ∷ e12 ∷ e13 ∷ e14 ∷ e15 ∷ []
 
 abbrev e83 : Row.Entry
-e83 = (35, Relend.msptr Rec·type.the-row y20 18)
+e83 = (35, Relend.msptr Rec·type.the-row y21 18)
 
 abbrev c54 : List.List Row.Entry
 c54 = e78 ∷ e33 ∷ e81 ∷ e83 ∷ e36 ∷ e37 ∷ e38 ∷ []
 
 abbrev e84 : Row.Entry
-e84 = (36, Mut.mslice Rec·type.the-row y20 18)
+e84 = (36, Mut.mslice Rec·type.the-row y21 18)
 
 abbrev c55 : List.List Row.Entry
 c55 = e78 ∷ e33 ∷ e81 ∷ e35 ∷ e84 ∷ e37 ∷ e38 ∷ []
@@ -630,10 +633,10 @@ abbrev c56 : List.List Row.Entry
 c56 = e82 ∷ e9 ∷ e47 ∷ e72 ∷ e85 ∷ e13 ∷ e14 ∷ e15 ∷ []
 
 abbrev e86 : Row.Entry
-e86 = (34, Mut.msleft q4 y10)
+e86 = (34, Mut.msleft q4 y11)
 
 abbrev e87 : Row.Entry
-e87 = (36, Mut.msleft Rec·type.the-row y20)
+e87 = (36, Mut.msleft Rec·type.the-row y21)
 
 abbrev c57 : List.List Row.Entry
 c57 = e78 ∷ e33 ∷ e86 ∷ e35 ∷ e87 ∷ e37 ∷ e38 ∷ []
@@ -654,25 +657,25 @@ abbrev c62 : List.List Row.Entry
 c62 = e8 ∷ e9 ∷ e47 ∷ e72 ∷ e85 ∷ e13 ∷ e14 ∷ e15 ∷ []
 
 abbrev e88 : Row.Entry
-e88 = (9, Relend.mslice-owed (Array.Array q3 2) y30 7 19 Row.off)
+e88 = (9, Relend.mslice-owed (Array.Array q3 2) y31 7 19 Row.off)
 
 abbrev c63 : List.List Row.Entry
 c63 = e8 ∷ e88 ∷ e47 ∷ e72 ∷ e85 ∷ e13 ∷ e14 ∷ e15 ∷ []
 
 abbrev e89 : Row.Entry
-e89 = (37, Relend.msptr (Array.Array q3 2) y14 19)
+e89 = (37, Relend.msptr (Array.Array q3 2) y15 19)
 
 abbrev c64 : List.List Row.Entry
 c64 = e32 ∷ e33 ∷ e34 ∷ e35 ∷ e36 ∷ e89 ∷ e38 ∷ []
 
 abbrev e90 : Row.Entry
-e90 = (38, Mut.mslice (Array.Array q3 2) y14 19)
+e90 = (38, Mut.mslice (Array.Array q3 2) y15 19)
 
 abbrev c65 : List.List Row.Entry
 c65 = e32 ∷ e33 ∷ e34 ∷ e35 ∷ e36 ∷ e37 ∷ e90 ∷ []
 
 abbrev e91 : Row.Entry
-e91 = (38, Mut.msleft (Array.Array q3 2) y14)
+e91 = (38, Mut.msleft (Array.Array q3 2) y15)
 
 abbrev c66 : List.List Row.Entry
 c66 = e32 ∷ e33 ∷ e34 ∷ e35 ∷ e36 ∷ e37 ∷ e91 ∷ []
@@ -786,7 +789,7 @@ abbrev pub r : Kinds.RK 8
 r = Num.rNum Syntax.w64
 
 abbrev pub xs : List.List Syntax.Ty
-xs = y7 ∷ y1 ∷ y8 ∷ y10 ∷ y11 ∷ y10 ∷ y11 ∷ y12 ∷ y13 ∷ y10 ∷ y11 ∷ y10 ∷ y11 ∷ y14 ∷ y15 ∷ y1 ∷ Syntax.tyBool ∷ y14 ∷ y15 ∷ y16 ∷ y17 ∷ y18 ∷ y19 ∷ y10 ∷ y11 ∷ y20 ∷ y21 ∷ y14 ∷ y15 ∷ []
+xs = y8 ∷ y1 ∷ y9 ∷ y11 ∷ y12 ∷ y11 ∷ y12 ∷ y13 ∷ y14 ∷ y11 ∷ y12 ∷ y11 ∷ y12 ∷ y15 ∷ y16 ∷ y1 ∷ Syntax.tyBool ∷ y15 ∷ y16 ∷ y17 ∷ y18 ∷ y19 ∷ y20 ∷ y11 ∷ y12 ∷ y21 ∷ y22 ∷ y15 ∷ y16 ∷ []
 
 abbrev pub m : Nat.ℕ
 m = 12
@@ -831,13 +834,13 @@ abbrev pub hs : List.List Syntax.Home
 hs = Syntax.valueLocal ∷ Syntax.valueLocal ∷ Syntax.valueLocal ∷ Syntax.valueLocal ∷ Syntax.valueLocal ∷ Syntax.valueLocal ∷ Syntax.valueLocal ∷ Syntax.valueLocal ∷ Syntax.valueLocal ∷ Syntax.valueLocal ∷ Syntax.valueLocal ∷ Syntax.valueLocal ∷ Syntax.valueLocal ∷ Syntax.valueLocal ∷ Syntax.valueLocal ∷ Syntax.valueLocal ∷ Syntax.valueLocal ∷ Syntax.valueLocal ∷ Syntax.valueLocal ∷ Syntax.valueLocal ∷ Syntax.valueLocal ∷ Syntax.valueLocal ∷ Syntax.valueLocal ∷ Syntax.valueLocal ∷ Syntax.valueLocal ∷ Syntax.valueLocal ∷ Syntax.valueLocal ∷ Syntax.valueLocal ∷ Syntax.valueLocal ∷ Syntax.valueLocal ∷ Syntax.valueLocal ∷ Syntax.valueLocal ∷ Syntax.valueLocal ∷ Syntax.valueLocal ∷ Syntax.valueLocal ∷ Syntax.valueLocal ∷ Syntax.valueLocal ∷ Syntax.valueLocal ∷ Syntax.valueLocal ∷ []
 
 abbrev b0 : Syntax.Body
-b0 = Syntax.assign (Syntax.place 13 List.[]) (Syntax.addrOf (Syntax.place 6 ((Syntax.field 0) ∷ (Syntax.deref y9) ∷ [])))
+b0 = Syntax.assign (Syntax.place 13 List.[]) (Syntax.addrOf (Syntax.place 6 ((Syntax.field 0) ∷ (Syntax.deref y10) ∷ [])))
 
 abbrev b1 : Syntax.Body
 b1 = Syntax.assign (Syntax.place 14 List.[]) (Syntax.aggregate ((Syntax.copy (Syntax.place 13 List.[])) ∷ (Syntax.copy (Syntax.place 6 ((Syntax.field 1) ∷ []))) ∷ []))
 
 abbrev b2 : Syntax.Body
-b2 = Syntax.assign (Syntax.place 15 List.[]) (Syntax.addrOf (Syntax.place 7 ((Syntax.field 0) ∷ (Syntax.deref y9) ∷ [])))
+b2 = Syntax.assign (Syntax.place 15 List.[]) (Syntax.addrOf (Syntax.place 7 ((Syntax.field 0) ∷ (Syntax.deref y10) ∷ [])))
 
 abbrev b3 : Syntax.Body
 b3 = Syntax.assign (Syntax.place 16 List.[]) (Syntax.aggregate ((Syntax.copy (Syntax.place 15 List.[])) ∷ (Syntax.copy (Syntax.place 7 ((Syntax.field 1) ∷ []))) ∷ []))
@@ -852,13 +855,13 @@ abbrev b6 : Syntax.Body
 b6 = Syntax.assign (Syntax.place 18 List.[]) (Syntax.aggregate ((Syntax.copy (Syntax.place 17 List.[])) ∷ (Syntax.copy (Syntax.place 5 ((Syntax.field 1) ∷ []))) ∷ []))
 
 abbrev b7 : Syntax.Body
-b7 = Syntax.assign (Syntax.place 19 List.[]) (Syntax.addrOf (Syntax.place 6 ((Syntax.field 0) ∷ (Syntax.deref y9) ∷ [])))
+b7 = Syntax.assign (Syntax.place 19 List.[]) (Syntax.addrOf (Syntax.place 6 ((Syntax.field 0) ∷ (Syntax.deref y10) ∷ [])))
 
 abbrev b8 : Syntax.Body
 b8 = Syntax.assign (Syntax.place 20 List.[]) (Syntax.aggregate ((Syntax.copy (Syntax.place 19 List.[])) ∷ (Syntax.copy (Syntax.place 6 ((Syntax.field 1) ∷ []))) ∷ []))
 
 abbrev b9 : Syntax.Body
-b9 = Syntax.assign (Syntax.place 21 List.[]) (Syntax.addrOf (Syntax.place 7 ((Syntax.field 0) ∷ (Syntax.deref y9) ∷ [])))
+b9 = Syntax.assign (Syntax.place 21 List.[]) (Syntax.addrOf (Syntax.place 7 ((Syntax.field 0) ∷ (Syntax.deref y10) ∷ [])))
 
 abbrev b10 : Syntax.Body
 b10 = Syntax.assign (Syntax.place 22 List.[]) (Syntax.aggregate ((Syntax.copy (Syntax.place 21 List.[])) ∷ (Syntax.copy (Syntax.place 7 ((Syntax.field 1) ∷ []))) ∷ []))
@@ -915,13 +918,13 @@ abbrev b27 : Syntax.Body
 b27 = Syntax.assign (Syntax.place 30 List.[]) (Syntax.aggregate ((Syntax.copy (Syntax.place 29 List.[])) ∷ (Syntax.copy (Syntax.place 5 ((Syntax.field 1) ∷ []))) ∷ []))
 
 abbrev b28 : Syntax.Body
-b28 = Syntax.assign (Syntax.place 31 List.[]) (Syntax.addrOf (Syntax.place 6 ((Syntax.field 0) ∷ (Syntax.deref y9) ∷ [])))
+b28 = Syntax.assign (Syntax.place 31 List.[]) (Syntax.addrOf (Syntax.place 6 ((Syntax.field 0) ∷ (Syntax.deref y10) ∷ [])))
 
 abbrev b29 : Syntax.Body
 b29 = Syntax.assign (Syntax.place 32 List.[]) (Syntax.aggregate ((Syntax.copy (Syntax.place 31 List.[])) ∷ (Syntax.copy (Syntax.place 6 ((Syntax.field 1) ∷ []))) ∷ []))
 
 abbrev b30 : Syntax.Body
-b30 = Syntax.assign (Syntax.place 33 List.[]) (Syntax.addrOf (Syntax.place 7 ((Syntax.field 0) ∷ (Syntax.deref y9) ∷ [])))
+b30 = Syntax.assign (Syntax.place 33 List.[]) (Syntax.addrOf (Syntax.place 7 ((Syntax.field 0) ∷ (Syntax.deref y10) ∷ [])))
 
 abbrev b31 : Syntax.Body
 b31 = Syntax.assign (Syntax.place 34 List.[]) (Syntax.aggregate ((Syntax.copy (Syntax.place 33 List.[])) ∷ (Syntax.copy (Syntax.place 7 ((Syntax.field 1) ∷ []))) ∷ []))
@@ -1486,97 +1489,97 @@ MeasureT-loop = Rows.whole q0 .Mod → List.List (Referent.rtF (Referent.fInt Sy
 
 module _ (claims· : Claims) where
   abbrev s0 : Typed.Gives T0 T2
-  s0 = Know.k-shs-known (Referent.fInt Syntax.w8) T0 2 0 y23 Row.off 0 λ x. x
+  s0 = Know.k-shs-known (Referent.fInt Syntax.w8) T0 2 0 y24 Row.off 0 λ x. x
 
   abbrev s1 : Typed.Gives T2 T3
-  s1 = Know.k-shs-known (Referent.fFloat Ieee.binary64) T2 3 1 y24 Row.off Ieee.nan λ x. x
+  s1 = Know.k-shs-known (Referent.fFloat Ieee.binary64) T2 3 1 y25 Row.off Ieee.nan λ x. x
 
   abbrev s2 : Typed.Gives T3 T4
-  s2 = Know.k-shs-known (Referent.fFloat Ieee.binary64) T3 4 2 y25 Row.off Ieee.nan λ x. x
+  s2 = Know.k-shs-known (Referent.fFloat Ieee.binary64) T3 4 2 y26 Row.off Ieee.nan λ x. x
 
   abbrev s3 : Typed.Gives T4 T5
-  s3 = Know.k-sl-known (Referent.fInt Syntax.w32) T4 5 3 y26 Row.off 0 λ x. x
+  s3 = Know.k-sl-known (Referent.fInt Syntax.w32) T4 5 3 y27 Row.off 0 λ x. x
 
   abbrev s4 : Typed.Gives T5 T6
-  s4 = Know.k-sl-known (Referent.fInt Syntax.w16) T5 6 4 y27 Row.off 0 λ x. x
+  s4 = Know.k-sl-known (Referent.fInt Syntax.w16) T5 6 4 y28 Row.off 0 λ x. x
 
   abbrev s5 : Typed.Gives T6 T7
-  s5 = Know.k-sl-known (Referent.fInt Syntax.w16) T6 7 5 y28 Row.off 0 λ x. x
+  s5 = Know.k-sl-known (Referent.fInt Syntax.w16) T6 7 5 y29 Row.off 0 λ x. x
 
   abbrev s7 : Typed.Gives T7 T9
-  s7 = Relend.k-sl-relend q4 T7 6 13 4 8 y27 y10 Row.off λ x. x
+  s7 = Relend.k-sl-relend q4 T7 6 13 4 8 y28 y11 Row.off λ x. x
 
   abbrev s8 : Typed.Asks T9 T10
-  s8 = Relend.k-sl-aggregate q4 (Relend.asMut q4) T9 13 14 8 y10 y10 (λ x. x) (Scalar.oFld 6 ((Syntax.field 1) ∷ []) y1 8 λ v. Shared.lenV (v .0))
+  s8 = Relend.k-sl-aggregate q4 (Relend.asMut q4) T9 13 14 8 y11 y11 (λ x. x) (Scalar.oFld 6 ((Syntax.field 1) ∷ []) y1 8 λ v. Shared.lenV (v .0))
 
   abbrev s10 : Typed.Gives T10 T12
-  s10 = Relend.k-sl-relend q4 T10 7 15 5 9 y28 y10 Row.off λ x. x
+  s10 = Relend.k-sl-relend q4 T10 7 15 5 9 y29 y11 Row.off λ x. x
 
   abbrev s11 : Typed.Asks T12 T13
-  s11 = Relend.k-sl-aggregate q4 (Relend.asMut q4) T12 15 16 9 y10 y10 (λ x. x) (Scalar.oFld 7 ((Syntax.field 1) ∷ []) y1 8 λ v. Shared.lenV (v .0))
+  s11 = Relend.k-sl-aggregate q4 (Relend.asMut q4) T12 15 16 9 y11 y11 (λ x. x) (Scalar.oFld 7 ((Syntax.field 1) ∷ []) y1 8 λ v. Shared.lenV (v .0))
 
   abbrev s12 : Typed.Both T13 T14
-  s12 = Call.callB ps·0 r·0 (claims· .0) (claims· .1) T13 (record { pos = 14; ty = y10; ref = λ x. x }, (record { pos = 16; ty = y10; ref = λ x. x }, tt)) 10 (8 ∷ 9 ∷ []) y7
+  s12 = Call.callB ps·0 r·0 (claims· .0) (claims· .1) T13 (record { pos = 14; ty = y11; ref = λ x. x }, (record { pos = 16; ty = y11; ref = λ x. x }, tt)) 10 (8 ∷ 9 ∷ []) y8
 
   abbrev s14 : Typed.Both T14 T16
-  s14 = Relend.k-back-sl q4 T14 14 6 4 8 y27 y10 Row.off (λ x. x) λ x. x
+  s14 = Relend.k-back-sl q4 T14 14 6 4 8 y28 y11 Row.off (λ x. x) λ x. x
 
   abbrev s15 : Typed.Gives T16 T17
-  s15 = Know.k-sl-known (Referent.fInt Syntax.w16) T16 6 4 y27 Row.off 0 λ x. x
+  s15 = Know.k-sl-known (Referent.fInt Syntax.w16) T16 6 4 y28 Row.off 0 λ x. x
 
   abbrev s18 : Typed.Both T17 T20
-  s18 = Relend.k-back-sl q4 T17 16 7 5 9 y28 y10 Row.off (λ x. x) λ x. x
+  s18 = Relend.k-back-sl q4 T17 16 7 5 9 y29 y11 Row.off (λ x. x) λ x. x
 
   abbrev s19 : Typed.Gives T20 T21
-  s19 = Know.k-sl-known (Referent.fInt Syntax.w16) T20 7 5 y28 Row.off 0 λ x. x
+  s19 = Know.k-sl-known (Referent.fInt Syntax.w16) T20 7 5 y29 Row.off 0 λ x. x
 
   abbrev s22 : Typed.Gives T21 T24
-  s22 = Relend.k-sl-relend q3 T21 5 17 3 10 y26 y12 Row.off λ x. x
+  s22 = Relend.k-sl-relend q3 T21 5 17 3 10 y27 y13 Row.off λ x. x
 
   abbrev s23 : Typed.Asks T24 T25
-  s23 = Relend.k-sl-aggregate q3 (Relend.asMut q3) T24 17 18 10 y12 y12 (λ x. x) (Scalar.oFld 5 ((Syntax.field 1) ∷ []) y1 8 λ v. Shared.lenV (v .0))
+  s23 = Relend.k-sl-aggregate q3 (Relend.asMut q3) T24 17 18 10 y13 y13 (λ x. x) (Scalar.oFld 5 ((Syntax.field 1) ∷ []) y1 8 λ v. Shared.lenV (v .0))
 
   abbrev s25 : Typed.Gives T25 T27
-  s25 = Relend.k-sl-relend q4 T25 6 19 4 11 y27 y10 Row.off λ x. x
+  s25 = Relend.k-sl-relend q4 T25 6 19 4 11 y28 y11 Row.off λ x. x
 
   abbrev s26 : Typed.Asks T27 T28
-  s26 = Relend.k-sl-aggregate q4 (Relend.asMut q4) T27 19 20 11 y10 y10 (λ x. x) (Scalar.oFld 6 ((Syntax.field 1) ∷ []) y1 8 λ v. Shared.lenV (v .0))
+  s26 = Relend.k-sl-aggregate q4 (Relend.asMut q4) T27 19 20 11 y11 y11 (λ x. x) (Scalar.oFld 6 ((Syntax.field 1) ∷ []) y1 8 λ v. Shared.lenV (v .0))
 
   abbrev s28 : Typed.Gives T28 T30
-  s28 = Relend.k-sl-relend q4 T28 7 21 5 12 y28 y10 Row.off λ x. x
+  s28 = Relend.k-sl-relend q4 T28 7 21 5 12 y29 y11 Row.off λ x. x
 
   abbrev s29 : Typed.Asks T30 T31
-  s29 = Relend.k-sl-aggregate q4 (Relend.asMut q4) T30 21 22 12 y10 y10 (λ x. x) (Scalar.oFld 7 ((Syntax.field 1) ∷ []) y1 8 λ v. Shared.lenV (v .0))
+  s29 = Relend.k-sl-aggregate q4 (Relend.asMut q4) T30 21 22 12 y11 y11 (λ x. x) (Scalar.oFld 7 ((Syntax.field 1) ∷ []) y1 8 λ v. Shared.lenV (v .0))
 
   abbrev s31 : Typed.Gives T31 T33
-  s31 = Relend.k-sl-relend (Array.Array q3 2) T31 9 23 7 13 y30 y14 Row.off λ x. x
+  s31 = Relend.k-sl-relend (Array.Array q3 2) T31 9 23 7 13 y31 y15 Row.off λ x. x
 
   abbrev s32 : Typed.Asks T33 T34
-  s32 = Relend.k-sl-aggregate (Array.Array q3 2) (Relend.asMut (Array.Array q3 2)) T33 23 24 13 y14 y14 (λ x. x) (Scalar.oFld 9 ((Syntax.field 1) ∷ []) y1 8 λ v. Shared.lenV (v .0))
+  s32 = Relend.k-sl-aggregate (Array.Array q3 2) (Relend.asMut (Array.Array q3 2)) T33 23 24 13 y15 y15 (λ x. x) (Scalar.oFld 9 ((Syntax.field 1) ∷ []) y1 8 λ v. Shared.lenV (v .0))
 
   abbrev s33 : Typed.Both T34 T35
-  s33 = Call.callB ps·1 r·1 (claims· .2) (claims· .3) T34 (record { pos = 1; st = List.[]; d = 0; at = λ x. x }, (record { pos = 10; st = List.[]; d = 0; at = λ x. x }, (record { pos = 2; ty = y23; ref = λ x. x }, (record { pos = 3; ty = y24; ref = λ x. x }, (record { pos = 4; ty = y25; ref = λ x. x }, (record { pos = 18; ty = y12; ref = λ x. x }, (record { pos = 20; ty = y10; ref = λ x. x }, (record { pos = 22; ty = y10; ref = λ x. x }, (record { pos = 24; ty = y14; ref = λ x. x }, tt))))))))) 10 (0 ∷ 1 ∷ 2 ∷ 10 ∷ 11 ∷ 12 ∷ 13 ∷ []) y7
+  s33 = Call.callB ps·1 r·1 (claims· .2) (claims· .3) T34 (record { pos = 1; st = List.[]; d = 0; at = λ x. x }, (record { pos = 10; st = List.[]; d = 0; at = λ x. x }, (record { pos = 2; ty = y24; ref = λ x. x }, (record { pos = 3; ty = y25; ref = λ x. x }, (record { pos = 4; ty = y26; ref = λ x. x }, (record { pos = 18; ty = y13; ref = λ x. x }, (record { pos = 20; ty = y11; ref = λ x. x }, (record { pos = 22; ty = y11; ref = λ x. x }, (record { pos = 24; ty = y15; ref = λ x. x }, tt))))))))) 10 (0 ∷ 1 ∷ 2 ∷ 10 ∷ 11 ∷ 12 ∷ 13 ∷ []) y8
 
   abbrev s35 : Typed.Both T35 T37
-  s35 = Relend.k-back-sl q3 T35 18 5 3 10 y26 y12 Row.off (λ x. x) λ x. x
+  s35 = Relend.k-back-sl q3 T35 18 5 3 10 y27 y13 Row.off (λ x. x) λ x. x
 
   abbrev s36 : Typed.Gives T37 T38
-  s36 = Know.k-sl-known (Referent.fInt Syntax.w32) T37 5 3 y26 Row.off 0 λ x. x
+  s36 = Know.k-sl-known (Referent.fInt Syntax.w32) T37 5 3 y27 Row.off 0 λ x. x
 
   abbrev s39 : Typed.Both T38 T41
-  s39 = Relend.k-back-sl q4 T38 20 6 4 11 y27 y10 Row.off (λ x. x) λ x. x
+  s39 = Relend.k-back-sl q4 T38 20 6 4 11 y28 y11 Row.off (λ x. x) λ x. x
 
   abbrev s40 : Typed.Gives T41 T42
-  s40 = Know.k-sl-known (Referent.fInt Syntax.w16) T41 6 4 y27 Row.off 0 λ x. x
+  s40 = Know.k-sl-known (Referent.fInt Syntax.w16) T41 6 4 y28 Row.off 0 λ x. x
 
   abbrev s43 : Typed.Both T42 T45
-  s43 = Relend.k-back-sl q4 T42 22 7 5 12 y28 y10 Row.off (λ x. x) λ x. x
+  s43 = Relend.k-back-sl q4 T42 22 7 5 12 y29 y11 Row.off (λ x. x) λ x. x
 
   abbrev s44 : Typed.Gives T45 T46
-  s44 = Know.k-sl-known (Referent.fInt Syntax.w16) T45 7 5 y28 Row.off 0 λ x. x
+  s44 = Know.k-sl-known (Referent.fInt Syntax.w16) T45 7 5 y29 Row.off 0 λ x. x
 
   abbrev s47 : Typed.Both T46 T49
-  s47 = Relend.k-back-sl (Array.Array q3 2) T46 24 9 7 13 y30 y14 Row.off (λ x. x) λ x. x
+  s47 = Relend.k-back-sl (Array.Array q3 2) T46 24 9 7 13 y31 y15 Row.off (λ x. x) λ x. x
 
   abbrev s49 : Typed.Mo T49 → Typed.Mo T51
   s49 = Scalar.n-use T49 (Scalar.oFld 2 ((Syntax.field 1) ∷ []) y1 8 Shared.lenV) 25 (Rows.sc-here z0) (Row.sInt Syntax.w64 .of)
@@ -1591,25 +1594,25 @@ module _ (claims· : Claims) where
   s52 = Scalar.n-room T53 25 y1
 
   abbrev s53 : Typed.Mo T55 → Typed.Mo T56
-  s53 = Scalar.n-room T55 1 y31
+  s53 = Scalar.n-room T55 1 y32
 
   abbrev s54 : Typed.Mo T56 → Typed.Mo T57
   s54 = Scalar.n-room T56 26 Syntax.tyBool
 
   abbrev s56 : Typed.Gives T57 T59
-  s56 = Relend.k-sl-relend (Array.Array q3 2) T57 9 27 7 14 y30 y14 Row.off λ x. x
+  s56 = Relend.k-sl-relend (Array.Array q3 2) T57 9 27 7 14 y31 y15 Row.off λ x. x
 
   abbrev s57 : Typed.Asks T59 T60
-  s57 = Relend.k-sl-aggregate (Array.Array q3 2) (Relend.asMut (Array.Array q3 2)) T59 27 28 14 y14 y14 (λ x. x) (Scalar.oFld 9 ((Syntax.field 1) ∷ []) y1 8 λ v. Shared.lenV (v .0))
+  s57 = Relend.k-sl-aggregate (Array.Array q3 2) (Relend.asMut (Array.Array q3 2)) T59 27 28 14 y15 y15 (λ x. x) (Scalar.oFld 9 ((Syntax.field 1) ∷ []) y1 8 λ v. Shared.lenV (v .0))
 
   abbrev s58 : Typed.Both T60 T61
-  s58 = Call.callB ps·2 r·2 (claims· .4) (claims· .5) T60 (record { pos = 10; st = (Syntax.field 3) ∷ []; d = 88; at = λ x. State.struct .as-values x .1 .1 .1 .0 }, (record { pos = 28; ty = y14; ref = λ x. x }, tt)) 0 (14 ∷ []) y1
+  s58 = Call.callB ps·2 r·2 (claims· .4) (claims· .5) T60 (record { pos = 10; st = (Syntax.field 3) ∷ []; d = 136; at = λ x. State.struct .as-values x .1 .1 .1 .0 }, (record { pos = 28; ty = y15; ref = λ x. x }, tt)) 0 (14 ∷ []) y1
 
   abbrev s59 : Typed.Mo T61 → Typed.Mo T62
-  s59 = Scalar.n-room T61 10 y7
+  s59 = Scalar.n-room T61 10 y8
 
   abbrev s61 : Typed.Both T62 T64
-  s61 = Relend.k-back-sl (Array.Array q3 2) T62 28 9 7 14 y30 y14 Row.off (λ x. x) λ x. x
+  s61 = Relend.k-back-sl (Array.Array q3 2) T62 28 9 7 14 y31 y15 Row.off (λ x. x) λ x. x
 
   abbrev s63 : Typed.Mo T55 → Typed.Mo T66
   s63 = Scalar.n-room T55 26 Syntax.tyBool
@@ -1618,70 +1621,70 @@ module _ (claims· : Claims) where
   s64 = Call.callB ps·3 r·3 (claims· .6) (claims· .7) T54 (record { pos = 10; st = (Syntax.field 2) ∷ []; d = 24; at = λ x. State.struct .as-values x .1 .1 .0 }, tt) 11 List.[] y1
 
   abbrev s66 : Typed.Gives T67 T69
-  s66 = Reshare.k-sl-reshare q3 T67 5 29 3 15 y26 y16 Row.off λ x. x
+  s66 = Reshare.k-sl-reshare q3 T67 5 29 3 15 y27 y17 Row.off λ x. x
 
   abbrev s67 : Typed.Asks T69 T70
-  s67 = Relend.k-sl-aggregate q3 (Relend.asShr q3) T69 29 30 15 y16 y16 (λ x. x) (Scalar.oFld 5 ((Syntax.field 1) ∷ []) y1 8 λ v. Shared.lenV (v .0))
+  s67 = Relend.k-sl-aggregate q3 (Relend.asShr q3) T69 29 30 15 y17 y17 (λ x. x) (Scalar.oFld 5 ((Syntax.field 1) ∷ []) y1 8 λ v. Shared.lenV (v .0))
 
   abbrev s69 : Typed.Gives T70 T72
-  s69 = Reshare.k-sl-reshare q4 T70 6 31 4 16 y27 y18 Row.off λ x. x
+  s69 = Reshare.k-sl-reshare q4 T70 6 31 4 16 y28 y19 Row.off λ x. x
 
   abbrev s70 : Typed.Asks T72 T73
-  s70 = Relend.k-sl-aggregate q4 (Relend.asShr q4) T72 31 32 16 y18 y18 (λ x. x) (Scalar.oFld 6 ((Syntax.field 1) ∷ []) y1 8 λ v. Shared.lenV (v .0))
+  s70 = Relend.k-sl-aggregate q4 (Relend.asShr q4) T72 31 32 16 y19 y19 (λ x. x) (Scalar.oFld 6 ((Syntax.field 1) ∷ []) y1 8 λ v. Shared.lenV (v .0))
 
   abbrev s72 : Typed.Gives T73 T75
-  s72 = Relend.k-sl-relend q4 T73 7 33 5 17 y28 y10 Row.off λ x. x
+  s72 = Relend.k-sl-relend q4 T73 7 33 5 17 y29 y11 Row.off λ x. x
 
   abbrev s73 : Typed.Asks T75 T76
-  s73 = Relend.k-sl-aggregate q4 (Relend.asMut q4) T75 33 34 17 y10 y10 (λ x. x) (Scalar.oFld 7 ((Syntax.field 1) ∷ []) y1 8 λ v. Shared.lenV (v .0))
+  s73 = Relend.k-sl-aggregate q4 (Relend.asMut q4) T75 33 34 17 y11 y11 (λ x. x) (Scalar.oFld 7 ((Syntax.field 1) ∷ []) y1 8 λ v. Shared.lenV (v .0))
 
   abbrev s75 : Typed.Gives T76 T78
-  s75 = Relend.k-sl-relend Rec·type.the-row T76 8 35 6 18 y29 y20 Row.off λ x. x
+  s75 = Relend.k-sl-relend Rec·type.the-row T76 8 35 6 18 y30 y21 Row.off λ x. x
 
   abbrev s76 : Typed.Asks T78 T79
-  s76 = Relend.k-sl-aggregate Rec·type.the-row (Relend.asMut Rec·type.the-row) T78 35 36 18 y20 y20 (λ x. x) (Scalar.oFld 8 ((Syntax.field 1) ∷ []) y1 8 λ v. Shared.lenV (v .0))
+  s76 = Relend.k-sl-aggregate Rec·type.the-row (Relend.asMut Rec·type.the-row) T78 35 36 18 y21 y21 (λ x. x) (Scalar.oFld 8 ((Syntax.field 1) ∷ []) y1 8 λ v. Shared.lenV (v .0))
 
   abbrev s77 : Typed.Both T79 T80
-  s77 = Call.callB ps·4 r·4 (claims· .8) (claims· .9) T79 (record { pos = 1; st = List.[]; d = 0; at = λ x. x }, (record { pos = 10; st = (Syntax.field 2) ∷ (Syntax.field 5) ∷ []; d = 64; at = λ x. Window.struct .as-values (State.struct .as-values x .1 .1 .0) .1 .1 .1 .1 .1 .0 }, (Num.vAt 11 λ x. x, (record { pos = 30; ty = y16; ref = λ x. x }, (Num.vFld 10 ((Syntax.field 2) ∷ (Syntax.field 2) ∷ []) 40 λ x. Window.struct .as-values (State.struct .as-values x .1 .1 .0) .1 .1 .0, (Num.vFld 10 ((Syntax.field 2) ∷ (Syntax.field 3) ∷ []) 48 λ x. Window.struct .as-values (State.struct .as-values x .1 .1 .0) .1 .1 .1 .0, (record { pos = 32; ty = y18; ref = λ x. x }, (record { pos = 3; ty = y24; ref = λ x. x }, (record { pos = 4; ty = y25; ref = λ x. x }, (record { pos = 34; ty = y10; ref = λ x. x }, (record { pos = 36; ty = y20; ref = λ x. x }, tt))))))))))) 12 (15 ∷ 16 ∷ 1 ∷ 2 ∷ 17 ∷ 18 ∷ []) y8
+  s77 = Call.callB ps·4 r·4 (claims· .8) (claims· .9) T79 (record { pos = 1; st = List.[]; d = 0; at = λ x. x }, (record { pos = 10; st = (Syntax.field 2) ∷ (Syntax.field 5) ∷ []; d = 64; at = λ x. Window.struct .as-values (State.struct .as-values x .1 .1 .0) .1 .1 .1 .1 .1 .0 }, (Num.vAt 11 λ x. x, (record { pos = 30; ty = y17; ref = λ x. x }, (Num.vFld 10 ((Syntax.field 2) ∷ (Syntax.field 2) ∷ []) 40 λ x. Window.struct .as-values (State.struct .as-values x .1 .1 .0) .1 .1 .0, (Num.vFld 10 ((Syntax.field 2) ∷ (Syntax.field 3) ∷ []) 48 λ x. Window.struct .as-values (State.struct .as-values x .1 .1 .0) .1 .1 .1 .0, (record { pos = 32; ty = y19; ref = λ x. x }, (record { pos = 3; ty = y25; ref = λ x. x }, (record { pos = 4; ty = y26; ref = λ x. x }, (record { pos = 34; ty = y11; ref = λ x. x }, (record { pos = 36; ty = y21; ref = λ x. x }, tt))))))))))) 12 (15 ∷ 16 ∷ 1 ∷ 2 ∷ 17 ∷ 18 ∷ []) y9
 
   abbrev s78 : Typed.Mo T80 → Typed.Mo T81
-  s78 = Scalar.n-room T80 30 y17
+  s78 = Scalar.n-room T80 30 y18
 
   abbrev s79 : Typed.Mo T81 → Typed.Mo T82
-  s79 = Scalar.n-room T81 32 y19
+  s79 = Scalar.n-room T81 32 y20
 
   abbrev s81 : Typed.Mo T82 → Typed.Mo T84
-  s81 = Reshare.n-back-sl-shr q3 T82 5 3 15 y26 Row.off λ x. x
+  s81 = Reshare.n-back-sl-shr q3 T82 5 3 15 y27 Row.off λ x. x
 
   abbrev s84 : Typed.Mo T84 → Typed.Mo T87
-  s84 = Reshare.n-back-sl-shr q4 T84 6 4 16 y27 Row.off λ x. x
+  s84 = Reshare.n-back-sl-shr q4 T84 6 4 16 y28 Row.off λ x. x
 
   abbrev s87 : Typed.Both T87 T90
-  s87 = Relend.k-back-sl q4 T87 34 7 5 17 y28 y10 Row.off (λ x. x) λ x. x
+  s87 = Relend.k-back-sl q4 T87 34 7 5 17 y29 y11 Row.off (λ x. x) λ x. x
 
   abbrev s88 : Typed.Gives T90 T91
-  s88 = Know.k-sl-known (Referent.fInt Syntax.w16) T90 7 5 y28 Row.off 0 λ x. x
+  s88 = Know.k-sl-known (Referent.fInt Syntax.w16) T90 7 5 y29 Row.off 0 λ x. x
 
   abbrev s91 : Typed.Both T91 T94
-  s91 = Relend.k-back-sl Rec·type.the-row T91 36 8 6 18 y29 y20 Row.off (λ x. x) λ x. x
+  s91 = Relend.k-back-sl Rec·type.the-row T91 36 8 6 18 y30 y21 Row.off (λ x. x) λ x. x
 
   abbrev s94 : Typed.Gives T94 T97
-  s94 = Relend.k-sl-relend (Array.Array q3 2) T94 9 37 7 19 y30 y14 Row.off λ x. x
+  s94 = Relend.k-sl-relend (Array.Array q3 2) T94 9 37 7 19 y31 y15 Row.off λ x. x
 
   abbrev s95 : Typed.Asks T97 T98
-  s95 = Relend.k-sl-aggregate (Array.Array q3 2) (Relend.asMut (Array.Array q3 2)) T97 37 38 19 y14 y14 (λ x. x) (Scalar.oFld 9 ((Syntax.field 1) ∷ []) y1 8 λ v. Shared.lenV (v .0))
+  s95 = Relend.k-sl-aggregate (Array.Array q3 2) (Relend.asMut (Array.Array q3 2)) T97 37 38 19 y15 y15 (λ x. x) (Scalar.oFld 9 ((Syntax.field 1) ∷ []) y1 8 λ v. Shared.lenV (v .0))
 
   abbrev s96 : Typed.Both T98 T99
-  s96 = Call.callB ps·5 r·5 (claims· .10) (claims· .11) T98 (record { pos = 10; st = List.[]; d = 0; at = λ x. x }, (record { pos = 1; st = List.[]; d = 0; at = λ x. x }, (record { pos = 12; st = List.[]; d = 0; at = λ x. x }, (record { pos = 38; ty = y14; ref = λ x. x }, tt)))) 10 (19 ∷ []) y7
+  s96 = Call.callB ps·5 r·5 (claims· .10) (claims· .11) T98 (record { pos = 10; st = List.[]; d = 0; at = λ x. x }, (record { pos = 1; st = List.[]; d = 0; at = λ x. x }, (record { pos = 12; st = List.[]; d = 0; at = λ x. x }, (record { pos = 38; ty = y15; ref = λ x. x }, tt)))) 10 (19 ∷ []) y8
 
   abbrev s97 : Typed.Mo T99 → Typed.Mo T100
   s97 = Scalar.n-room T99 11 y1
 
   abbrev s98 : Typed.Mo T100 → Typed.Mo T101
-  s98 = Scalar.n-room T100 12 y8
+  s98 = Scalar.n-room T100 12 y9
 
   abbrev s100 : Typed.Both T101 T103
-  s100 = Relend.k-back-sl (Array.Array q3 2) T101 38 9 7 19 y30 y14 Row.off (λ x. x) λ x. x
+  s100 = Relend.k-back-sl (Array.Array q3 2) T101 38 9 7 19 y31 y15 Row.off (λ x. x) λ x. x
 
   abbrev put0 :
       List.List (Referent.rtF (Referent.fInt Syntax.w32) .Denot) ×
@@ -1692,7 +1695,7 @@ module _ (claims· : Claims) where
       Rows.whole (Declared.row State.the-type) .Mod →
       Typed.Mo T21 →
       Typed.Mo T21
-  put0 = λ vs u. Row.set 10 (10, Rows.whole q5) (vs .5) (T21 .locals) (Row.set 9 (9, Mut.mslice (Array.Array q3 2) y30 7) record { ptr = Row.get 9 (T21 .locals) u .ptr; name = Row.get 9 (T21 .locals) u .name; now = vs .4 } (T21 .locals) (Row.set 8 (8, Mut.mslice Rec·type.the-row y29 6) record { ptr = Row.get 8 (T21 .locals) u .ptr; name = Row.get 8 (T21 .locals) u .name; now = vs .3 } (T21 .locals) (Row.set 7 (7, Mut.mslice q4 y28 5) record { ptr = Row.get 7 (T21 .locals) u .ptr; name = Row.get 7 (T21 .locals) u .name; now = vs .2 } (T21 .locals) (Row.set 6 (6, Mut.mslice q4 y27 4) record { ptr = Row.get 6 (T21 .locals) u .ptr; name = Row.get 6 (T21 .locals) u .name; now = vs .1 } (T21 .locals) (Row.set 5 (5, Mut.mslice q3 y26 3) record { ptr = Row.get 5 (T21 .locals) u .ptr; name = Row.get 5 (T21 .locals) u .name; now = vs .0 } (T21 .locals) u)))))
+  put0 = λ vs u. Row.set 10 (10, Rows.whole q5) (vs .5) (T21 .locals) (Row.set 9 (9, Mut.mslice (Array.Array q3 2) y31 7) record { ptr = Row.get 9 (T21 .locals) u .ptr; name = Row.get 9 (T21 .locals) u .name; now = vs .4 } (T21 .locals) (Row.set 8 (8, Mut.mslice Rec·type.the-row y30 6) record { ptr = Row.get 8 (T21 .locals) u .ptr; name = Row.get 8 (T21 .locals) u .name; now = vs .3 } (T21 .locals) (Row.set 7 (7, Mut.mslice q4 y29 5) record { ptr = Row.get 7 (T21 .locals) u .ptr; name = Row.get 7 (T21 .locals) u .name; now = vs .2 } (T21 .locals) (Row.set 6 (6, Mut.mslice q4 y28 4) record { ptr = Row.get 6 (T21 .locals) u .ptr; name = Row.get 6 (T21 .locals) u .name; now = vs .1 } (T21 .locals) (Row.set 5 (5, Mut.mslice q3 y27 3) record { ptr = Row.get 5 (T21 .locals) u .ptr; name = Row.get 5 (T21 .locals) u .name; now = vs .0 } (T21 .locals) u)))))
 
   module _ (Pre· : (κs : Lifetimes.Lfts 8) → Kinds.Dens κs ps → Type 0)
       (Post· : (κs : Lifetimes.Lfts 8) → (a : Kinds.Dens κs ps) → Kinds.Plain 8 ps r κs) where
@@ -2026,7 +2029,7 @@ module _ (claims· : Claims) where
         li0 = Row.lease (κs .1 .1 .1 .1 .0) (qs .1 .1 .1 .1 .0)
 
         abbrev ei0 : Row.Entry
-        ei0 = (6, Relend.mslice-owed q4 y27 4 8 li0)
+        ei0 = (6, Relend.mslice-owed q4 y28 4 8 li0)
 
         abbrev ci0 : List.List Row.Entry
         ci0 = e0 ∷ e1 ∷ e2 ∷ e3 ∷ e4 ∷ e5 ∷ ei0 ∷ e7 ∷ []
@@ -2035,7 +2038,7 @@ module _ (claims· : Claims) where
         li1 = Row.lease (κs .1 .1 .1 .1 .1 .0) (qs .1 .1 .1 .1 .1 .0)
 
         abbrev ei1 : Row.Entry
-        ei1 = (7, Relend.mslice-owed q4 y28 5 9 li1)
+        ei1 = (7, Relend.mslice-owed q4 y29 5 9 li1)
 
         abbrev ci1 : List.List Row.Entry
         ci1 = e0 ∷ e1 ∷ e2 ∷ e3 ∷ e4 ∷ e5 ∷ ei0 ∷ ei1 ∷ []
@@ -2047,19 +2050,19 @@ module _ (claims· : Claims) where
         li2 = Row.lease (κs .1 .1 .1 .0) (qs .1 .1 .1 .0)
 
         abbrev ei2 : Row.Entry
-        ei2 = (5, Relend.mslice-owed q3 y26 3 10 li2)
+        ei2 = (5, Relend.mslice-owed q3 y27 3 10 li2)
 
         abbrev ci3 : List.List Row.Entry
         ci3 = e0 ∷ e1 ∷ e2 ∷ e3 ∷ e4 ∷ ei2 ∷ e6 ∷ e7 ∷ []
 
         abbrev ei3 : Row.Entry
-        ei3 = (6, Relend.mslice-owed q4 y27 4 11 li0)
+        ei3 = (6, Relend.mslice-owed q4 y28 4 11 li0)
 
         abbrev ci4 : List.List Row.Entry
         ci4 = e0 ∷ e1 ∷ e2 ∷ e3 ∷ e4 ∷ ei2 ∷ ei3 ∷ e7 ∷ []
 
         abbrev ei4 : Row.Entry
-        ei4 = (7, Relend.mslice-owed q4 y28 5 12 li1)
+        ei4 = (7, Relend.mslice-owed q4 y29 5 12 li1)
 
         abbrev ci5 : List.List Row.Entry
         ci5 = e0 ∷ e1 ∷ e2 ∷ e3 ∷ e4 ∷ ei2 ∷ ei3 ∷ ei4 ∷ []
@@ -2068,7 +2071,7 @@ module _ (claims· : Claims) where
         li3 = Row.lease (κs .1 .1 .1 .1 .1 .1 .1 .0) (qs .1 .1 .1 .1 .1 .1 .1 .0)
 
         abbrev ei5 : Row.Entry
-        ei5 = (9, Relend.mslice-owed (Array.Array q3 2) y30 7 13 li3)
+        ei5 = (9, Relend.mslice-owed (Array.Array q3 2) y31 7 13 li3)
 
         abbrev ci6 : List.List Row.Entry
         ci6 = e8 ∷ ei5 ∷ e47 ∷ e11 ∷ e12 ∷ e13 ∷ e14 ∷ e15 ∷ []
@@ -2080,7 +2083,7 @@ module _ (claims· : Claims) where
         ci8 = e0 ∷ e1 ∷ e2 ∷ e3 ∷ e4 ∷ e5 ∷ e6 ∷ ei4 ∷ []
 
         abbrev ei6 : Row.Entry
-        ei6 = (9, Relend.mslice-owed (Array.Array q3 2) y30 7 14 li3)
+        ei6 = (9, Relend.mslice-owed (Array.Array q3 2) y31 7 14 li3)
 
         abbrev ci9 : List.List Row.Entry
         ci9 = e8 ∷ ei6 ∷ e47 ∷ e11 ∷ e12 ∷ e13 ∷ e14 ∷ e15 ∷ []
@@ -2089,19 +2092,19 @@ module _ (claims· : Claims) where
         ci10 = e8 ∷ ei6 ∷ e10 ∷ e11 ∷ e12 ∷ e13 ∷ e14 ∷ e15 ∷ []
 
         abbrev ei7 : Row.Entry
-        ei7 = (5, Reshare.mslice-owedS q3 y26 3 15 li2)
+        ei7 = (5, Reshare.mslice-owedS q3 y27 3 15 li2)
 
         abbrev ci11 : List.List Row.Entry
         ci11 = e0 ∷ e1 ∷ e2 ∷ e3 ∷ e4 ∷ ei7 ∷ e6 ∷ e7 ∷ []
 
         abbrev ei8 : Row.Entry
-        ei8 = (6, Reshare.mslice-owedS q4 y27 4 16 li0)
+        ei8 = (6, Reshare.mslice-owedS q4 y28 4 16 li0)
 
         abbrev ci12 : List.List Row.Entry
         ci12 = e0 ∷ e1 ∷ e2 ∷ e3 ∷ e4 ∷ ei7 ∷ ei8 ∷ e7 ∷ []
 
         abbrev ei9 : Row.Entry
-        ei9 = (7, Relend.mslice-owed q4 y28 5 17 li1)
+        ei9 = (7, Relend.mslice-owed q4 y29 5 17 li1)
 
         abbrev ci13 : List.List Row.Entry
         ci13 = e0 ∷ e1 ∷ e2 ∷ e3 ∷ e4 ∷ ei7 ∷ ei8 ∷ ei9 ∷ []
@@ -2110,7 +2113,7 @@ module _ (claims· : Claims) where
         li4 = Row.lease (κs .1 .1 .1 .1 .1 .1 .0) (qs .1 .1 .1 .1 .1 .1 .0)
 
         abbrev ei10 : Row.Entry
-        ei10 = (8, Relend.mslice-owed Rec·type.the-row y29 6 18 li4)
+        ei10 = (8, Relend.mslice-owed Rec·type.the-row y30 6 18 li4)
 
         abbrev ci14 : List.List Row.Entry
         ci14 = ei10 ∷ e9 ∷ e47 ∷ e72 ∷ e12 ∷ e13 ∷ e14 ∷ e15 ∷ []
@@ -2125,7 +2128,7 @@ module _ (claims· : Claims) where
         ci17 = e0 ∷ e1 ∷ e2 ∷ e3 ∷ e4 ∷ e5 ∷ e6 ∷ ei9 ∷ []
 
         abbrev ei11 : Row.Entry
-        ei11 = (9, Relend.mslice-owed (Array.Array q3 2) y30 7 19 li3)
+        ei11 = (9, Relend.mslice-owed (Array.Array q3 2) y31 7 19 li3)
 
         abbrev ci18 : List.List Row.Entry
         ci18 = e8 ∷ ei11 ∷ e47 ∷ e72 ∷ e85 ∷ e13 ∷ e14 ∷ e15 ∷ []
@@ -2614,22 +2617,22 @@ module _ (claims· : Claims) where
           d1 = Typed.g-pre 𝓤 H A W 𝓣 E G64 G65 b19 Δ4 (λ Ψ. Ψ) at0 (Lifetime.g-forget 𝓤 H A W E G64 14 Row.dead Path'.refl) d0
 
           d2 : Typed.Typed 𝓤 H A 𝓣 E G63 b19 Δ4 at2
-          d2 = Typed.g-pre 𝓤 H A W 𝓣 E G63 G64 b19 Δ4 (Typed.both s61) at1 (Relend.g-back-sl 𝓤 H A W E (Array.Array q3 2) G63 28 9 7 14 y30 y14 li3 (λ x. x) (λ x. x) (Reads'.as-is 𝓤 H A (Mut.msleft (Array.Array q3 2) y14)) (Reads'.as-is 𝓤 H A (Relend.mslice-owed (Array.Array q3 2) y30 7 14 li3)) Path'.refl Path'.refl) d1
+          d2 = Typed.g-pre 𝓤 H A W 𝓣 E G63 G64 b19 Δ4 (Typed.both s61) at1 (Relend.g-back-sl 𝓤 H A W E (Array.Array q3 2) G63 28 9 7 14 y31 y15 li3 (λ x. x) (λ x. x) (Reads'.as-is 𝓤 H A (Mut.msleft (Array.Array q3 2) y15)) (Reads'.as-is 𝓤 H A (Relend.mslice-owed (Array.Array q3 2) y31 7 14 li3)) Path'.refl Path'.refl) d1
 
           d3 : Typed.Typed 𝓤 H A 𝓣 E G62 b19 Δ4 at3
           d3 = Typed.g-pre 𝓤 H A W 𝓣 E G62 G63 b19 Δ4 (λ Ψ. Ψ) at2 (Lifetime.g-end 𝓤 H A W E G62 14 Path'.refl) d2
 
           d4 : Typed.Typed 𝓤 H A 𝓣 E G61 b19 Δ4 at4
-          d4 = Typed.g-pre 𝓤 H A W 𝓣 E G61 G62 b19 Δ4 (Typed.pass T61 T62 s59) at3 (Scalar.g-room 𝓤 H A W E G61 10 y7 (Local.room-whole 𝓤 H A W q5 y7 Path'.refl)) d3
+          d4 = Typed.g-pre 𝓤 H A W 𝓣 E G61 G62 b19 Δ4 (Typed.pass T61 T62 s59) at3 (Scalar.g-room 𝓤 H A W E G61 10 y8 (Local.room-whole 𝓤 H A W q5 y8 Path'.refl)) d3
 
           d5 : Typed.Typed 𝓤 H A 𝓣 E G60 b20 Δ4 at5
-          d5 = Typed.s-seq 𝓤 H A W 𝓣 E G60 G61 b18 b19 Δ4 (Typed.both s58) at4 (Plain.t-call-plain 𝓤 H A W 𝓣 1 ps·2 r·2 (claims· .4) (claims· .5) "strand::Open::close" (known .2) E (λ pos β. β) G60 (record { pos = 10; st = (Syntax.field 3) ∷ []; d = 88; at = λ x. State.struct .as-values x .1 .1 .1 .0 }, (record { pos = 28; ty = y14; ref = λ x. x }, tt)) 0 (14 ∷ []) (Call.sub-id 𝓤 H A W (G60 .slots)) ((Yields'.yields-acc 𝓤 H A W (Rows.whole q5) q6 88 (λ x. State.struct .as-values x .1 .1 .1 .0) Path'.refl (Copies.cStruct Open.the-type Laws'3.the-laws Laws'3.the-copy .copy 𝓤 H A W) (Yields'.acc-record 𝓤 H A W (Rows.whole q5) Open.the-type 88 (λ x. State.struct .as-values x .1 .1 .1 .0) (Yields'.acc-part 𝓤 H A W (Rows.whole q5) q5 (Struct.Struct (Declared.shape Open.the-type)) 0 88 (λ x. x) (λ y. Open.the-type .to (State.struct .as-values y .1 .1 .1 .0)) (Yields'.acc-whole 𝓤 H A W q5) λ y a. Behind.look-at 𝓤 H A W TreeShare.fullShare State.the-type Laws'4.the-laws 3 88 Path'.refl Path'.refl a y (State.struct .as-values y) Path'.refl)), Path'.refl), (Reads'.as-is 𝓤 H A (Mut.mslice (Array.Array q3 2) y14 14), Mut.reads-mslice 𝓤 H A W (Array.Array q3 2) y14 14, Path'.refl, tt)) (Reads'.room-gone 𝓤 H A y1) (tt, tt) Path'.refl) d4
+          d5 = Typed.s-seq 𝓤 H A W 𝓣 E G60 G61 b18 b19 Δ4 (Typed.both s58) at4 (Plain.t-call-plain 𝓤 H A W 𝓣 1 ps·2 r·2 (claims· .4) (claims· .5) "strand::Open::close" (known .2) E (λ pos β. β) G60 (record { pos = 10; st = (Syntax.field 3) ∷ []; d = 136; at = λ x. State.struct .as-values x .1 .1 .1 .0 }, (record { pos = 28; ty = y15; ref = λ x. x }, tt)) 0 (14 ∷ []) (Call.sub-id 𝓤 H A W (G60 .slots)) ((Yields'.yields-acc 𝓤 H A W (Rows.whole q5) q6 136 (λ x. State.struct .as-values x .1 .1 .1 .0) Path'.refl (Copies.cStruct Open.the-type Laws'3.the-laws Laws'3.the-copy .copy 𝓤 H A W) (Yields'.acc-record 𝓤 H A W (Rows.whole q5) Open.the-type 136 (λ x. State.struct .as-values x .1 .1 .1 .0) (Yields'.acc-part 𝓤 H A W (Rows.whole q5) q5 (Struct.Struct (Declared.shape Open.the-type)) 0 136 (λ x. x) (λ y. Open.the-type .to (State.struct .as-values y .1 .1 .1 .0)) (Yields'.acc-whole 𝓤 H A W q5) λ y a. Behind.look-at 𝓤 H A W TreeShare.fullShare State.the-type Laws'4.the-laws 3 136 Path'.refl Path'.refl a y (State.struct .as-values y) Path'.refl)), Path'.refl), (Reads'.as-is 𝓤 H A (Mut.mslice (Array.Array q3 2) y15 14), Mut.reads-mslice 𝓤 H A W (Array.Array q3 2) y15 14, Path'.refl, tt)) (Reads'.room-gone 𝓤 H A y1) (tt, tt) Path'.refl) d4
 
           d6 : Typed.Typed 𝓤 H A 𝓣 E G59 b21 Δ4 at6
-          d6 = Typed.s-seq 𝓤 H A W 𝓣 E G59 G60 b17 b20 Δ4 (Typed.ask s57) at5 (Relend.t-sl-aggregate 𝓤 H A W E (Array.Array q3 2) 𝓣 (Relend.asMut (Array.Array q3 2)) G59 27 28 14 y14 y14 (λ x. x) (Scalar.oFld 9 ((Syntax.field 1) ∷ []) y1 8 λ v. Shared.lenV (v .0)) (Reads'.as-is 𝓤 H A (Relend.msptr (Array.Array q3 2) y14 14)) (Reads'.room-gone 𝓤 H A y15) (Relend.reads-owed-len 𝓤 H A W (Array.Array q3 2) y30 7 14 li3 8 Path'.refl, Path'.refl) Path'.refl Path'.refl λ b o k. tt) d5
+          d6 = Typed.s-seq 𝓤 H A W 𝓣 E G59 G60 b17 b20 Δ4 (Typed.ask s57) at5 (Relend.t-sl-aggregate 𝓤 H A W E (Array.Array q3 2) 𝓣 (Relend.asMut (Array.Array q3 2)) G59 27 28 14 y15 y15 (λ x. x) (Scalar.oFld 9 ((Syntax.field 1) ∷ []) y1 8 λ v. Shared.lenV (v .0)) (Reads'.as-is 𝓤 H A (Relend.msptr (Array.Array q3 2) y15 14)) (Reads'.room-gone 𝓤 H A y16) (Relend.reads-owed-len 𝓤 H A W (Array.Array q3 2) y31 7 14 li3 8 Path'.refl, Path'.refl) Path'.refl Path'.refl λ b o k. tt) d5
 
           d7 : Typed.Typed 𝓤 H A 𝓣 E G58 b22 Δ4 at7
-          d7 = Typed.s-seq 𝓤 H A W 𝓣 E G58 G59 b16 b21 Δ4 (Typed.give s56) at6 (Relend.t-sl-relend 𝓤 H A W E (Array.Array q3 2) 𝓣 G58 9 27 7 14 y30 y14 li3 0 (λ x. x) (Reads'.as-is 𝓤 H A (Mut.mslice (Array.Array q3 2) y30 7)) (Reads'.room-gone 𝓤 H A y14) Path'.refl tt Path'.refl Path'.refl Path'.refl λ b o. tt) d6
+          d7 = Typed.s-seq 𝓤 H A W 𝓣 E G58 G59 b16 b21 Δ4 (Typed.give s56) at6 (Relend.t-sl-relend 𝓤 H A W E (Array.Array q3 2) 𝓣 G58 9 27 7 14 y31 y15 li3 0 (λ x. x) (Reads'.as-is 𝓤 H A (Mut.mslice (Array.Array q3 2) y31 7)) (Reads'.room-gone 𝓤 H A y15) Path'.refl tt Path'.refl Path'.refl Path'.refl λ b o. tt) d6
 
           d8 : Typed.Typed 𝓤 H A 𝓣 E G57 b22 Δ4 at8
           d8 = Typed.g-pre 𝓤 H A W 𝓣 E G57 G58 b22 Δ4 (λ Ψ. Ψ) at7 (Lifetime.g-begin 𝓤 H A W E G57 14 (tt, (tt, (tt, (tt, (tt, (tt, (tt, (tt, (tt, (tt, (tt, (tt, (tt, (tt, (tt, (tt, (tt, (tt, (tt, (tt, (tt, (tt, (tt, (tt, (tt, (tt, (tt, (tt, (tt, (tt, (tt, (tt, (tt, (tt, (tt, (tt, (tt, (tt, (tt, tt)))))))))))))))))))))))))))))))))))))))) d7
@@ -2638,7 +2641,7 @@ module _ (claims· : Claims) where
           d9 = Typed.g-pre 𝓤 H A W 𝓣 E G56 G57 b22 Δ4 (Typed.pass T56 T57 s54) at8 (Scalar.g-room 𝓤 H A W E G56 26 Syntax.tyBool (Scalar.room-sc 𝓤 H A W Row.sBool)) d8
 
           d10 : Typed.Typed 𝓤 H A 𝓣 E G55 b22 Δ4 at10
-          d10 = Typed.g-pre 𝓤 H A W 𝓣 E G55 G56 b22 Δ4 (Typed.pass T55 T56 s53) at9 (Scalar.g-room 𝓤 H A W E G55 1 y31 (Local.room-whole 𝓤 H A W q0 y31 Path'.refl)) d9
+          d10 = Typed.g-pre 𝓤 H A W 𝓣 E G55 G56 b22 Δ4 (Typed.pass T55 T56 s53) at9 (Scalar.g-room 𝓤 H A W E G55 1 y32 (Local.room-whole 𝓤 H A W q0 y32 Path'.refl)) d9
 
           d11 : Typed.Typed 𝓤 H A 𝓣 E G66 b23 Δ4 at11
           d11 = Typed.t-skip 𝓤 H A W 𝓣 E Δ4 tt
@@ -2653,13 +2656,13 @@ module _ (claims· : Claims) where
           d14 = Typed.g-pre 𝓤 H A W 𝓣 E G53 G55 b24 Δ4 (Typed.pass T53 T55 s52) at13 (Scalar.g-room 𝓤 H A W E G53 25 y1 (Scalar.room-sc 𝓤 H A W z0)) d13
 
           d15 : Typed.Typed 𝓤 H A 𝓣 E G98 b37 Δ3 at15
-          d15 = Typed.s-typed 𝓤 H A W 𝓣 E G98 b37 Δ3 (λ Ψ. Typed.both s96 (Typed.pass T99 T100 s97 (Typed.pass T100 T101 s98 (Typed.both s100 Ψ)))) tt (Typed.g-post 𝓤 H A W 𝓣 E G98 G103 G104 b37 (λ Ψ. Typed.both s96 (Typed.pass T99 T100 s97 (Typed.pass T100 T101 s98 (Typed.both s100 Ψ)))) (λ Ψ. Ψ) (Typed.g-post 𝓤 H A W 𝓣 E G98 G102 G103 b37 (λ Ψ. Typed.both s96 (Typed.pass T99 T100 s97 (Typed.pass T100 T101 s98 Ψ))) (Typed.both s100) (Typed.g-post 𝓤 H A W 𝓣 E G98 G101 G102 b37 (λ Ψ. Typed.both s96 (Typed.pass T99 T100 s97 (Typed.pass T100 T101 s98 Ψ))) (λ Ψ. Ψ) (Typed.g-post 𝓤 H A W 𝓣 E G98 G100 G101 b37 (λ Ψ. Typed.both s96 (Typed.pass T99 T100 s97 Ψ)) (Typed.pass T100 T101 s98) (Typed.g-post 𝓤 H A W 𝓣 E G98 G99 G100 b37 (Typed.both s96) (Typed.pass T99 T100 s97) (Plain.t-call-plain 𝓤 H A W 𝓣 1 ps·5 r·5 (claims· .10) (claims· .11) "strand::State::answered" (known .5) E (λ pos β. β) G98 (record { pos = 10; st = List.[]; d = 0; at = λ x. x }, (record { pos = 1; st = List.[]; d = 0; at = λ x. x }, (record { pos = 12; st = List.[]; d = 0; at = λ x. x }, (record { pos = 38; ty = y14; ref = λ x. x }, tt)))) 10 (19 ∷ []) (Call.sub-id 𝓤 H A W (G98 .slots)) ((Yields.yields-copy 𝓤 H A W (λ ρ. Unit) q5 Path'.refl (Copies.cStruct State.the-type Laws'4.the-laws Laws'4.the-copy .copy 𝓤 H A W) (Rows.whole q5) (λ x. x) (λ x. x) (λ ρ told. Local.mem-whole 𝓤 H A W q5 ρ) λ ρ told. Local.whole-mem 𝓤 H A W q5 ρ, Path'.refl), ((Yields.yields-copy 𝓤 H A W (λ ρ. Unit) q0 Path'.refl (Copies.cStruct Params.the-type Laws'.the-laws Laws'.the-copy .copy 𝓤 H A W) (Rows.whole q0) (λ x. x) (λ x. x) (λ ρ told. Local.mem-whole 𝓤 H A W q0 ρ) λ ρ told. Local.whole-mem 𝓤 H A W q0 ρ, Path'.refl), ((Yields.yields-copy 𝓤 H A W (λ ρ. Unit) q9 Path'.refl (Copies.cStruct Scanned.the-type Laws''.the-laws Laws''.the-copy .copy 𝓤 H A W) (Rows.whole q9) (λ x. x) (λ x. x) (λ ρ told. Local.mem-whole 𝓤 H A W q9 ρ) λ ρ told. Local.whole-mem 𝓤 H A W q9 ρ, Path'.refl), (Reads'.as-is 𝓤 H A (Mut.mslice (Array.Array q3 2) y14 19), Mut.reads-mslice 𝓤 H A W (Array.Array q3 2) y14 19, Path'.refl, tt)))) (Local.room-whole 𝓤 H A W q5 y7 Path'.refl) (tt, tt) Path'.refl) (Scalar.g-room 𝓤 H A W E G99 11 y1 (Scalar.room-sc 𝓤 H A W z0))) (Scalar.g-room 𝓤 H A W E G100 12 y8 (Local.room-whole 𝓤 H A W q9 y8 Path'.refl))) (Lifetime.g-end 𝓤 H A W E G101 19 Path'.refl)) (Relend.g-back-sl 𝓤 H A W E (Array.Array q3 2) G102 38 9 7 19 y30 y14 li3 (λ x. x) (λ x. x) (Reads'.as-is 𝓤 H A (Mut.msleft (Array.Array q3 2) y14)) (Reads'.as-is 𝓤 H A (Relend.mslice-owed (Array.Array q3 2) y30 7 19 li3)) Path'.refl Path'.refl)) (Lifetime.g-forget 𝓤 H A W E G103 19 Row.dead Path'.refl))
+          d15 = Typed.s-typed 𝓤 H A W 𝓣 E G98 b37 Δ3 (λ Ψ. Typed.both s96 (Typed.pass T99 T100 s97 (Typed.pass T100 T101 s98 (Typed.both s100 Ψ)))) tt (Typed.g-post 𝓤 H A W 𝓣 E G98 G103 G104 b37 (λ Ψ. Typed.both s96 (Typed.pass T99 T100 s97 (Typed.pass T100 T101 s98 (Typed.both s100 Ψ)))) (λ Ψ. Ψ) (Typed.g-post 𝓤 H A W 𝓣 E G98 G102 G103 b37 (λ Ψ. Typed.both s96 (Typed.pass T99 T100 s97 (Typed.pass T100 T101 s98 Ψ))) (Typed.both s100) (Typed.g-post 𝓤 H A W 𝓣 E G98 G101 G102 b37 (λ Ψ. Typed.both s96 (Typed.pass T99 T100 s97 (Typed.pass T100 T101 s98 Ψ))) (λ Ψ. Ψ) (Typed.g-post 𝓤 H A W 𝓣 E G98 G100 G101 b37 (λ Ψ. Typed.both s96 (Typed.pass T99 T100 s97 Ψ)) (Typed.pass T100 T101 s98) (Typed.g-post 𝓤 H A W 𝓣 E G98 G99 G100 b37 (Typed.both s96) (Typed.pass T99 T100 s97) (Plain.t-call-plain 𝓤 H A W 𝓣 1 ps·5 r·5 (claims· .10) (claims· .11) "strand::State::answered" (known .5) E (λ pos β. β) G98 (record { pos = 10; st = List.[]; d = 0; at = λ x. x }, (record { pos = 1; st = List.[]; d = 0; at = λ x. x }, (record { pos = 12; st = List.[]; d = 0; at = λ x. x }, (record { pos = 38; ty = y15; ref = λ x. x }, tt)))) 10 (19 ∷ []) (Call.sub-id 𝓤 H A W (G98 .slots)) ((Yields.yields-copy 𝓤 H A W (λ ρ. Unit) q5 Path'.refl (Copies.cStruct State.the-type Laws'4.the-laws Laws'4.the-copy .copy 𝓤 H A W) (Rows.whole q5) (λ x. x) (λ x. x) (λ ρ told. Local.mem-whole 𝓤 H A W q5 ρ) λ ρ told. Local.whole-mem 𝓤 H A W q5 ρ, Path'.refl), ((Yields.yields-copy 𝓤 H A W (λ ρ. Unit) q0 Path'.refl (Copies.cStruct Params.the-type Laws'.the-laws Laws'.the-copy .copy 𝓤 H A W) (Rows.whole q0) (λ x. x) (λ x. x) (λ ρ told. Local.mem-whole 𝓤 H A W q0 ρ) λ ρ told. Local.whole-mem 𝓤 H A W q0 ρ, Path'.refl), ((Yields.yields-copy 𝓤 H A W (λ ρ. Unit) q9 Path'.refl (Copies.cStruct Scanned.the-type Laws''.the-laws Laws''.the-copy .copy 𝓤 H A W) (Rows.whole q9) (λ x. x) (λ x. x) (λ ρ told. Local.mem-whole 𝓤 H A W q9 ρ) λ ρ told. Local.whole-mem 𝓤 H A W q9 ρ, Path'.refl), (Reads'.as-is 𝓤 H A (Mut.mslice (Array.Array q3 2) y15 19), Mut.reads-mslice 𝓤 H A W (Array.Array q3 2) y15 19, Path'.refl, tt)))) (Local.room-whole 𝓤 H A W q5 y8 Path'.refl) (tt, tt) Path'.refl) (Scalar.g-room 𝓤 H A W E G99 11 y1 (Scalar.room-sc 𝓤 H A W z0))) (Scalar.g-room 𝓤 H A W E G100 12 y9 (Local.room-whole 𝓤 H A W q9 y9 Path'.refl))) (Lifetime.g-end 𝓤 H A W E G101 19 Path'.refl)) (Relend.g-back-sl 𝓤 H A W E (Array.Array q3 2) G102 38 9 7 19 y31 y15 li3 (λ x. x) (λ x. x) (Reads'.as-is 𝓤 H A (Mut.msleft (Array.Array q3 2) y15)) (Reads'.as-is 𝓤 H A (Relend.mslice-owed (Array.Array q3 2) y31 7 19 li3)) Path'.refl Path'.refl)) (Lifetime.g-forget 𝓤 H A W E G103 19 Row.dead Path'.refl))
 
           d16 : Typed.Typed 𝓤 H A 𝓣 E G97 b38 Δ3 at16
-          d16 = Typed.s-seq 𝓤 H A W 𝓣 E G97 G98 b36 b37 Δ3 (Typed.ask s95) at15 (Relend.t-sl-aggregate 𝓤 H A W E (Array.Array q3 2) 𝓣 (Relend.asMut (Array.Array q3 2)) G97 37 38 19 y14 y14 (λ x. x) (Scalar.oFld 9 ((Syntax.field 1) ∷ []) y1 8 λ v. Shared.lenV (v .0)) (Reads'.as-is 𝓤 H A (Relend.msptr (Array.Array q3 2) y14 19)) (Reads'.room-gone 𝓤 H A y15) (Relend.reads-owed-len 𝓤 H A W (Array.Array q3 2) y30 7 19 li3 8 Path'.refl, Path'.refl) Path'.refl Path'.refl λ b o k. tt) d15
+          d16 = Typed.s-seq 𝓤 H A W 𝓣 E G97 G98 b36 b37 Δ3 (Typed.ask s95) at15 (Relend.t-sl-aggregate 𝓤 H A W E (Array.Array q3 2) 𝓣 (Relend.asMut (Array.Array q3 2)) G97 37 38 19 y15 y15 (λ x. x) (Scalar.oFld 9 ((Syntax.field 1) ∷ []) y1 8 λ v. Shared.lenV (v .0)) (Reads'.as-is 𝓤 H A (Relend.msptr (Array.Array q3 2) y15 19)) (Reads'.room-gone 𝓤 H A y16) (Relend.reads-owed-len 𝓤 H A W (Array.Array q3 2) y31 7 19 li3 8 Path'.refl, Path'.refl) Path'.refl Path'.refl λ b o k. tt) d15
 
           d17 : Typed.Typed 𝓤 H A 𝓣 E G96 b39 Δ3 at17
-          d17 = Typed.s-seq 𝓤 H A W 𝓣 E G96 G97 b35 b38 Δ3 (Typed.give s94) at16 (Relend.t-sl-relend 𝓤 H A W E (Array.Array q3 2) 𝓣 G96 9 37 7 19 y30 y14 li3 0 (λ x. x) (Reads'.as-is 𝓤 H A (Mut.mslice (Array.Array q3 2) y30 7)) (Reads'.room-gone 𝓤 H A y14) Path'.refl tt Path'.refl Path'.refl Path'.refl λ b o. tt) d16
+          d17 = Typed.s-seq 𝓤 H A W 𝓣 E G96 G97 b35 b38 Δ3 (Typed.give s94) at16 (Relend.t-sl-relend 𝓤 H A W E (Array.Array q3 2) 𝓣 G96 9 37 7 19 y31 y15 li3 0 (λ x. x) (Reads'.as-is 𝓤 H A (Mut.mslice (Array.Array q3 2) y31 7)) (Reads'.room-gone 𝓤 H A y15) Path'.refl tt Path'.refl Path'.refl Path'.refl λ b o. tt) d16
 
           d18 : Typed.Typed 𝓤 H A 𝓣 E G95 b39 Δ3 at18
           d18 = Typed.g-pre 𝓤 H A W 𝓣 E G95 G96 b39 Δ3 (λ Ψ. Ψ) at17 (Lifetime.g-begin 𝓤 H A W E G95 19 (tt, (tt, (tt, (tt, (tt, (tt, (tt, (tt, (tt, (tt, (tt, (tt, (tt, (tt, (tt, (tt, (tt, (tt, (tt, (tt, (tt, (tt, (tt, (tt, (tt, (tt, (tt, (tt, (tt, (tt, (tt, (tt, (tt, (tt, (tt, (tt, (tt, (tt, (tt, tt)))))))))))))))))))))))))))))))))))))))) d17
@@ -2668,7 +2671,7 @@ module _ (claims· : Claims) where
           d19 = Typed.g-pre 𝓤 H A W 𝓣 E G94 G95 b39 Δ3 (λ Ψ. Ψ) at18 (Lifetime.g-forget 𝓤 H A W E G94 18 Row.dead Path'.refl) d18
 
           d20 : Typed.Typed 𝓤 H A 𝓣 E G93 b39 Δ3 at20
-          d20 = Typed.g-pre 𝓤 H A W 𝓣 E G93 G94 b39 Δ3 (Typed.both s91) at19 (Relend.g-back-sl 𝓤 H A W E Rec·type.the-row G93 36 8 6 18 y29 y20 li4 (λ x. x) (λ x. x) (Reads'.as-is 𝓤 H A (Mut.msleft Rec·type.the-row y20)) (Reads'.as-is 𝓤 H A (Relend.mslice-owed Rec·type.the-row y29 6 18 li4)) Path'.refl Path'.refl) d19
+          d20 = Typed.g-pre 𝓤 H A W 𝓣 E G93 G94 b39 Δ3 (Typed.both s91) at19 (Relend.g-back-sl 𝓤 H A W E Rec·type.the-row G93 36 8 6 18 y30 y21 li4 (λ x. x) (λ x. x) (Reads'.as-is 𝓤 H A (Mut.msleft Rec·type.the-row y21)) (Reads'.as-is 𝓤 H A (Relend.mslice-owed Rec·type.the-row y30 6 18 li4)) Path'.refl Path'.refl) d19
 
           d21 : Typed.Typed 𝓤 H A 𝓣 E G92 b39 Δ3 at21
           d21 = Typed.g-pre 𝓤 H A W 𝓣 E G92 G93 b39 Δ3 (λ Ψ. Ψ) at20 (Lifetime.g-end 𝓤 H A W E G92 18 Path'.refl) d20
@@ -2677,10 +2680,10 @@ module _ (claims· : Claims) where
           d22 = Typed.g-pre 𝓤 H A W 𝓣 E G91 G92 b39 Δ3 (λ Ψ. Ψ) at21 (Lifetime.g-forget 𝓤 H A W E G91 17 Row.dead Path'.refl) d21
 
           d23 : Typed.Typed 𝓤 H A 𝓣 E G90 b39 Δ3 at23
-          d23 = Typed.g-pre 𝓤 H A W 𝓣 E G90 G91 b39 Δ3 (Typed.give s88) at22 (Know.g-sl-known 𝓤 H A W (Referent.fInt Syntax.w16) E G90 7 5 y28 li1 0 (λ x. x) record { fits = Dec'.lit< tt } (Reads'.as-is 𝓤 H A (Mut.mslice q4 y28 5)) Path'.refl tt) d22
+          d23 = Typed.g-pre 𝓤 H A W 𝓣 E G90 G91 b39 Δ3 (Typed.give s88) at22 (Know.g-sl-known 𝓤 H A W (Referent.fInt Syntax.w16) E G90 7 5 y29 li1 0 (λ x. x) record { fits = Dec'.lit< tt } (Reads'.as-is 𝓤 H A (Mut.mslice q4 y29 5)) Path'.refl tt) d22
 
           d24 : Typed.Typed 𝓤 H A 𝓣 E G89 b39 Δ3 at24
-          d24 = Typed.g-pre 𝓤 H A W 𝓣 E G89 G90 b39 Δ3 (Typed.both s87) at23 (Relend.g-back-sl 𝓤 H A W E q4 G89 34 7 5 17 y28 y10 li1 (λ x. x) (λ x. x) (Reads'.as-is 𝓤 H A (Mut.msleft q4 y10)) (Reads'.as-is 𝓤 H A (Relend.mslice-owed q4 y28 5 17 li1)) Path'.refl Path'.refl) d23
+          d24 = Typed.g-pre 𝓤 H A W 𝓣 E G89 G90 b39 Δ3 (Typed.both s87) at23 (Relend.g-back-sl 𝓤 H A W E q4 G89 34 7 5 17 y29 y11 li1 (λ x. x) (λ x. x) (Reads'.as-is 𝓤 H A (Mut.msleft q4 y11)) (Reads'.as-is 𝓤 H A (Relend.mslice-owed q4 y29 5 17 li1)) Path'.refl Path'.refl) d23
 
           d25 : Typed.Typed 𝓤 H A 𝓣 E G88 b39 Δ3 at25
           d25 = Typed.g-pre 𝓤 H A W 𝓣 E G88 G89 b39 Δ3 (λ Ψ. Ψ) at24 (Lifetime.g-end 𝓤 H A W E G88 17 Path'.refl) d24
@@ -2689,7 +2692,7 @@ module _ (claims· : Claims) where
           d26 = Typed.g-pre 𝓤 H A W 𝓣 E G87 G88 b39 Δ3 (λ Ψ. Ψ) at25 (Lifetime.g-forget 𝓤 H A W E G87 16 Row.dead Path'.refl) d25
 
           d27 : Typed.Typed 𝓤 H A 𝓣 E G86 b39 Δ3 at27
-          d27 = Typed.g-pre 𝓤 H A W 𝓣 E G86 G87 b39 Δ3 (Typed.pass T84 T87 s84) at26 (Reshare.g-back-sl-shr 𝓤 H A W E q4 G86 6 4 16 y27 li0 (λ x. x) (Reads'.as-is 𝓤 H A (Reshare.mslice-owedS q4 y27 4 16 li0)) Path'.refl Path'.refl) d26
+          d27 = Typed.g-pre 𝓤 H A W 𝓣 E G86 G87 b39 Δ3 (Typed.pass T84 T87 s84) at26 (Reshare.g-back-sl-shr 𝓤 H A W E q4 G86 6 4 16 y28 li0 (λ x. x) (Reads'.as-is 𝓤 H A (Reshare.mslice-owedS q4 y28 4 16 li0)) Path'.refl Path'.refl) d26
 
           d28 : Typed.Typed 𝓤 H A 𝓣 E G85 b39 Δ3 at28
           d28 = Typed.g-pre 𝓤 H A W 𝓣 E G85 G86 b39 Δ3 (λ Ψ. Ψ) at27 (Lifetime.g-end 𝓤 H A W E G85 16 Path'.refl) d27
@@ -2698,52 +2701,52 @@ module _ (claims· : Claims) where
           d29 = Typed.g-pre 𝓤 H A W 𝓣 E G84 G85 b39 Δ3 (λ Ψ. Ψ) at28 (Lifetime.g-forget 𝓤 H A W E G84 15 Row.dead Path'.refl) d28
 
           d30 : Typed.Typed 𝓤 H A 𝓣 E G83 b39 Δ3 at30
-          d30 = Typed.g-pre 𝓤 H A W 𝓣 E G83 G84 b39 Δ3 (Typed.pass T82 T84 s81) at29 (Reshare.g-back-sl-shr 𝓤 H A W E q3 G83 5 3 15 y26 li2 (λ x. x) (Reads'.as-is 𝓤 H A (Reshare.mslice-owedS q3 y26 3 15 li2)) Path'.refl Path'.refl) d29
+          d30 = Typed.g-pre 𝓤 H A W 𝓣 E G83 G84 b39 Δ3 (Typed.pass T82 T84 s81) at29 (Reshare.g-back-sl-shr 𝓤 H A W E q3 G83 5 3 15 y27 li2 (λ x. x) (Reads'.as-is 𝓤 H A (Reshare.mslice-owedS q3 y27 3 15 li2)) Path'.refl Path'.refl) d29
 
           d31 : Typed.Typed 𝓤 H A 𝓣 E G82 b39 Δ3 at31
           d31 = Typed.g-pre 𝓤 H A W 𝓣 E G82 G83 b39 Δ3 (λ Ψ. Ψ) at30 (Lifetime.g-end 𝓤 H A W E G82 15 Path'.refl) d30
 
           d32 : Typed.Typed 𝓤 H A 𝓣 E G81 b39 Δ3 at32
-          d32 = Typed.g-pre 𝓤 H A W 𝓣 E G81 G82 b39 Δ3 (Typed.pass T81 T82 s79) at31 (Scalar.g-room 𝓤 H A W E G81 32 y19 (Shared.room-sslice 𝓤 H A W q4 y18 16)) d31
+          d32 = Typed.g-pre 𝓤 H A W 𝓣 E G81 G82 b39 Δ3 (Typed.pass T81 T82 s79) at31 (Scalar.g-room 𝓤 H A W E G81 32 y20 (Shared.room-sslice 𝓤 H A W q4 y19 16)) d31
 
           d33 : Typed.Typed 𝓤 H A 𝓣 E G80 b39 Δ3 at33
-          d33 = Typed.g-pre 𝓤 H A W 𝓣 E G80 G81 b39 Δ3 (Typed.pass T80 T81 s78) at32 (Scalar.g-room 𝓤 H A W E G80 30 y17 (Shared.room-sslice 𝓤 H A W q3 y16 15)) d32
+          d33 = Typed.g-pre 𝓤 H A W 𝓣 E G80 G81 b39 Δ3 (Typed.pass T80 T81 s78) at32 (Scalar.g-room 𝓤 H A W E G80 30 y18 (Shared.room-sslice 𝓤 H A W q3 y17 15)) d32
 
           d34 : Typed.Typed 𝓤 H A 𝓣 E G79 b40 Δ3 at34
-          d34 = Typed.s-seq 𝓤 H A W 𝓣 E G79 G80 b34 b39 Δ3 (Typed.both s77) at33 (Plain.t-call-plain 𝓤 H A W 𝓣 6 ps·4 r·4 (claims· .8) (claims· .9) "scans::dust::dust_backward" (known .4) E (λ pos β. β) G79 (record { pos = 1; st = List.[]; d = 0; at = λ x. x }, (record { pos = 10; st = (Syntax.field 2) ∷ (Syntax.field 5) ∷ []; d = 64; at = λ x. Window.struct .as-values (State.struct .as-values x .1 .1 .0) .1 .1 .1 .1 .1 .0 }, (Num.vAt 11 λ x. x, (record { pos = 30; ty = y16; ref = λ x. x }, (Num.vFld 10 ((Syntax.field 2) ∷ (Syntax.field 2) ∷ []) 40 λ x. Window.struct .as-values (State.struct .as-values x .1 .1 .0) .1 .1 .0, (Num.vFld 10 ((Syntax.field 2) ∷ (Syntax.field 3) ∷ []) 48 λ x. Window.struct .as-values (State.struct .as-values x .1 .1 .0) .1 .1 .1 .0, (record { pos = 32; ty = y18; ref = λ x. x }, (record { pos = 3; ty = y24; ref = λ x. x }, (record { pos = 4; ty = y25; ref = λ x. x }, (record { pos = 34; ty = y10; ref = λ x. x }, (record { pos = 36; ty = y20; ref = λ x. x }, tt))))))))))) 12 (15 ∷ 16 ∷ 1 ∷ 2 ∷ 17 ∷ 18 ∷ []) (Call.sub-id 𝓤 H A W (G79 .slots)) ((Yields.yields-copy 𝓤 H A W (λ ρ. Unit) q0 Path'.refl (Copies.cStruct Params.the-type Laws'.the-laws Laws'.the-copy .copy 𝓤 H A W) (Rows.whole q0) (λ x. x) (λ x. x) (λ ρ told. Local.mem-whole 𝓤 H A W q0 ρ) λ ρ told. Local.whole-mem 𝓤 H A W q0 ρ, Path'.refl), ((Yields'.yields-acc 𝓤 H A W (Rows.whole q5) q8 64 (λ x. Window.struct .as-values (State.struct .as-values x .1 .1 .0) .1 .1 .1 .1 .1 .0) Path'.refl (Copies.cStruct Carry.the-type Laws.the-laws Laws.the-copy .copy 𝓤 H A W) (Yields'.acc-record 𝓤 H A W (Rows.whole q5) Carry.the-type 64 (λ x. Window.struct .as-values (State.struct .as-values x .1 .1 .0) .1 .1 .1 .1 .1 .0) (Yields'.acc-part 𝓤 H A W (Rows.whole q5) q7 (Struct.Struct (Declared.shape Carry.the-type)) 24 40 (λ x. State.struct .as-values x .1 .1 .0) (λ y. Carry.the-type .to (Window.struct .as-values y .1 .1 .1 .1 .1 .0)) (Yields'.acc-record 𝓤 H A W (Rows.whole q5) Window.the-type 24 (λ x. State.struct .as-values x .1 .1 .0) (Yields'.acc-part 𝓤 H A W (Rows.whole q5) q5 (Struct.Struct (Declared.shape Window.the-type)) 0 24 (λ x. x) (λ y. Window.the-type .to (State.struct .as-values y .1 .1 .0)) (Yields'.acc-whole 𝓤 H A W q5) λ y a. Behind.look-at 𝓤 H A W TreeShare.fullShare State.the-type Laws'4.the-laws 2 24 Path'.refl Path'.refl a y (State.struct .as-values y) Path'.refl)) λ y a. Behind.look-at 𝓤 H A W TreeShare.fullShare Window.the-type Laws'5.the-laws 5 40 Path'.refl Path'.refl a y (Window.struct .as-values y) Path'.refl)), Path'.refl), ((Scalar.reads-sc 𝓤 H A W z0, Path'.refl), (ShrSlice.spares-sslice 𝓤 H A W q3 y16 15, Shared.reads-sslice 𝓤 H A W q3 y16 15, Path'.refl, ((Reads.reads-inner 𝓤 H A W Window.the-type Laws'5.the-laws (Rows.whole q5) 24 (λ x. State.struct .as-values x .1 .1 .0) (Reads.reads-field 𝓤 H A W State.the-type Laws'4.the-laws 2 y5 24 Path'.refl) 2 y1 16 Path'.refl, Path'.refl), ((Reads.reads-inner 𝓤 H A W Window.the-type Laws'5.the-laws (Rows.whole q5) 24 (λ x. State.struct .as-values x .1 .1 .0) (Reads.reads-field 𝓤 H A W State.the-type Laws'4.the-laws 2 y5 24 Path'.refl) 3 y1 24 Path'.refl, Path'.refl), (ShrSlice.spares-sslice 𝓤 H A W q4 y18 16, Shared.reads-sslice 𝓤 H A W q4 y18 16, Path'.refl, (ShrSlice.spares-sslice 𝓤 H A W q2 y24 1, Shared.reads-sslice 𝓤 H A W q2 y24 1, Path'.refl, (ShrSlice.spares-sslice 𝓤 H A W q2 y25 2, Shared.reads-sslice 𝓤 H A W q2 y25 2, Path'.refl, (Reads'.as-is 𝓤 H A (Mut.mslice q4 y10 17), Mut.reads-mslice 𝓤 H A W q4 y10 17, Path'.refl, (Reads'.as-is 𝓤 H A (Mut.mslice Rec·type.the-row y20 18), Mut.reads-mslice 𝓤 H A W Rec·type.the-row y20 18, Path'.refl, tt))))))))))) (Reads'.room-gone 𝓤 H A y8) (tt, (tt, (tt, (tt, (tt, (tt, tt)))))) Path'.refl) d33
+          d34 = Typed.s-seq 𝓤 H A W 𝓣 E G79 G80 b34 b39 Δ3 (Typed.both s77) at33 (Plain.t-call-plain 𝓤 H A W 𝓣 6 ps·4 r·4 (claims· .8) (claims· .9) "scans::dust::dust_backward" (known .4) E (λ pos β. β) G79 (record { pos = 1; st = List.[]; d = 0; at = λ x. x }, (record { pos = 10; st = (Syntax.field 2) ∷ (Syntax.field 5) ∷ []; d = 64; at = λ x. Window.struct .as-values (State.struct .as-values x .1 .1 .0) .1 .1 .1 .1 .1 .0 }, (Num.vAt 11 λ x. x, (record { pos = 30; ty = y17; ref = λ x. x }, (Num.vFld 10 ((Syntax.field 2) ∷ (Syntax.field 2) ∷ []) 40 λ x. Window.struct .as-values (State.struct .as-values x .1 .1 .0) .1 .1 .0, (Num.vFld 10 ((Syntax.field 2) ∷ (Syntax.field 3) ∷ []) 48 λ x. Window.struct .as-values (State.struct .as-values x .1 .1 .0) .1 .1 .1 .0, (record { pos = 32; ty = y19; ref = λ x. x }, (record { pos = 3; ty = y25; ref = λ x. x }, (record { pos = 4; ty = y26; ref = λ x. x }, (record { pos = 34; ty = y11; ref = λ x. x }, (record { pos = 36; ty = y21; ref = λ x. x }, tt))))))))))) 12 (15 ∷ 16 ∷ 1 ∷ 2 ∷ 17 ∷ 18 ∷ []) (Call.sub-id 𝓤 H A W (G79 .slots)) ((Yields.yields-copy 𝓤 H A W (λ ρ. Unit) q0 Path'.refl (Copies.cStruct Params.the-type Laws'.the-laws Laws'.the-copy .copy 𝓤 H A W) (Rows.whole q0) (λ x. x) (λ x. x) (λ ρ told. Local.mem-whole 𝓤 H A W q0 ρ) λ ρ told. Local.whole-mem 𝓤 H A W q0 ρ, Path'.refl), ((Yields'.yields-acc 𝓤 H A W (Rows.whole q5) q8 64 (λ x. Window.struct .as-values (State.struct .as-values x .1 .1 .0) .1 .1 .1 .1 .1 .0) Path'.refl (Copies.cStruct Carry.the-type Laws.the-laws Laws.the-copy .copy 𝓤 H A W) (Yields'.acc-record 𝓤 H A W (Rows.whole q5) Carry.the-type 64 (λ x. Window.struct .as-values (State.struct .as-values x .1 .1 .0) .1 .1 .1 .1 .1 .0) (Yields'.acc-part 𝓤 H A W (Rows.whole q5) q7 (Struct.Struct (Declared.shape Carry.the-type)) 24 40 (λ x. State.struct .as-values x .1 .1 .0) (λ y. Carry.the-type .to (Window.struct .as-values y .1 .1 .1 .1 .1 .0)) (Yields'.acc-record 𝓤 H A W (Rows.whole q5) Window.the-type 24 (λ x. State.struct .as-values x .1 .1 .0) (Yields'.acc-part 𝓤 H A W (Rows.whole q5) q5 (Struct.Struct (Declared.shape Window.the-type)) 0 24 (λ x. x) (λ y. Window.the-type .to (State.struct .as-values y .1 .1 .0)) (Yields'.acc-whole 𝓤 H A W q5) λ y a. Behind.look-at 𝓤 H A W TreeShare.fullShare State.the-type Laws'4.the-laws 2 24 Path'.refl Path'.refl a y (State.struct .as-values y) Path'.refl)) λ y a. Behind.look-at 𝓤 H A W TreeShare.fullShare Window.the-type Laws'5.the-laws 5 40 Path'.refl Path'.refl a y (Window.struct .as-values y) Path'.refl)), Path'.refl), ((Scalar.reads-sc 𝓤 H A W z0, Path'.refl), (ShrSlice.spares-sslice 𝓤 H A W q3 y17 15, Shared.reads-sslice 𝓤 H A W q3 y17 15, Path'.refl, ((Reads.reads-inner 𝓤 H A W Window.the-type Laws'5.the-laws (Rows.whole q5) 24 (λ x. State.struct .as-values x .1 .1 .0) (Reads.reads-field 𝓤 H A W State.the-type Laws'4.the-laws 2 y6 24 Path'.refl) 2 y1 16 Path'.refl, Path'.refl), ((Reads.reads-inner 𝓤 H A W Window.the-type Laws'5.the-laws (Rows.whole q5) 24 (λ x. State.struct .as-values x .1 .1 .0) (Reads.reads-field 𝓤 H A W State.the-type Laws'4.the-laws 2 y6 24 Path'.refl) 3 y1 24 Path'.refl, Path'.refl), (ShrSlice.spares-sslice 𝓤 H A W q4 y19 16, Shared.reads-sslice 𝓤 H A W q4 y19 16, Path'.refl, (ShrSlice.spares-sslice 𝓤 H A W q2 y25 1, Shared.reads-sslice 𝓤 H A W q2 y25 1, Path'.refl, (ShrSlice.spares-sslice 𝓤 H A W q2 y26 2, Shared.reads-sslice 𝓤 H A W q2 y26 2, Path'.refl, (Reads'.as-is 𝓤 H A (Mut.mslice q4 y11 17), Mut.reads-mslice 𝓤 H A W q4 y11 17, Path'.refl, (Reads'.as-is 𝓤 H A (Mut.mslice Rec·type.the-row y21 18), Mut.reads-mslice 𝓤 H A W Rec·type.the-row y21 18, Path'.refl, tt))))))))))) (Reads'.room-gone 𝓤 H A y9) (tt, (tt, (tt, (tt, (tt, (tt, tt)))))) Path'.refl) d33
 
           d35 : Typed.Typed 𝓤 H A 𝓣 E G78 b41 Δ3 at35
-          d35 = Typed.s-seq 𝓤 H A W 𝓣 E G78 G79 b33 b40 Δ3 (Typed.ask s76) at34 (Relend.t-sl-aggregate 𝓤 H A W E Rec·type.the-row 𝓣 (Relend.asMut Rec·type.the-row) G78 35 36 18 y20 y20 (λ x. x) (Scalar.oFld 8 ((Syntax.field 1) ∷ []) y1 8 λ v. Shared.lenV (v .0)) (Reads'.as-is 𝓤 H A (Relend.msptr Rec·type.the-row y20 18)) (Reads'.room-gone 𝓤 H A y21) (Relend.reads-owed-len 𝓤 H A W Rec·type.the-row y29 6 18 li4 8 Path'.refl, Path'.refl) Path'.refl Path'.refl λ b o k. tt) d34
+          d35 = Typed.s-seq 𝓤 H A W 𝓣 E G78 G79 b33 b40 Δ3 (Typed.ask s76) at34 (Relend.t-sl-aggregate 𝓤 H A W E Rec·type.the-row 𝓣 (Relend.asMut Rec·type.the-row) G78 35 36 18 y21 y21 (λ x. x) (Scalar.oFld 8 ((Syntax.field 1) ∷ []) y1 8 λ v. Shared.lenV (v .0)) (Reads'.as-is 𝓤 H A (Relend.msptr Rec·type.the-row y21 18)) (Reads'.room-gone 𝓤 H A y22) (Relend.reads-owed-len 𝓤 H A W Rec·type.the-row y30 6 18 li4 8 Path'.refl, Path'.refl) Path'.refl Path'.refl λ b o k. tt) d34
 
           d36 : Typed.Typed 𝓤 H A 𝓣 E G77 b42 Δ3 at36
-          d36 = Typed.s-seq 𝓤 H A W 𝓣 E G77 G78 b32 b41 Δ3 (Typed.give s75) at35 (Relend.t-sl-relend 𝓤 H A W E Rec·type.the-row 𝓣 G77 8 35 6 18 y29 y20 li4 0 (λ x. x) (Reads'.as-is 𝓤 H A (Mut.mslice Rec·type.the-row y29 6)) (Reads'.room-gone 𝓤 H A y20) Path'.refl tt Path'.refl Path'.refl Path'.refl λ b o. tt) d35
+          d36 = Typed.s-seq 𝓤 H A W 𝓣 E G77 G78 b32 b41 Δ3 (Typed.give s75) at35 (Relend.t-sl-relend 𝓤 H A W E Rec·type.the-row 𝓣 G77 8 35 6 18 y30 y21 li4 0 (λ x. x) (Reads'.as-is 𝓤 H A (Mut.mslice Rec·type.the-row y30 6)) (Reads'.room-gone 𝓤 H A y21) Path'.refl tt Path'.refl Path'.refl Path'.refl λ b o. tt) d35
 
           d37 : Typed.Typed 𝓤 H A 𝓣 E G76 b42 Δ3 at37
           d37 = Typed.g-pre 𝓤 H A W 𝓣 E G76 G77 b42 Δ3 (λ Ψ. Ψ) at36 (Lifetime.g-begin 𝓤 H A W E G76 18 (tt, (tt, (tt, (tt, (tt, ((tt, tt), ((tt, tt), ((tt, tt), (tt, (tt, (tt, (tt, (tt, (tt, (tt, (tt, (tt, (tt, (tt, (tt, (tt, (tt, (tt, (tt, (tt, (tt, (tt, (tt, (tt, (tt, (tt, (tt, (tt, (tt, (tt, (tt, (tt, (tt, (tt, tt)))))))))))))))))))))))))))))))))))))))) d36
 
           d38 : Typed.Typed 𝓤 H A 𝓣 E G75 b43 Δ3 at38
-          d38 = Typed.s-seq 𝓤 H A W 𝓣 E G75 G76 b31 b42 Δ3 (Typed.ask s73) at37 (Relend.t-sl-aggregate 𝓤 H A W E q4 𝓣 (Relend.asMut q4) G75 33 34 17 y10 y10 (λ x. x) (Scalar.oFld 7 ((Syntax.field 1) ∷ []) y1 8 λ v. Shared.lenV (v .0)) (Reads'.as-is 𝓤 H A (Relend.msptr q4 y10 17)) (Reads'.room-gone 𝓤 H A y11) (Relend.reads-owed-len 𝓤 H A W q4 y28 5 17 li1 8 Path'.refl, Path'.refl) Path'.refl Path'.refl λ b o k. tt) d37
+          d38 = Typed.s-seq 𝓤 H A W 𝓣 E G75 G76 b31 b42 Δ3 (Typed.ask s73) at37 (Relend.t-sl-aggregate 𝓤 H A W E q4 𝓣 (Relend.asMut q4) G75 33 34 17 y11 y11 (λ x. x) (Scalar.oFld 7 ((Syntax.field 1) ∷ []) y1 8 λ v. Shared.lenV (v .0)) (Reads'.as-is 𝓤 H A (Relend.msptr q4 y11 17)) (Reads'.room-gone 𝓤 H A y12) (Relend.reads-owed-len 𝓤 H A W q4 y29 5 17 li1 8 Path'.refl, Path'.refl) Path'.refl Path'.refl λ b o k. tt) d37
 
           d39 : Typed.Typed 𝓤 H A 𝓣 E G74 b44 Δ3 at39
-          d39 = Typed.s-seq 𝓤 H A W 𝓣 E G74 G75 b30 b43 Δ3 (Typed.give s72) at38 (Relend.t-sl-relend 𝓤 H A W E q4 𝓣 G74 7 33 5 17 y28 y10 li1 0 (λ x. x) (Reads'.as-is 𝓤 H A (Mut.mslice q4 y28 5)) (Reads'.room-gone 𝓤 H A y10) Path'.refl tt Path'.refl Path'.refl Path'.refl λ b o. tt) d38
+          d39 = Typed.s-seq 𝓤 H A W 𝓣 E G74 G75 b30 b43 Δ3 (Typed.give s72) at38 (Relend.t-sl-relend 𝓤 H A W E q4 𝓣 G74 7 33 5 17 y29 y11 li1 0 (λ x. x) (Reads'.as-is 𝓤 H A (Mut.mslice q4 y29 5)) (Reads'.room-gone 𝓤 H A y11) Path'.refl tt Path'.refl Path'.refl Path'.refl λ b o. tt) d38
 
           d40 : Typed.Typed 𝓤 H A 𝓣 E G73 b44 Δ3 at40
           d40 = Typed.g-pre 𝓤 H A W 𝓣 E G73 G74 b44 Δ3 (λ Ψ. Ψ) at39 (Lifetime.g-begin 𝓤 H A W E G73 17 (tt, (tt, (tt, (tt, (tt, ((tt, tt), ((tt, tt), (tt, (tt, (tt, (tt, (tt, (tt, (tt, (tt, (tt, (tt, (tt, (tt, (tt, (tt, (tt, (tt, (tt, (tt, (tt, (tt, (tt, (tt, (tt, (tt, (tt, (tt, (tt, (tt, (tt, (tt, (tt, (tt, tt)))))))))))))))))))))))))))))))))))))))) d39
 
           d41 : Typed.Typed 𝓤 H A 𝓣 E G72 b45 Δ3 at41
-          d41 = Typed.s-seq 𝓤 H A W 𝓣 E G72 G73 b29 b44 Δ3 (Typed.ask s70) at40 (Relend.t-sl-aggregate 𝓤 H A W E q4 𝓣 (Relend.asShr q4) G72 31 32 16 y18 y18 (λ x. x) (Scalar.oFld 6 ((Syntax.field 1) ∷ []) y1 8 λ v. Shared.lenV (v .0)) (Reads'.as-is 𝓤 H A (Relend.ssptr q4 y18 16)) (Reads'.room-gone 𝓤 H A y19) (Reshare.reads-owedS-len 𝓤 H A W q4 y27 4 16 li0 8 Path'.refl, Path'.refl) Path'.refl Path'.refl λ b o k. tt) d40
+          d41 = Typed.s-seq 𝓤 H A W 𝓣 E G72 G73 b29 b44 Δ3 (Typed.ask s70) at40 (Relend.t-sl-aggregate 𝓤 H A W E q4 𝓣 (Relend.asShr q4) G72 31 32 16 y19 y19 (λ x. x) (Scalar.oFld 6 ((Syntax.field 1) ∷ []) y1 8 λ v. Shared.lenV (v .0)) (Reads'.as-is 𝓤 H A (Relend.ssptr q4 y19 16)) (Reads'.room-gone 𝓤 H A y20) (Reshare.reads-owedS-len 𝓤 H A W q4 y28 4 16 li0 8 Path'.refl, Path'.refl) Path'.refl Path'.refl λ b o k. tt) d40
 
           d42 : Typed.Typed 𝓤 H A 𝓣 E G71 b46 Δ3 at42
-          d42 = Typed.s-seq 𝓤 H A W 𝓣 E G71 G72 b28 b45 Δ3 (Typed.give s69) at41 (Reshare.t-sl-reshare 𝓤 H A W E q4 𝓣 G71 6 31 4 16 y27 y18 li0 0 (λ x. x) (Reads'.as-is 𝓤 H A (Mut.mslice q4 y27 4)) (Reads'.room-gone 𝓤 H A y18) Path'.refl tt Path'.refl Path'.refl Path'.refl λ b o. tt) d41
+          d42 = Typed.s-seq 𝓤 H A W 𝓣 E G71 G72 b28 b45 Δ3 (Typed.give s69) at41 (Reshare.t-sl-reshare 𝓤 H A W E q4 𝓣 G71 6 31 4 16 y28 y19 li0 0 (λ x. x) (Reads'.as-is 𝓤 H A (Mut.mslice q4 y28 4)) (Reads'.room-gone 𝓤 H A y19) Path'.refl tt Path'.refl Path'.refl Path'.refl λ b o. tt) d41
 
           d43 : Typed.Typed 𝓤 H A 𝓣 E G70 b46 Δ3 at43
           d43 = Typed.g-pre 𝓤 H A W 𝓣 E G70 G71 b46 Δ3 (λ Ψ. Ψ) at42 (Lifetime.g-begin 𝓤 H A W E G70 16 (tt, (tt, (tt, (tt, (tt, ((tt, tt), (tt, (tt, (tt, (tt, (tt, (tt, (tt, (tt, (tt, (tt, (tt, (tt, (tt, (tt, (tt, (tt, (tt, (tt, (tt, (tt, (tt, (tt, (tt, (tt, (tt, (tt, (tt, (tt, (tt, (tt, (tt, (tt, (tt, tt)))))))))))))))))))))))))))))))))))))))) d42
 
           d44 : Typed.Typed 𝓤 H A 𝓣 E G69 b47 Δ3 at44
-          d44 = Typed.s-seq 𝓤 H A W 𝓣 E G69 G70 b27 b46 Δ3 (Typed.ask s67) at43 (Relend.t-sl-aggregate 𝓤 H A W E q3 𝓣 (Relend.asShr q3) G69 29 30 15 y16 y16 (λ x. x) (Scalar.oFld 5 ((Syntax.field 1) ∷ []) y1 8 λ v. Shared.lenV (v .0)) (Reads'.as-is 𝓤 H A (Relend.ssptr q3 y16 15)) (Reads'.room-gone 𝓤 H A y17) (Reshare.reads-owedS-len 𝓤 H A W q3 y26 3 15 li2 8 Path'.refl, Path'.refl) Path'.refl Path'.refl λ b o k. tt) d43
+          d44 = Typed.s-seq 𝓤 H A W 𝓣 E G69 G70 b27 b46 Δ3 (Typed.ask s67) at43 (Relend.t-sl-aggregate 𝓤 H A W E q3 𝓣 (Relend.asShr q3) G69 29 30 15 y17 y17 (λ x. x) (Scalar.oFld 5 ((Syntax.field 1) ∷ []) y1 8 λ v. Shared.lenV (v .0)) (Reads'.as-is 𝓤 H A (Relend.ssptr q3 y17 15)) (Reads'.room-gone 𝓤 H A y18) (Reshare.reads-owedS-len 𝓤 H A W q3 y27 3 15 li2 8 Path'.refl, Path'.refl) Path'.refl Path'.refl λ b o k. tt) d43
 
           d45 : Typed.Typed 𝓤 H A 𝓣 E G68 b48 Δ3 at45
-          d45 = Typed.s-seq 𝓤 H A W 𝓣 E G68 G69 b26 b47 Δ3 (Typed.give s66) at44 (Reshare.t-sl-reshare 𝓤 H A W E q3 𝓣 G68 5 29 3 15 y26 y16 li2 0 (λ x. x) (Reads'.as-is 𝓤 H A (Mut.mslice q3 y26 3)) (Reads'.room-gone 𝓤 H A y16) Path'.refl tt Path'.refl Path'.refl Path'.refl λ b o. tt) d44
+          d45 = Typed.s-seq 𝓤 H A W 𝓣 E G68 G69 b26 b47 Δ3 (Typed.give s66) at44 (Reshare.t-sl-reshare 𝓤 H A W E q3 𝓣 G68 5 29 3 15 y27 y17 li2 0 (λ x. x) (Reads'.as-is 𝓤 H A (Mut.mslice q3 y27 3)) (Reads'.room-gone 𝓤 H A y17) Path'.refl tt Path'.refl Path'.refl Path'.refl λ b o. tt) d44
 
           d46 : Typed.Typed 𝓤 H A 𝓣 E G67 b48 Δ3 at46
           d46 = Typed.g-pre 𝓤 H A W 𝓣 E G67 G68 b48 Δ3 (λ Ψ. Ψ) at45 (Lifetime.g-begin 𝓤 H A W E G67 15 (tt, (tt, (tt, (tt, (tt, (tt, (tt, (tt, (tt, (tt, (tt, (tt, (tt, (tt, (tt, (tt, (tt, (tt, (tt, (tt, (tt, (tt, (tt, (tt, (tt, (tt, (tt, (tt, (tt, (tt, (tt, (tt, (tt, (tt, (tt, (tt, (tt, (tt, (tt, tt)))))))))))))))))))))))))))))))))))))))) d45
@@ -2761,13 +2764,13 @@ module _ (claims· : Claims) where
           d50 = Typed.g-pre 𝓤 H A W 𝓣 E G51 G52 b51 Δ3 (Typed.give s50) at49 (Know'.g-struct-known 𝓤 H A W E State.the-type Laws'4.the-laws G51 10 (λ x. x) (Reads'.as-is 𝓤 H A (Rows.whole q5))) d49
 
           d51 : Typed.Typed 𝓤 H A 𝓣 E G50 b52 Δ3 at51
-          d51 = Typed.s-seq 𝓤 H A W 𝓣 E G50 G51 b14 b51 Δ3 (Typed.pass T49 T51 s49) at50 (Scalar.t-use 𝓤 H A W E 𝓣 G50 (Scalar.oFld 2 ((Syntax.field 1) ∷ []) y1 8 Shared.lenV) 25 (Rows.sc-here z0) y1 (Row.valS z0) (Row.sInt Syntax.w64 .of) (Shared.reads-sslice-len 𝓤 H A W q1 y23 0 8 Path'.refl, Path'.refl) (Reads'.room-gone 𝓤 H A y1) (Scalar.holds-sc 𝓤 H A W z0) Path'.refl (λ u. Path'.refl) λ u. tt) d50
+          d51 = Typed.s-seq 𝓤 H A W 𝓣 E G50 G51 b14 b51 Δ3 (Typed.pass T49 T51 s49) at50 (Scalar.t-use 𝓤 H A W E 𝓣 G50 (Scalar.oFld 2 ((Syntax.field 1) ∷ []) y1 8 Shared.lenV) 25 (Rows.sc-here z0) y1 (Row.valS z0) (Row.sInt Syntax.w64 .of) (Shared.reads-sslice-len 𝓤 H A W q1 y24 0 8 Path'.refl, Path'.refl) (Reads'.room-gone 𝓤 H A y1) (Scalar.holds-sc 𝓤 H A W z0) Path'.refl (λ u. Path'.refl) λ u. tt) d50
 
           d52 : Typed.Typed 𝓤 H A 𝓣 E G49 b52 Δ3 at52
           d52 = Typed.g-pre 𝓤 H A W 𝓣 E G49 G50 b52 Δ3 (λ Ψ. Ψ) at51 (Lifetime.g-forget 𝓤 H A W E G49 13 Row.dead Path'.refl) d51
 
           d53 : Typed.Typed 𝓤 H A 𝓣 E G48 b52 Δ3 at53
-          d53 = Typed.g-pre 𝓤 H A W 𝓣 E G48 G49 b52 Δ3 (Typed.both s47) at52 (Relend.g-back-sl 𝓤 H A W E (Array.Array q3 2) G48 24 9 7 13 y30 y14 li3 (λ x. x) (λ x. x) (Reads'.as-is 𝓤 H A (Mut.msleft (Array.Array q3 2) y14)) (Reads'.as-is 𝓤 H A (Relend.mslice-owed (Array.Array q3 2) y30 7 13 li3)) Path'.refl Path'.refl) d52
+          d53 = Typed.g-pre 𝓤 H A W 𝓣 E G48 G49 b52 Δ3 (Typed.both s47) at52 (Relend.g-back-sl 𝓤 H A W E (Array.Array q3 2) G48 24 9 7 13 y31 y15 li3 (λ x. x) (λ x. x) (Reads'.as-is 𝓤 H A (Mut.msleft (Array.Array q3 2) y15)) (Reads'.as-is 𝓤 H A (Relend.mslice-owed (Array.Array q3 2) y31 7 13 li3)) Path'.refl Path'.refl) d52
 
           d54 : Typed.Typed 𝓤 H A 𝓣 E G47 b52 Δ3 at54
           d54 = Typed.g-pre 𝓤 H A W 𝓣 E G47 G48 b52 Δ3 (λ Ψ. Ψ) at53 (Lifetime.g-end 𝓤 H A W E G47 13 Path'.refl) d53
@@ -2776,10 +2779,10 @@ module _ (claims· : Claims) where
           d55 = Typed.g-pre 𝓤 H A W 𝓣 E G46 G47 b52 Δ3 (λ Ψ. Ψ) at54 (Lifetime.g-forget 𝓤 H A W E G46 12 Row.dead Path'.refl) d54
 
           d56 : Typed.Typed 𝓤 H A 𝓣 E G45 b52 Δ3 at56
-          d56 = Typed.g-pre 𝓤 H A W 𝓣 E G45 G46 b52 Δ3 (Typed.give s44) at55 (Know.g-sl-known 𝓤 H A W (Referent.fInt Syntax.w16) E G45 7 5 y28 li1 0 (λ x. x) record { fits = Dec'.lit< tt } (Reads'.as-is 𝓤 H A (Mut.mslice q4 y28 5)) Path'.refl tt) d55
+          d56 = Typed.g-pre 𝓤 H A W 𝓣 E G45 G46 b52 Δ3 (Typed.give s44) at55 (Know.g-sl-known 𝓤 H A W (Referent.fInt Syntax.w16) E G45 7 5 y29 li1 0 (λ x. x) record { fits = Dec'.lit< tt } (Reads'.as-is 𝓤 H A (Mut.mslice q4 y29 5)) Path'.refl tt) d55
 
           d57 : Typed.Typed 𝓤 H A 𝓣 E G44 b52 Δ3 at57
-          d57 = Typed.g-pre 𝓤 H A W 𝓣 E G44 G45 b52 Δ3 (Typed.both s43) at56 (Relend.g-back-sl 𝓤 H A W E q4 G44 22 7 5 12 y28 y10 li1 (λ x. x) (λ x. x) (Reads'.as-is 𝓤 H A (Mut.msleft q4 y10)) (Reads'.as-is 𝓤 H A (Relend.mslice-owed q4 y28 5 12 li1)) Path'.refl Path'.refl) d56
+          d57 = Typed.g-pre 𝓤 H A W 𝓣 E G44 G45 b52 Δ3 (Typed.both s43) at56 (Relend.g-back-sl 𝓤 H A W E q4 G44 22 7 5 12 y29 y11 li1 (λ x. x) (λ x. x) (Reads'.as-is 𝓤 H A (Mut.msleft q4 y11)) (Reads'.as-is 𝓤 H A (Relend.mslice-owed q4 y29 5 12 li1)) Path'.refl Path'.refl) d56
 
           d58 : Typed.Typed 𝓤 H A 𝓣 E G43 b52 Δ3 at58
           d58 = Typed.g-pre 𝓤 H A W 𝓣 E G43 G44 b52 Δ3 (λ Ψ. Ψ) at57 (Lifetime.g-end 𝓤 H A W E G43 12 Path'.refl) d57
@@ -2788,10 +2791,10 @@ module _ (claims· : Claims) where
           d59 = Typed.g-pre 𝓤 H A W 𝓣 E G42 G43 b52 Δ3 (λ Ψ. Ψ) at58 (Lifetime.g-forget 𝓤 H A W E G42 11 Row.dead Path'.refl) d58
 
           d60 : Typed.Typed 𝓤 H A 𝓣 E G41 b52 Δ3 at60
-          d60 = Typed.g-pre 𝓤 H A W 𝓣 E G41 G42 b52 Δ3 (Typed.give s40) at59 (Know.g-sl-known 𝓤 H A W (Referent.fInt Syntax.w16) E G41 6 4 y27 li0 0 (λ x. x) record { fits = Dec'.lit< tt } (Reads'.as-is 𝓤 H A (Mut.mslice q4 y27 4)) Path'.refl tt) d59
+          d60 = Typed.g-pre 𝓤 H A W 𝓣 E G41 G42 b52 Δ3 (Typed.give s40) at59 (Know.g-sl-known 𝓤 H A W (Referent.fInt Syntax.w16) E G41 6 4 y28 li0 0 (λ x. x) record { fits = Dec'.lit< tt } (Reads'.as-is 𝓤 H A (Mut.mslice q4 y28 4)) Path'.refl tt) d59
 
           d61 : Typed.Typed 𝓤 H A 𝓣 E G40 b52 Δ3 at61
-          d61 = Typed.g-pre 𝓤 H A W 𝓣 E G40 G41 b52 Δ3 (Typed.both s39) at60 (Relend.g-back-sl 𝓤 H A W E q4 G40 20 6 4 11 y27 y10 li0 (λ x. x) (λ x. x) (Reads'.as-is 𝓤 H A (Mut.msleft q4 y10)) (Reads'.as-is 𝓤 H A (Relend.mslice-owed q4 y27 4 11 li0)) Path'.refl Path'.refl) d60
+          d61 = Typed.g-pre 𝓤 H A W 𝓣 E G40 G41 b52 Δ3 (Typed.both s39) at60 (Relend.g-back-sl 𝓤 H A W E q4 G40 20 6 4 11 y28 y11 li0 (λ x. x) (λ x. x) (Reads'.as-is 𝓤 H A (Mut.msleft q4 y11)) (Reads'.as-is 𝓤 H A (Relend.mslice-owed q4 y28 4 11 li0)) Path'.refl Path'.refl) d60
 
           d62 : Typed.Typed 𝓤 H A 𝓣 E G39 b52 Δ3 at62
           d62 = Typed.g-pre 𝓤 H A W 𝓣 E G39 G40 b52 Δ3 (λ Ψ. Ψ) at61 (Lifetime.g-end 𝓤 H A W E G39 11 Path'.refl) d61
@@ -2800,49 +2803,49 @@ module _ (claims· : Claims) where
           d63 = Typed.g-pre 𝓤 H A W 𝓣 E G38 G39 b52 Δ3 (λ Ψ. Ψ) at62 (Lifetime.g-forget 𝓤 H A W E G38 10 Row.dead Path'.refl) d62
 
           d64 : Typed.Typed 𝓤 H A 𝓣 E G37 b52 Δ3 at64
-          d64 = Typed.g-pre 𝓤 H A W 𝓣 E G37 G38 b52 Δ3 (Typed.give s36) at63 (Know.g-sl-known 𝓤 H A W (Referent.fInt Syntax.w32) E G37 5 3 y26 li2 0 (λ x. x) record { fits = Dec'.lit< tt } (Reads'.as-is 𝓤 H A (Mut.mslice q3 y26 3)) Path'.refl tt) d63
+          d64 = Typed.g-pre 𝓤 H A W 𝓣 E G37 G38 b52 Δ3 (Typed.give s36) at63 (Know.g-sl-known 𝓤 H A W (Referent.fInt Syntax.w32) E G37 5 3 y27 li2 0 (λ x. x) record { fits = Dec'.lit< tt } (Reads'.as-is 𝓤 H A (Mut.mslice q3 y27 3)) Path'.refl tt) d63
 
           d65 : Typed.Typed 𝓤 H A 𝓣 E G36 b52 Δ3 at65
-          d65 = Typed.g-pre 𝓤 H A W 𝓣 E G36 G37 b52 Δ3 (Typed.both s35) at64 (Relend.g-back-sl 𝓤 H A W E q3 G36 18 5 3 10 y26 y12 li2 (λ x. x) (λ x. x) (Reads'.as-is 𝓤 H A (Mut.msleft q3 y12)) (Reads'.as-is 𝓤 H A (Relend.mslice-owed q3 y26 3 10 li2)) Path'.refl Path'.refl) d64
+          d65 = Typed.g-pre 𝓤 H A W 𝓣 E G36 G37 b52 Δ3 (Typed.both s35) at64 (Relend.g-back-sl 𝓤 H A W E q3 G36 18 5 3 10 y27 y13 li2 (λ x. x) (λ x. x) (Reads'.as-is 𝓤 H A (Mut.msleft q3 y13)) (Reads'.as-is 𝓤 H A (Relend.mslice-owed q3 y27 3 10 li2)) Path'.refl Path'.refl) d64
 
           d66 : Typed.Typed 𝓤 H A 𝓣 E G35 b52 Δ3 at66
           d66 = Typed.g-pre 𝓤 H A W 𝓣 E G35 G36 b52 Δ3 (λ Ψ. Ψ) at65 (Lifetime.g-end 𝓤 H A W E G35 10 Path'.refl) d65
 
           d67 : Typed.Typed 𝓤 H A 𝓣 E G34 b53 Δ3 at67
-          d67 = Typed.s-seq 𝓤 H A W 𝓣 E G34 G35 b13 b52 Δ3 (Typed.both s33) at66 (Plain.t-call-plain 𝓤 H A W 𝓣 7 ps·1 r·1 (claims· .2) (claims· .3) "strand::until_scan" (known .1) E (λ pos β. β) G34 (record { pos = 1; st = List.[]; d = 0; at = λ x. x }, (record { pos = 10; st = List.[]; d = 0; at = λ x. x }, (record { pos = 2; ty = y23; ref = λ x. x }, (record { pos = 3; ty = y24; ref = λ x. x }, (record { pos = 4; ty = y25; ref = λ x. x }, (record { pos = 18; ty = y12; ref = λ x. x }, (record { pos = 20; ty = y10; ref = λ x. x }, (record { pos = 22; ty = y10; ref = λ x. x }, (record { pos = 24; ty = y14; ref = λ x. x }, tt))))))))) 10 (0 ∷ 1 ∷ 2 ∷ 10 ∷ 11 ∷ 12 ∷ 13 ∷ []) (Call.sub-id 𝓤 H A W (G34 .slots)) ((Yields.yields-copy 𝓤 H A W (λ ρ. Unit) q0 Path'.refl (Copies.cStruct Params.the-type Laws'.the-laws Laws'.the-copy .copy 𝓤 H A W) (Rows.whole q0) (λ x. x) (λ x. x) (λ ρ told. Local.mem-whole 𝓤 H A W q0 ρ) λ ρ told. Local.whole-mem 𝓤 H A W q0 ρ, Path'.refl), ((Yields.yields-copy 𝓤 H A W (λ ρ. Unit) q5 Path'.refl (Copies.cStruct State.the-type Laws'4.the-laws Laws'4.the-copy .copy 𝓤 H A W) (Rows.whole q5) (λ x. x) (λ x. x) (λ ρ told. Local.mem-whole 𝓤 H A W q5 ρ) λ ρ told. Local.whole-mem 𝓤 H A W q5 ρ, Path'.refl), (ShrSlice.spares-sslice 𝓤 H A W q1 y23 0, Shared.reads-sslice 𝓤 H A W q1 y23 0, Path'.refl, (ShrSlice.spares-sslice 𝓤 H A W q2 y24 1, Shared.reads-sslice 𝓤 H A W q2 y24 1, Path'.refl, (ShrSlice.spares-sslice 𝓤 H A W q2 y25 2, Shared.reads-sslice 𝓤 H A W q2 y25 2, Path'.refl, (Reads'.as-is 𝓤 H A (Mut.mslice q3 y12 10), Mut.reads-mslice 𝓤 H A W q3 y12 10, Path'.refl, (Reads'.as-is 𝓤 H A (Mut.mslice q4 y10 11), Mut.reads-mslice 𝓤 H A W q4 y10 11, Path'.refl, (Reads'.as-is 𝓤 H A (Mut.mslice q4 y10 12), Mut.reads-mslice 𝓤 H A W q4 y10 12, Path'.refl, (Reads'.as-is 𝓤 H A (Mut.mslice (Array.Array q3 2) y14 13), Mut.reads-mslice 𝓤 H A W (Array.Array q3 2) y14 13, Path'.refl, tt))))))))) (Local.room-whole 𝓤 H A W q5 y7 Path'.refl) (tt, (tt, (tt, (tt, (tt, (tt, (tt, tt))))))) Path'.refl) d66
+          d67 = Typed.s-seq 𝓤 H A W 𝓣 E G34 G35 b13 b52 Δ3 (Typed.both s33) at66 (Plain.t-call-plain 𝓤 H A W 𝓣 7 ps·1 r·1 (claims· .2) (claims· .3) "strand::until_scan" (known .1) E (λ pos β. β) G34 (record { pos = 1; st = List.[]; d = 0; at = λ x. x }, (record { pos = 10; st = List.[]; d = 0; at = λ x. x }, (record { pos = 2; ty = y24; ref = λ x. x }, (record { pos = 3; ty = y25; ref = λ x. x }, (record { pos = 4; ty = y26; ref = λ x. x }, (record { pos = 18; ty = y13; ref = λ x. x }, (record { pos = 20; ty = y11; ref = λ x. x }, (record { pos = 22; ty = y11; ref = λ x. x }, (record { pos = 24; ty = y15; ref = λ x. x }, tt))))))))) 10 (0 ∷ 1 ∷ 2 ∷ 10 ∷ 11 ∷ 12 ∷ 13 ∷ []) (Call.sub-id 𝓤 H A W (G34 .slots)) ((Yields.yields-copy 𝓤 H A W (λ ρ. Unit) q0 Path'.refl (Copies.cStruct Params.the-type Laws'.the-laws Laws'.the-copy .copy 𝓤 H A W) (Rows.whole q0) (λ x. x) (λ x. x) (λ ρ told. Local.mem-whole 𝓤 H A W q0 ρ) λ ρ told. Local.whole-mem 𝓤 H A W q0 ρ, Path'.refl), ((Yields.yields-copy 𝓤 H A W (λ ρ. Unit) q5 Path'.refl (Copies.cStruct State.the-type Laws'4.the-laws Laws'4.the-copy .copy 𝓤 H A W) (Rows.whole q5) (λ x. x) (λ x. x) (λ ρ told. Local.mem-whole 𝓤 H A W q5 ρ) λ ρ told. Local.whole-mem 𝓤 H A W q5 ρ, Path'.refl), (ShrSlice.spares-sslice 𝓤 H A W q1 y24 0, Shared.reads-sslice 𝓤 H A W q1 y24 0, Path'.refl, (ShrSlice.spares-sslice 𝓤 H A W q2 y25 1, Shared.reads-sslice 𝓤 H A W q2 y25 1, Path'.refl, (ShrSlice.spares-sslice 𝓤 H A W q2 y26 2, Shared.reads-sslice 𝓤 H A W q2 y26 2, Path'.refl, (Reads'.as-is 𝓤 H A (Mut.mslice q3 y13 10), Mut.reads-mslice 𝓤 H A W q3 y13 10, Path'.refl, (Reads'.as-is 𝓤 H A (Mut.mslice q4 y11 11), Mut.reads-mslice 𝓤 H A W q4 y11 11, Path'.refl, (Reads'.as-is 𝓤 H A (Mut.mslice q4 y11 12), Mut.reads-mslice 𝓤 H A W q4 y11 12, Path'.refl, (Reads'.as-is 𝓤 H A (Mut.mslice (Array.Array q3 2) y15 13), Mut.reads-mslice 𝓤 H A W (Array.Array q3 2) y15 13, Path'.refl, tt))))))))) (Local.room-whole 𝓤 H A W q5 y8 Path'.refl) (tt, (tt, (tt, (tt, (tt, (tt, (tt, tt))))))) Path'.refl) d66
 
           d68 : Typed.Typed 𝓤 H A 𝓣 E G33 b54 Δ3 at68
-          d68 = Typed.s-seq 𝓤 H A W 𝓣 E G33 G34 b12 b53 Δ3 (Typed.ask s32) at67 (Relend.t-sl-aggregate 𝓤 H A W E (Array.Array q3 2) 𝓣 (Relend.asMut (Array.Array q3 2)) G33 23 24 13 y14 y14 (λ x. x) (Scalar.oFld 9 ((Syntax.field 1) ∷ []) y1 8 λ v. Shared.lenV (v .0)) (Reads'.as-is 𝓤 H A (Relend.msptr (Array.Array q3 2) y14 13)) (Reads'.room-gone 𝓤 H A y15) (Relend.reads-owed-len 𝓤 H A W (Array.Array q3 2) y30 7 13 li3 8 Path'.refl, Path'.refl) Path'.refl Path'.refl λ b o k. tt) d67
+          d68 = Typed.s-seq 𝓤 H A W 𝓣 E G33 G34 b12 b53 Δ3 (Typed.ask s32) at67 (Relend.t-sl-aggregate 𝓤 H A W E (Array.Array q3 2) 𝓣 (Relend.asMut (Array.Array q3 2)) G33 23 24 13 y15 y15 (λ x. x) (Scalar.oFld 9 ((Syntax.field 1) ∷ []) y1 8 λ v. Shared.lenV (v .0)) (Reads'.as-is 𝓤 H A (Relend.msptr (Array.Array q3 2) y15 13)) (Reads'.room-gone 𝓤 H A y16) (Relend.reads-owed-len 𝓤 H A W (Array.Array q3 2) y31 7 13 li3 8 Path'.refl, Path'.refl) Path'.refl Path'.refl λ b o k. tt) d67
 
           d69 : Typed.Typed 𝓤 H A 𝓣 E G32 b55 Δ3 at69
-          d69 = Typed.s-seq 𝓤 H A W 𝓣 E G32 G33 b11 b54 Δ3 (Typed.give s31) at68 (Relend.t-sl-relend 𝓤 H A W E (Array.Array q3 2) 𝓣 G32 9 23 7 13 y30 y14 li3 0 (λ x. x) (Reads'.as-is 𝓤 H A (Mut.mslice (Array.Array q3 2) y30 7)) (Reads'.room-gone 𝓤 H A y14) Path'.refl tt Path'.refl Path'.refl Path'.refl λ b o. tt) d68
+          d69 = Typed.s-seq 𝓤 H A W 𝓣 E G32 G33 b11 b54 Δ3 (Typed.give s31) at68 (Relend.t-sl-relend 𝓤 H A W E (Array.Array q3 2) 𝓣 G32 9 23 7 13 y31 y15 li3 0 (λ x. x) (Reads'.as-is 𝓤 H A (Mut.mslice (Array.Array q3 2) y31 7)) (Reads'.room-gone 𝓤 H A y15) Path'.refl tt Path'.refl Path'.refl Path'.refl λ b o. tt) d68
 
           d70 : Typed.Typed 𝓤 H A 𝓣 E G31 b55 Δ3 at70
           d70 = Typed.g-pre 𝓤 H A W 𝓣 E G31 G32 b55 Δ3 (λ Ψ. Ψ) at69 (Lifetime.g-begin 𝓤 H A W E G31 13 (tt, (tt, (tt, (tt, (tt, ((tt, tt), ((tt, tt), ((tt, tt), (tt, (tt, (tt, (tt, (tt, (tt, (tt, (tt, (tt, (tt, (tt, (tt, (tt, (tt, (tt, (tt, (tt, (tt, (tt, (tt, (tt, (tt, (tt, (tt, (tt, (tt, (tt, (tt, (tt, (tt, (tt, tt)))))))))))))))))))))))))))))))))))))))) d69
 
           d71 : Typed.Typed 𝓤 H A 𝓣 E G30 b56 Δ3 at71
-          d71 = Typed.s-seq 𝓤 H A W 𝓣 E G30 G31 b10 b55 Δ3 (Typed.ask s29) at70 (Relend.t-sl-aggregate 𝓤 H A W E q4 𝓣 (Relend.asMut q4) G30 21 22 12 y10 y10 (λ x. x) (Scalar.oFld 7 ((Syntax.field 1) ∷ []) y1 8 λ v. Shared.lenV (v .0)) (Reads'.as-is 𝓤 H A (Relend.msptr q4 y10 12)) (Reads'.room-gone 𝓤 H A y11) (Relend.reads-owed-len 𝓤 H A W q4 y28 5 12 li1 8 Path'.refl, Path'.refl) Path'.refl Path'.refl λ b o k. tt) d70
+          d71 = Typed.s-seq 𝓤 H A W 𝓣 E G30 G31 b10 b55 Δ3 (Typed.ask s29) at70 (Relend.t-sl-aggregate 𝓤 H A W E q4 𝓣 (Relend.asMut q4) G30 21 22 12 y11 y11 (λ x. x) (Scalar.oFld 7 ((Syntax.field 1) ∷ []) y1 8 λ v. Shared.lenV (v .0)) (Reads'.as-is 𝓤 H A (Relend.msptr q4 y11 12)) (Reads'.room-gone 𝓤 H A y12) (Relend.reads-owed-len 𝓤 H A W q4 y29 5 12 li1 8 Path'.refl, Path'.refl) Path'.refl Path'.refl λ b o k. tt) d70
 
           d72 : Typed.Typed 𝓤 H A 𝓣 E G29 b57 Δ3 at72
-          d72 = Typed.s-seq 𝓤 H A W 𝓣 E G29 G30 b9 b56 Δ3 (Typed.give s28) at71 (Relend.t-sl-relend 𝓤 H A W E q4 𝓣 G29 7 21 5 12 y28 y10 li1 0 (λ x. x) (Reads'.as-is 𝓤 H A (Mut.mslice q4 y28 5)) (Reads'.room-gone 𝓤 H A y10) Path'.refl tt Path'.refl Path'.refl Path'.refl λ b o. tt) d71
+          d72 = Typed.s-seq 𝓤 H A W 𝓣 E G29 G30 b9 b56 Δ3 (Typed.give s28) at71 (Relend.t-sl-relend 𝓤 H A W E q4 𝓣 G29 7 21 5 12 y29 y11 li1 0 (λ x. x) (Reads'.as-is 𝓤 H A (Mut.mslice q4 y29 5)) (Reads'.room-gone 𝓤 H A y11) Path'.refl tt Path'.refl Path'.refl Path'.refl λ b o. tt) d71
 
           d73 : Typed.Typed 𝓤 H A 𝓣 E G28 b57 Δ3 at73
           d73 = Typed.g-pre 𝓤 H A W 𝓣 E G28 G29 b57 Δ3 (λ Ψ. Ψ) at72 (Lifetime.g-begin 𝓤 H A W E G28 12 (tt, (tt, (tt, (tt, (tt, ((tt, tt), ((tt, tt), (tt, (tt, (tt, (tt, (tt, (tt, (tt, (tt, (tt, (tt, (tt, (tt, (tt, (tt, (tt, (tt, (tt, (tt, (tt, (tt, (tt, (tt, (tt, (tt, (tt, (tt, (tt, (tt, (tt, (tt, (tt, (tt, tt)))))))))))))))))))))))))))))))))))))))) d72
 
           d74 : Typed.Typed 𝓤 H A 𝓣 E G27 b58 Δ3 at74
-          d74 = Typed.s-seq 𝓤 H A W 𝓣 E G27 G28 b8 b57 Δ3 (Typed.ask s26) at73 (Relend.t-sl-aggregate 𝓤 H A W E q4 𝓣 (Relend.asMut q4) G27 19 20 11 y10 y10 (λ x. x) (Scalar.oFld 6 ((Syntax.field 1) ∷ []) y1 8 λ v. Shared.lenV (v .0)) (Reads'.as-is 𝓤 H A (Relend.msptr q4 y10 11)) (Reads'.room-gone 𝓤 H A y11) (Relend.reads-owed-len 𝓤 H A W q4 y27 4 11 li0 8 Path'.refl, Path'.refl) Path'.refl Path'.refl λ b o k. tt) d73
+          d74 = Typed.s-seq 𝓤 H A W 𝓣 E G27 G28 b8 b57 Δ3 (Typed.ask s26) at73 (Relend.t-sl-aggregate 𝓤 H A W E q4 𝓣 (Relend.asMut q4) G27 19 20 11 y11 y11 (λ x. x) (Scalar.oFld 6 ((Syntax.field 1) ∷ []) y1 8 λ v. Shared.lenV (v .0)) (Reads'.as-is 𝓤 H A (Relend.msptr q4 y11 11)) (Reads'.room-gone 𝓤 H A y12) (Relend.reads-owed-len 𝓤 H A W q4 y28 4 11 li0 8 Path'.refl, Path'.refl) Path'.refl Path'.refl λ b o k. tt) d73
 
           d75 : Typed.Typed 𝓤 H A 𝓣 E G26 b59 Δ3 at75
-          d75 = Typed.s-seq 𝓤 H A W 𝓣 E G26 G27 b7 b58 Δ3 (Typed.give s25) at74 (Relend.t-sl-relend 𝓤 H A W E q4 𝓣 G26 6 19 4 11 y27 y10 li0 0 (λ x. x) (Reads'.as-is 𝓤 H A (Mut.mslice q4 y27 4)) (Reads'.room-gone 𝓤 H A y10) Path'.refl tt Path'.refl Path'.refl Path'.refl λ b o. tt) d74
+          d75 = Typed.s-seq 𝓤 H A W 𝓣 E G26 G27 b7 b58 Δ3 (Typed.give s25) at74 (Relend.t-sl-relend 𝓤 H A W E q4 𝓣 G26 6 19 4 11 y28 y11 li0 0 (λ x. x) (Reads'.as-is 𝓤 H A (Mut.mslice q4 y28 4)) (Reads'.room-gone 𝓤 H A y11) Path'.refl tt Path'.refl Path'.refl Path'.refl λ b o. tt) d74
 
           d76 : Typed.Typed 𝓤 H A 𝓣 E G25 b59 Δ3 at76
           d76 = Typed.g-pre 𝓤 H A W 𝓣 E G25 G26 b59 Δ3 (λ Ψ. Ψ) at75 (Lifetime.g-begin 𝓤 H A W E G25 11 (tt, (tt, (tt, (tt, (tt, ((tt, tt), (tt, (tt, (tt, (tt, (tt, (tt, (tt, (tt, (tt, (tt, (tt, (tt, (tt, (tt, (tt, (tt, (tt, (tt, (tt, (tt, (tt, (tt, (tt, (tt, (tt, (tt, (tt, (tt, (tt, (tt, (tt, (tt, (tt, tt)))))))))))))))))))))))))))))))))))))))) d75
 
           d77 : Typed.Typed 𝓤 H A 𝓣 E G24 b60 Δ3 at77
-          d77 = Typed.s-seq 𝓤 H A W 𝓣 E G24 G25 b6 b59 Δ3 (Typed.ask s23) at76 (Relend.t-sl-aggregate 𝓤 H A W E q3 𝓣 (Relend.asMut q3) G24 17 18 10 y12 y12 (λ x. x) (Scalar.oFld 5 ((Syntax.field 1) ∷ []) y1 8 λ v. Shared.lenV (v .0)) (Reads'.as-is 𝓤 H A (Relend.msptr q3 y12 10)) (Reads'.room-gone 𝓤 H A y13) (Relend.reads-owed-len 𝓤 H A W q3 y26 3 10 li2 8 Path'.refl, Path'.refl) Path'.refl Path'.refl λ b o k. tt) d76
+          d77 = Typed.s-seq 𝓤 H A W 𝓣 E G24 G25 b6 b59 Δ3 (Typed.ask s23) at76 (Relend.t-sl-aggregate 𝓤 H A W E q3 𝓣 (Relend.asMut q3) G24 17 18 10 y13 y13 (λ x. x) (Scalar.oFld 5 ((Syntax.field 1) ∷ []) y1 8 λ v. Shared.lenV (v .0)) (Reads'.as-is 𝓤 H A (Relend.msptr q3 y13 10)) (Reads'.room-gone 𝓤 H A y14) (Relend.reads-owed-len 𝓤 H A W q3 y27 3 10 li2 8 Path'.refl, Path'.refl) Path'.refl Path'.refl λ b o k. tt) d76
 
           d78 : Typed.Typed 𝓤 H A 𝓣 E G23 b61 Δ3 at78
-          d78 = Typed.s-seq 𝓤 H A W 𝓣 E G23 G24 b5 b60 Δ3 (Typed.give s22) at77 (Relend.t-sl-relend 𝓤 H A W E q3 𝓣 G23 5 17 3 10 y26 y12 li2 0 (λ x. x) (Reads'.as-is 𝓤 H A (Mut.mslice q3 y26 3)) (Reads'.room-gone 𝓤 H A y12) Path'.refl tt Path'.refl Path'.refl Path'.refl λ b o. tt) d77
+          d78 = Typed.s-seq 𝓤 H A W 𝓣 E G23 G24 b5 b60 Δ3 (Typed.give s22) at77 (Relend.t-sl-relend 𝓤 H A W E q3 𝓣 G23 5 17 3 10 y27 y13 li2 0 (λ x. x) (Reads'.as-is 𝓤 H A (Mut.mslice q3 y27 3)) (Reads'.room-gone 𝓤 H A y13) Path'.refl tt Path'.refl Path'.refl Path'.refl λ b o. tt) d77
 
           d79 : Typed.Typed 𝓤 H A 𝓣 E G22 b61 Δ3 at79
           d79 = Typed.g-pre 𝓤 H A W 𝓣 E G22 G23 b61 Δ3 (λ Ψ. Ψ) at78 (Lifetime.g-begin 𝓤 H A W E G22 10 (tt, (tt, (tt, (tt, (tt, (tt, (tt, (tt, (tt, (tt, (tt, (tt, (tt, (tt, (tt, (tt, (tt, (tt, (tt, (tt, (tt, (tt, (tt, (tt, (tt, (tt, (tt, (tt, (tt, (tt, (tt, (tt, (tt, (tt, (tt, (tt, (tt, (tt, (tt, tt)))))))))))))))))))))))))))))))))))))))) d78
@@ -2857,10 +2860,10 @@ module _ (claims· : Claims) where
           d82 = Typed.g-pre 𝓤 H A W 𝓣 E G21 G22 b63 Δ1 (λ Ψ. Ψ) at81 (Lifetime.g-forget 𝓤 H A W E G21 9 Row.dead Path'.refl) d81
 
           d83 : Typed.Typed 𝓤 H A 𝓣 E G20 b63 Δ1 at83
-          d83 = Typed.g-pre 𝓤 H A W 𝓣 E G20 G21 b63 Δ1 (Typed.give s19) at82 (Know.g-sl-known 𝓤 H A W (Referent.fInt Syntax.w16) E G20 7 5 y28 li1 0 (λ x. x) record { fits = Dec'.lit< tt } (Reads'.as-is 𝓤 H A (Mut.mslice q4 y28 5)) Path'.refl tt) d82
+          d83 = Typed.g-pre 𝓤 H A W 𝓣 E G20 G21 b63 Δ1 (Typed.give s19) at82 (Know.g-sl-known 𝓤 H A W (Referent.fInt Syntax.w16) E G20 7 5 y29 li1 0 (λ x. x) record { fits = Dec'.lit< tt } (Reads'.as-is 𝓤 H A (Mut.mslice q4 y29 5)) Path'.refl tt) d82
 
           d84 : Typed.Typed 𝓤 H A 𝓣 E G19 b63 Δ1 at84
-          d84 = Typed.g-pre 𝓤 H A W 𝓣 E G19 G20 b63 Δ1 (Typed.both s18) at83 (Relend.g-back-sl 𝓤 H A W E q4 G19 16 7 5 9 y28 y10 li1 (λ x. x) (λ x. x) (Reads'.as-is 𝓤 H A (Mut.msleft q4 y10)) (Reads'.as-is 𝓤 H A (Relend.mslice-owed q4 y28 5 9 li1)) Path'.refl Path'.refl) d83
+          d84 = Typed.g-pre 𝓤 H A W 𝓣 E G19 G20 b63 Δ1 (Typed.both s18) at83 (Relend.g-back-sl 𝓤 H A W E q4 G19 16 7 5 9 y29 y11 li1 (λ x. x) (λ x. x) (Reads'.as-is 𝓤 H A (Mut.msleft q4 y11)) (Reads'.as-is 𝓤 H A (Relend.mslice-owed q4 y29 5 9 li1)) Path'.refl Path'.refl) d83
 
           d85 : Typed.Typed 𝓤 H A 𝓣 E G18 b63 Δ1 at85
           d85 = Typed.g-pre 𝓤 H A W 𝓣 E G18 G19 b63 Δ1 (λ Ψ. Ψ) at84 (Lifetime.g-end 𝓤 H A W E G18 9 Path'.refl) d84
@@ -2869,10 +2872,10 @@ module _ (claims· : Claims) where
           d86 = Typed.g-pre 𝓤 H A W 𝓣 E G17 G18 b63 Δ1 (λ Ψ. Ψ) at85 (Lifetime.g-forget 𝓤 H A W E G17 8 Row.dead Path'.refl) d85
 
           d87 : Typed.Typed 𝓤 H A 𝓣 E G16 b63 Δ1 at87
-          d87 = Typed.g-pre 𝓤 H A W 𝓣 E G16 G17 b63 Δ1 (Typed.give s15) at86 (Know.g-sl-known 𝓤 H A W (Referent.fInt Syntax.w16) E G16 6 4 y27 li0 0 (λ x. x) record { fits = Dec'.lit< tt } (Reads'.as-is 𝓤 H A (Mut.mslice q4 y27 4)) Path'.refl tt) d86
+          d87 = Typed.g-pre 𝓤 H A W 𝓣 E G16 G17 b63 Δ1 (Typed.give s15) at86 (Know.g-sl-known 𝓤 H A W (Referent.fInt Syntax.w16) E G16 6 4 y28 li0 0 (λ x. x) record { fits = Dec'.lit< tt } (Reads'.as-is 𝓤 H A (Mut.mslice q4 y28 4)) Path'.refl tt) d86
 
           d88 : Typed.Typed 𝓤 H A 𝓣 E G15 b63 Δ1 at88
-          d88 = Typed.g-pre 𝓤 H A W 𝓣 E G15 G16 b63 Δ1 (Typed.both s14) at87 (Relend.g-back-sl 𝓤 H A W E q4 G15 14 6 4 8 y27 y10 li0 (λ x. x) (λ x. x) (Reads'.as-is 𝓤 H A (Mut.msleft q4 y10)) (Reads'.as-is 𝓤 H A (Relend.mslice-owed q4 y27 4 8 li0)) Path'.refl Path'.refl) d87
+          d88 = Typed.g-pre 𝓤 H A W 𝓣 E G15 G16 b63 Δ1 (Typed.both s14) at87 (Relend.g-back-sl 𝓤 H A W E q4 G15 14 6 4 8 y28 y11 li0 (λ x. x) (λ x. x) (Reads'.as-is 𝓤 H A (Mut.msleft q4 y11)) (Reads'.as-is 𝓤 H A (Relend.mslice-owed q4 y28 4 8 li0)) Path'.refl Path'.refl) d87
 
           d89 : Typed.Typed 𝓤 H A 𝓣 E G14 b63 Δ1 at89
           d89 = Typed.g-pre 𝓤 H A W 𝓣 E G14 G15 b63 Δ1 (λ Ψ. Ψ) at88 (Lifetime.g-end 𝓤 H A W E G14 8 Path'.refl) d88
@@ -2881,43 +2884,43 @@ module _ (claims· : Claims) where
           d90 = Dead.t-seq-dead 𝓤 H A W 𝓣 E G14 b63 b64 Δ0 at89 d89
 
           d91 : Typed.Typed 𝓤 H A 𝓣 E G13 b66 Δ0 at91
-          d91 = Typed.s-seq 𝓤 H A W 𝓣 E G13 G14 b4 b65 Δ0 (Typed.both s12) at90 (Plain.t-call-plain 𝓤 H A W 𝓣 2 ps·0 r·0 (claims· .0) (claims· .1) "strand::begin" (known .0) E (λ pos β. β) G13 (record { pos = 14; ty = y10; ref = λ x. x }, (record { pos = 16; ty = y10; ref = λ x. x }, tt)) 10 (8 ∷ 9 ∷ []) (Call.sub-id 𝓤 H A W (G13 .slots)) (Reads'.as-is 𝓤 H A (Mut.mslice q4 y10 8), Mut.reads-mslice 𝓤 H A W q4 y10 8, Path'.refl, (Reads'.as-is 𝓤 H A (Mut.mslice q4 y10 9), Mut.reads-mslice 𝓤 H A W q4 y10 9, Path'.refl, tt)) (Reads'.room-gone 𝓤 H A y7) (tt, (tt, tt)) Path'.refl) d90
+          d91 = Typed.s-seq 𝓤 H A W 𝓣 E G13 G14 b4 b65 Δ0 (Typed.both s12) at90 (Plain.t-call-plain 𝓤 H A W 𝓣 2 ps·0 r·0 (claims· .0) (claims· .1) "strand::begin" (known .0) E (λ pos β. β) G13 (record { pos = 14; ty = y11; ref = λ x. x }, (record { pos = 16; ty = y11; ref = λ x. x }, tt)) 10 (8 ∷ 9 ∷ []) (Call.sub-id 𝓤 H A W (G13 .slots)) (Reads'.as-is 𝓤 H A (Mut.mslice q4 y11 8), Mut.reads-mslice 𝓤 H A W q4 y11 8, Path'.refl, (Reads'.as-is 𝓤 H A (Mut.mslice q4 y11 9), Mut.reads-mslice 𝓤 H A W q4 y11 9, Path'.refl, tt)) (Reads'.room-gone 𝓤 H A y8) (tt, (tt, tt)) Path'.refl) d90
 
           d92 : Typed.Typed 𝓤 H A 𝓣 E G12 b67 Δ0 at92
-          d92 = Typed.s-seq 𝓤 H A W 𝓣 E G12 G13 b3 b66 Δ0 (Typed.ask s11) at91 (Relend.t-sl-aggregate 𝓤 H A W E q4 𝓣 (Relend.asMut q4) G12 15 16 9 y10 y10 (λ x. x) (Scalar.oFld 7 ((Syntax.field 1) ∷ []) y1 8 λ v. Shared.lenV (v .0)) (Reads'.as-is 𝓤 H A (Relend.msptr q4 y10 9)) (Reads'.room-gone 𝓤 H A y11) (Relend.reads-owed-len 𝓤 H A W q4 y28 5 9 li1 8 Path'.refl, Path'.refl) Path'.refl Path'.refl λ b o k. tt) d91
+          d92 = Typed.s-seq 𝓤 H A W 𝓣 E G12 G13 b3 b66 Δ0 (Typed.ask s11) at91 (Relend.t-sl-aggregate 𝓤 H A W E q4 𝓣 (Relend.asMut q4) G12 15 16 9 y11 y11 (λ x. x) (Scalar.oFld 7 ((Syntax.field 1) ∷ []) y1 8 λ v. Shared.lenV (v .0)) (Reads'.as-is 𝓤 H A (Relend.msptr q4 y11 9)) (Reads'.room-gone 𝓤 H A y12) (Relend.reads-owed-len 𝓤 H A W q4 y29 5 9 li1 8 Path'.refl, Path'.refl) Path'.refl Path'.refl λ b o k. tt) d91
 
           d93 : Typed.Typed 𝓤 H A 𝓣 E G11 b68 Δ0 at93
-          d93 = Typed.s-seq 𝓤 H A W 𝓣 E G11 G12 b2 b67 Δ0 (Typed.give s10) at92 (Relend.t-sl-relend 𝓤 H A W E q4 𝓣 G11 7 15 5 9 y28 y10 li1 0 (λ x. x) (Reads'.as-is 𝓤 H A (Mut.mslice q4 y28 5)) (Reads'.room-gone 𝓤 H A y10) Path'.refl tt Path'.refl Path'.refl Path'.refl λ b o. tt) d92
+          d93 = Typed.s-seq 𝓤 H A W 𝓣 E G11 G12 b2 b67 Δ0 (Typed.give s10) at92 (Relend.t-sl-relend 𝓤 H A W E q4 𝓣 G11 7 15 5 9 y29 y11 li1 0 (λ x. x) (Reads'.as-is 𝓤 H A (Mut.mslice q4 y29 5)) (Reads'.room-gone 𝓤 H A y11) Path'.refl tt Path'.refl Path'.refl Path'.refl λ b o. tt) d92
 
           d94 : Typed.Typed 𝓤 H A 𝓣 E G10 b68 Δ0 at94
           d94 = Typed.g-pre 𝓤 H A W 𝓣 E G10 G11 b68 Δ0 (λ Ψ. Ψ) at93 (Lifetime.g-begin 𝓤 H A W E G10 9 (tt, (tt, (tt, (tt, (tt, (tt, ((tt, tt), (tt, (tt, (tt, (tt, (tt, (tt, (tt, (tt, (tt, (tt, (tt, (tt, (tt, (tt, (tt, (tt, (tt, (tt, (tt, (tt, (tt, (tt, (tt, (tt, (tt, (tt, (tt, (tt, (tt, (tt, (tt, (tt, tt)))))))))))))))))))))))))))))))))))))))) d93
 
           d95 : Typed.Typed 𝓤 H A 𝓣 E G9 b69 Δ0 at95
-          d95 = Typed.s-seq 𝓤 H A W 𝓣 E G9 G10 b1 b68 Δ0 (Typed.ask s8) at94 (Relend.t-sl-aggregate 𝓤 H A W E q4 𝓣 (Relend.asMut q4) G9 13 14 8 y10 y10 (λ x. x) (Scalar.oFld 6 ((Syntax.field 1) ∷ []) y1 8 λ v. Shared.lenV (v .0)) (Reads'.as-is 𝓤 H A (Relend.msptr q4 y10 8)) (Reads'.room-gone 𝓤 H A y11) (Relend.reads-owed-len 𝓤 H A W q4 y27 4 8 li0 8 Path'.refl, Path'.refl) Path'.refl Path'.refl λ b o k. tt) d94
+          d95 = Typed.s-seq 𝓤 H A W 𝓣 E G9 G10 b1 b68 Δ0 (Typed.ask s8) at94 (Relend.t-sl-aggregate 𝓤 H A W E q4 𝓣 (Relend.asMut q4) G9 13 14 8 y11 y11 (λ x. x) (Scalar.oFld 6 ((Syntax.field 1) ∷ []) y1 8 λ v. Shared.lenV (v .0)) (Reads'.as-is 𝓤 H A (Relend.msptr q4 y11 8)) (Reads'.room-gone 𝓤 H A y12) (Relend.reads-owed-len 𝓤 H A W q4 y28 4 8 li0 8 Path'.refl, Path'.refl) Path'.refl Path'.refl λ b o k. tt) d94
 
           d96 : Typed.Typed 𝓤 H A 𝓣 E G8 b70 Δ0 at96
-          d96 = Typed.s-seq 𝓤 H A W 𝓣 E G8 G9 b0 b69 Δ0 (Typed.give s7) at95 (Relend.t-sl-relend 𝓤 H A W E q4 𝓣 G8 6 13 4 8 y27 y10 li0 0 (λ x. x) (Reads'.as-is 𝓤 H A (Mut.mslice q4 y27 4)) (Reads'.room-gone 𝓤 H A y10) Path'.refl tt Path'.refl Path'.refl Path'.refl λ b o. tt) d95
+          d96 = Typed.s-seq 𝓤 H A W 𝓣 E G8 G9 b0 b69 Δ0 (Typed.give s7) at95 (Relend.t-sl-relend 𝓤 H A W E q4 𝓣 G8 6 13 4 8 y28 y11 li0 0 (λ x. x) (Reads'.as-is 𝓤 H A (Mut.mslice q4 y28 4)) (Reads'.room-gone 𝓤 H A y11) Path'.refl tt Path'.refl Path'.refl Path'.refl λ b o. tt) d95
 
           d97 : Typed.Typed 𝓤 H A 𝓣 E G7 b70 Δ0 at97
           d97 = Typed.g-pre 𝓤 H A W 𝓣 E G7 G8 b70 Δ0 (λ Ψ. Ψ) at96 (Lifetime.g-begin 𝓤 H A W E G7 8 (tt, (tt, (tt, (tt, (tt, (tt, (tt, (tt, (tt, (tt, (tt, (tt, (tt, (tt, (tt, (tt, (tt, (tt, (tt, (tt, (tt, (tt, (tt, (tt, (tt, (tt, (tt, (tt, (tt, (tt, (tt, (tt, (tt, (tt, (tt, (tt, (tt, (tt, (tt, tt)))))))))))))))))))))))))))))))))))))))) d96
 
           d98 : Typed.Typed 𝓤 H A 𝓣 E G6 b70 Δ0 at98
-          d98 = Typed.g-pre 𝓤 H A W 𝓣 E G6 G7 b70 Δ0 (Typed.give s5) at97 (Know.g-sl-known 𝓤 H A W (Referent.fInt Syntax.w16) E G6 7 5 y28 li1 0 (λ x. x) record { fits = Dec'.lit< tt } (Reads'.as-is 𝓤 H A (Mut.mslice q4 y28 5)) Path'.refl tt) d97
+          d98 = Typed.g-pre 𝓤 H A W 𝓣 E G6 G7 b70 Δ0 (Typed.give s5) at97 (Know.g-sl-known 𝓤 H A W (Referent.fInt Syntax.w16) E G6 7 5 y29 li1 0 (λ x. x) record { fits = Dec'.lit< tt } (Reads'.as-is 𝓤 H A (Mut.mslice q4 y29 5)) Path'.refl tt) d97
 
           d99 : Typed.Typed 𝓤 H A 𝓣 E G5 b70 Δ0 at99
-          d99 = Typed.g-pre 𝓤 H A W 𝓣 E G5 G6 b70 Δ0 (Typed.give s4) at98 (Know.g-sl-known 𝓤 H A W (Referent.fInt Syntax.w16) E G5 6 4 y27 li0 0 (λ x. x) record { fits = Dec'.lit< tt } (Reads'.as-is 𝓤 H A (Mut.mslice q4 y27 4)) Path'.refl tt) d98
+          d99 = Typed.g-pre 𝓤 H A W 𝓣 E G5 G6 b70 Δ0 (Typed.give s4) at98 (Know.g-sl-known 𝓤 H A W (Referent.fInt Syntax.w16) E G5 6 4 y28 li0 0 (λ x. x) record { fits = Dec'.lit< tt } (Reads'.as-is 𝓤 H A (Mut.mslice q4 y28 4)) Path'.refl tt) d98
 
           d100 : Typed.Typed 𝓤 H A 𝓣 E G4 b70 Δ0 at100
-          d100 = Typed.g-pre 𝓤 H A W 𝓣 E G4 G5 b70 Δ0 (Typed.give s3) at99 (Know.g-sl-known 𝓤 H A W (Referent.fInt Syntax.w32) E G4 5 3 y26 li2 0 (λ x. x) record { fits = Dec'.lit< tt } (Reads'.as-is 𝓤 H A (Mut.mslice q3 y26 3)) Path'.refl tt) d99
+          d100 = Typed.g-pre 𝓤 H A W 𝓣 E G4 G5 b70 Δ0 (Typed.give s3) at99 (Know.g-sl-known 𝓤 H A W (Referent.fInt Syntax.w32) E G4 5 3 y27 li2 0 (λ x. x) record { fits = Dec'.lit< tt } (Reads'.as-is 𝓤 H A (Mut.mslice q3 y27 3)) Path'.refl tt) d99
 
           d101 : Typed.Typed 𝓤 H A 𝓣 E G3 b70 Δ0 at101
-          d101 = Typed.g-pre 𝓤 H A W 𝓣 E G3 G4 b70 Δ0 (Typed.give s2) at100 (Know.g-shs-known 𝓤 H A W (Referent.fFloat Ieee.binary64) E G3 4 2 y25 li7 Ieee.nan (λ x. x) (Fits.nan-fits Ieee.binary64) (Reads'.as-is 𝓤 H A (Rows.sslice q2 y25 2)) Path'.refl tt) d100
+          d101 = Typed.g-pre 𝓤 H A W 𝓣 E G3 G4 b70 Δ0 (Typed.give s2) at100 (Know.g-shs-known 𝓤 H A W (Referent.fFloat Ieee.binary64) E G3 4 2 y26 li7 Ieee.nan (λ x. x) (Fits.nan-fits Ieee.binary64) (Reads'.as-is 𝓤 H A (Rows.sslice q2 y26 2)) Path'.refl tt) d100
 
           d102 : Typed.Typed 𝓤 H A 𝓣 E G2 b70 Δ0 at102
-          d102 = Typed.g-pre 𝓤 H A W 𝓣 E G2 G3 b70 Δ0 (Typed.give s1) at101 (Know.g-shs-known 𝓤 H A W (Referent.fFloat Ieee.binary64) E G2 3 1 y24 li6 Ieee.nan (λ x. x) (Fits.nan-fits Ieee.binary64) (Reads'.as-is 𝓤 H A (Rows.sslice q2 y24 1)) Path'.refl tt) d101
+          d102 = Typed.g-pre 𝓤 H A W 𝓣 E G2 G3 b70 Δ0 (Typed.give s1) at101 (Know.g-shs-known 𝓤 H A W (Referent.fFloat Ieee.binary64) E G2 3 1 y25 li6 Ieee.nan (λ x. x) (Fits.nan-fits Ieee.binary64) (Reads'.as-is 𝓤 H A (Rows.sslice q2 y25 1)) Path'.refl tt) d101
 
           d103 : Typed.Typed 𝓤 H A 𝓣 E G0 b70 Δ0 at103
-          d103 = Typed.g-pre 𝓤 H A W 𝓣 E G0 G2 b70 Δ0 (Typed.give s0) at102 (Know.g-shs-known 𝓤 H A W (Referent.fInt Syntax.w8) E G0 2 0 y23 li5 0 (λ x. x) record { fits = Dec'.lit< tt } (Reads'.as-is 𝓤 H A (Rows.sslice q1 y23 0)) Path'.refl tt) d102
+          d103 = Typed.g-pre 𝓤 H A W 𝓣 E G0 G2 b70 Δ0 (Typed.give s0) at102 (Know.g-shs-known 𝓤 H A W (Referent.fInt Syntax.w8) E G0 2 0 y24 li5 0 (λ x. x) record { fits = Dec'.lit< tt } (Reads'.as-is 𝓤 H A (Rows.sslice q1 y24 0)) Path'.refl tt) d102
 
           pub typed :
               Typed.Typed
@@ -3123,7 +3126,7 @@ module _ (claims· : Claims) where
 
       module _ (before· : After-begin-arg2) where
         abbrev pub After-begin·own : Type 0
-        After-begin·own = Called.Called ps·0 r·0 (claims· .1) T13 (record { pos = 14; ty = y10; ref = λ x. x }, (record { pos = 16; ty = y10; ref = λ x. x }, tt)) (m10 (before· .before) (before· .begin-arg2 .given))
+        After-begin·own = Called.Called ps·0 r·0 (claims· .1) T13 (record { pos = 14; ty = y11; ref = λ x. x }, (record { pos = 16; ty = y11; ref = λ x. x }, tt)) (m10 (before· .before) (before· .begin-arg2 .given))
 
       pub record After-begin : Type 0 where
         pub before : After-begin-arg2
@@ -3131,7 +3134,7 @@ module _ (claims· : Claims) where
 
       abbrev pub After-begin·gave :
           (c : After-begin) → s12 .gives (m10 (c .before .before) (c .before .begin-arg2 .given))
-      After-begin·gave = λ c. Called.given ps·0 r·0 (claims· .1) T13 (record { pos = 14; ty = y10; ref = λ x. x }, (record { pos = 16; ty = y10; ref = λ x. x }, tt)) (m10 (c .before .before) (c .before .begin-arg2 .given)) (c .begin)
+      After-begin·gave = λ c. Called.given ps·0 r·0 (claims· .1) T13 (record { pos = 14; ty = y11; ref = λ x. x }, (record { pos = 16; ty = y11; ref = λ x. x }, tt)) (m10 (c .before .before) (c .before .begin-arg2 .given)) (c .begin)
 
       abbrev W1 :
           (before : After-begin-arg2) →
@@ -3214,7 +3217,7 @@ module _ (claims· : Claims) where
           (list : List.List (Array.Array (Referent.rtF (Referent.fInt Syntax.w32)) 2 .Denot)) →
           (st : Rows.whole (Declared.row State.the-type) .Mod) →
           Typed.Mo T21
-      m16 = λ before queue window-counts scan-counts candidates list st. Row.set 10 (10, Rows.whole q5) st (Row.setRow 9 (9, Mut.mslice (Array.Array q3 2) y30 7) (Row.setRow 8 (8, Mut.mslice Rec·type.the-row y29 6) (Row.setRow 7 (7, Mut.mslice q4 y28 5) (Row.setRow 6 (6, Mut.mslice q4 y27 4) (Row.setRow 5 (5, Mut.mslice q3 y26 3) (T21 .locals)))))) (Row.set 9 (9, Mut.mslice (Array.Array q3 2) y30 7) record { ptr = Row.get 9 (T21 .locals) (m15 (before .before) (before .slice-known5 .given)) .ptr; name = Row.get 9 (T21 .locals) (m15 (before .before) (before .slice-known5 .given)) .name; now = list } (Row.setRow 8 (8, Mut.mslice Rec·type.the-row y29 6) (Row.setRow 7 (7, Mut.mslice q4 y28 5) (Row.setRow 6 (6, Mut.mslice q4 y27 4) (Row.setRow 5 (5, Mut.mslice q3 y26 3) (T21 .locals))))) (Row.set 8 (8, Mut.mslice Rec·type.the-row y29 6) record { ptr = Row.get 8 (T21 .locals) (m15 (before .before) (before .slice-known5 .given)) .ptr; name = Row.get 8 (T21 .locals) (m15 (before .before) (before .slice-known5 .given)) .name; now = candidates } (Row.setRow 7 (7, Mut.mslice q4 y28 5) (Row.setRow 6 (6, Mut.mslice q4 y27 4) (Row.setRow 5 (5, Mut.mslice q3 y26 3) (T21 .locals)))) (Row.set 7 (7, Mut.mslice q4 y28 5) record { ptr = Row.get 7 (T21 .locals) (m15 (before .before) (before .slice-known5 .given)) .ptr; name = Row.get 7 (T21 .locals) (m15 (before .before) (before .slice-known5 .given)) .name; now = scan-counts } (Row.setRow 6 (6, Mut.mslice q4 y27 4) (Row.setRow 5 (5, Mut.mslice q3 y26 3) (T21 .locals))) (Row.set 6 (6, Mut.mslice q4 y27 4) record { ptr = Row.get 6 (T21 .locals) (m15 (before .before) (before .slice-known5 .given)) .ptr; name = Row.get 6 (T21 .locals) (m15 (before .before) (before .slice-known5 .given)) .name; now = window-counts } (Row.setRow 5 (5, Mut.mslice q3 y26 3) (T21 .locals)) (Row.set 5 (5, Mut.mslice q3 y26 3) record { ptr = Row.get 5 (T21 .locals) (m15 (before .before) (before .slice-known5 .given)) .ptr; name = Row.get 5 (T21 .locals) (m15 (before .before) (before .slice-known5 .given)) .name; now = queue } (T21 .locals) (m15 (before .before) (before .slice-known5 .given)))))))
+      m16 = λ before queue window-counts scan-counts candidates list st. Row.set 10 (10, Rows.whole q5) st (Row.setRow 9 (9, Mut.mslice (Array.Array q3 2) y31 7) (Row.setRow 8 (8, Mut.mslice Rec·type.the-row y30 6) (Row.setRow 7 (7, Mut.mslice q4 y29 5) (Row.setRow 6 (6, Mut.mslice q4 y28 4) (Row.setRow 5 (5, Mut.mslice q3 y27 3) (T21 .locals)))))) (Row.set 9 (9, Mut.mslice (Array.Array q3 2) y31 7) record { ptr = Row.get 9 (T21 .locals) (m15 (before .before) (before .slice-known5 .given)) .ptr; name = Row.get 9 (T21 .locals) (m15 (before .before) (before .slice-known5 .given)) .name; now = list } (Row.setRow 8 (8, Mut.mslice Rec·type.the-row y30 6) (Row.setRow 7 (7, Mut.mslice q4 y29 5) (Row.setRow 6 (6, Mut.mslice q4 y28 4) (Row.setRow 5 (5, Mut.mslice q3 y27 3) (T21 .locals))))) (Row.set 8 (8, Mut.mslice Rec·type.the-row y30 6) record { ptr = Row.get 8 (T21 .locals) (m15 (before .before) (before .slice-known5 .given)) .ptr; name = Row.get 8 (T21 .locals) (m15 (before .before) (before .slice-known5 .given)) .name; now = candidates } (Row.setRow 7 (7, Mut.mslice q4 y29 5) (Row.setRow 6 (6, Mut.mslice q4 y28 4) (Row.setRow 5 (5, Mut.mslice q3 y27 3) (T21 .locals)))) (Row.set 7 (7, Mut.mslice q4 y29 5) record { ptr = Row.get 7 (T21 .locals) (m15 (before .before) (before .slice-known5 .given)) .ptr; name = Row.get 7 (T21 .locals) (m15 (before .before) (before .slice-known5 .given)) .name; now = scan-counts } (Row.setRow 6 (6, Mut.mslice q4 y28 4) (Row.setRow 5 (5, Mut.mslice q3 y27 3) (T21 .locals))) (Row.set 6 (6, Mut.mslice q4 y28 4) record { ptr = Row.get 6 (T21 .locals) (m15 (before .before) (before .slice-known5 .given)) .ptr; name = Row.get 6 (T21 .locals) (m15 (before .before) (before .slice-known5 .given)) .name; now = window-counts } (Row.setRow 5 (5, Mut.mslice q3 y27 3) (T21 .locals)) (Row.set 5 (5, Mut.mslice q3 y27 3) record { ptr = Row.get 5 (T21 .locals) (m15 (before .before) (before .slice-known5 .given)) .ptr; name = Row.get 5 (T21 .locals) (m15 (before .before) (before .slice-known5 .given)) .name; now = queue } (T21 .locals) (m15 (before .before) (before .slice-known5 .given)))))))
 
       abbrev W3 :
           (before : After-slice-known5) →
@@ -3374,7 +3377,7 @@ module _ (claims· : Claims) where
 
       module _ (before· : After-until-scan-arg4) where
         abbrev pub After-until-scan·own : Type 0
-        After-until-scan·own = Called.Called ps·1 r·1 (claims· .3) T34 (record { pos = 1; st = List.[]; d = 0; at = λ x. x }, (record { pos = 10; st = List.[]; d = 0; at = λ x. x }, (record { pos = 2; ty = y23; ref = λ x. x }, (record { pos = 3; ty = y24; ref = λ x. x }, (record { pos = 4; ty = y25; ref = λ x. x }, (record { pos = 18; ty = y12; ref = λ x. x }, (record { pos = 20; ty = y10; ref = λ x. x }, (record { pos = 22; ty = y10; ref = λ x. x }, (record { pos = 24; ty = y14; ref = λ x. x }, tt))))))))) (m24 (before· .before) (before· .until-scan-arg4 .given))
+        After-until-scan·own = Called.Called ps·1 r·1 (claims· .3) T34 (record { pos = 1; st = List.[]; d = 0; at = λ x. x }, (record { pos = 10; st = List.[]; d = 0; at = λ x. x }, (record { pos = 2; ty = y24; ref = λ x. x }, (record { pos = 3; ty = y25; ref = λ x. x }, (record { pos = 4; ty = y26; ref = λ x. x }, (record { pos = 18; ty = y13; ref = λ x. x }, (record { pos = 20; ty = y11; ref = λ x. x }, (record { pos = 22; ty = y11; ref = λ x. x }, (record { pos = 24; ty = y15; ref = λ x. x }, tt))))))))) (m24 (before· .before) (before· .until-scan-arg4 .given))
 
       pub record After-until-scan : Type 0 where
         pub before : After-until-scan-arg4
@@ -3383,7 +3386,7 @@ module _ (claims· : Claims) where
       abbrev pub After-until-scan·gave :
           (c : After-until-scan) →
           s33 .gives (m24 (c .before .before) (c .before .until-scan-arg4 .given))
-      After-until-scan·gave = λ c. Called.given ps·1 r·1 (claims· .3) T34 (record { pos = 1; st = List.[]; d = 0; at = λ x. x }, (record { pos = 10; st = List.[]; d = 0; at = λ x. x }, (record { pos = 2; ty = y23; ref = λ x. x }, (record { pos = 3; ty = y24; ref = λ x. x }, (record { pos = 4; ty = y25; ref = λ x. x }, (record { pos = 18; ty = y12; ref = λ x. x }, (record { pos = 20; ty = y10; ref = λ x. x }, (record { pos = 22; ty = y10; ref = λ x. x }, (record { pos = 24; ty = y14; ref = λ x. x }, tt))))))))) (m24 (c .before .before) (c .before .until-scan-arg4 .given)) (c .until-scan)
+      After-until-scan·gave = λ c. Called.given ps·1 r·1 (claims· .3) T34 (record { pos = 1; st = List.[]; d = 0; at = λ x. x }, (record { pos = 10; st = List.[]; d = 0; at = λ x. x }, (record { pos = 2; ty = y24; ref = λ x. x }, (record { pos = 3; ty = y25; ref = λ x. x }, (record { pos = 4; ty = y26; ref = λ x. x }, (record { pos = 18; ty = y13; ref = λ x. x }, (record { pos = 20; ty = y11; ref = λ x. x }, (record { pos = 22; ty = y11; ref = λ x. x }, (record { pos = 24; ty = y15; ref = λ x. x }, tt))))))))) (m24 (c .before .before) (c .before .until-scan-arg4 .given)) (c .until-scan)
 
       abbrev pub m26 :
           (before : After-until-scan) →
@@ -3568,7 +3571,7 @@ module _ (claims· : Claims) where
 
       module _ (before· : After-close-arg) where
         abbrev pub After-close·own : Type 0
-        After-close·own = Called.Called ps·2 r·2 (claims· .5) T60 (record { pos = 10; st = (Syntax.field 3) ∷ []; d = 88; at = λ x. State.struct .as-values x .1 .1 .1 .0 }, (record { pos = 28; ty = y14; ref = λ x. x }, tt)) (m40 (before· .before) (before· .close-arg .given))
+        After-close·own = Called.Called ps·2 r·2 (claims· .5) T60 (record { pos = 10; st = (Syntax.field 3) ∷ []; d = 136; at = λ x. State.struct .as-values x .1 .1 .1 .0 }, (record { pos = 28; ty = y15; ref = λ x. x }, tt)) (m40 (before· .before) (before· .close-arg .given))
 
       pub record After-close : Type 0 where
         pub before : After-close-arg
@@ -3576,7 +3579,7 @@ module _ (claims· : Claims) where
 
       abbrev pub After-close·gave :
           (c : After-close) → s58 .gives (m40 (c .before .before) (c .before .close-arg .given))
-      After-close·gave = λ c. Called.given ps·2 r·2 (claims· .5) T60 (record { pos = 10; st = (Syntax.field 3) ∷ []; d = 88; at = λ x. State.struct .as-values x .1 .1 .1 .0 }, (record { pos = 28; ty = y14; ref = λ x. x }, tt)) (m40 (c .before .before) (c .before .close-arg .given)) (c .close)
+      After-close·gave = λ c. Called.given ps·2 r·2 (claims· .5) T60 (record { pos = 10; st = (Syntax.field 3) ∷ []; d = 136; at = λ x. State.struct .as-values x .1 .1 .1 .0 }, (record { pos = 28; ty = y15; ref = λ x. x }, tt)) (m40 (c .before .before) (c .before .close-arg .given)) (c .close)
 
       abbrev pub m42 :
           (before : After-close-arg) →
@@ -3743,7 +3746,7 @@ module _ (claims· : Claims) where
 
       module _ (before· : After-dust-backward-arg4) where
         abbrev pub After-dust-backward·own : Type 0
-        After-dust-backward·own = Called.Called ps·4 r·4 (claims· .9) T79 (record { pos = 1; st = List.[]; d = 0; at = λ x. x }, (record { pos = 10; st = (Syntax.field 2) ∷ (Syntax.field 5) ∷ []; d = 64; at = λ x. Window.struct .as-values (State.struct .as-values x .1 .1 .0) .1 .1 .1 .1 .1 .0 }, (Num.vAt 11 λ x. x, (record { pos = 30; ty = y16; ref = λ x. x }, (Num.vFld 10 ((Syntax.field 2) ∷ (Syntax.field 2) ∷ []) 40 λ x. Window.struct .as-values (State.struct .as-values x .1 .1 .0) .1 .1 .0, (Num.vFld 10 ((Syntax.field 2) ∷ (Syntax.field 3) ∷ []) 48 λ x. Window.struct .as-values (State.struct .as-values x .1 .1 .0) .1 .1 .1 .0, (record { pos = 32; ty = y18; ref = λ x. x }, (record { pos = 3; ty = y24; ref = λ x. x }, (record { pos = 4; ty = y25; ref = λ x. x }, (record { pos = 34; ty = y10; ref = λ x. x }, (record { pos = 36; ty = y20; ref = λ x. x }, tt))))))))))) (m53 (before· .before) (before· .dust-backward-arg4 .given))
+        After-dust-backward·own = Called.Called ps·4 r·4 (claims· .9) T79 (record { pos = 1; st = List.[]; d = 0; at = λ x. x }, (record { pos = 10; st = (Syntax.field 2) ∷ (Syntax.field 5) ∷ []; d = 64; at = λ x. Window.struct .as-values (State.struct .as-values x .1 .1 .0) .1 .1 .1 .1 .1 .0 }, (Num.vAt 11 λ x. x, (record { pos = 30; ty = y17; ref = λ x. x }, (Num.vFld 10 ((Syntax.field 2) ∷ (Syntax.field 2) ∷ []) 40 λ x. Window.struct .as-values (State.struct .as-values x .1 .1 .0) .1 .1 .0, (Num.vFld 10 ((Syntax.field 2) ∷ (Syntax.field 3) ∷ []) 48 λ x. Window.struct .as-values (State.struct .as-values x .1 .1 .0) .1 .1 .1 .0, (record { pos = 32; ty = y19; ref = λ x. x }, (record { pos = 3; ty = y25; ref = λ x. x }, (record { pos = 4; ty = y26; ref = λ x. x }, (record { pos = 34; ty = y11; ref = λ x. x }, (record { pos = 36; ty = y21; ref = λ x. x }, tt))))))))))) (m53 (before· .before) (before· .dust-backward-arg4 .given))
 
       pub record After-dust-backward : Type 0 where
         pub before : After-dust-backward-arg4
@@ -3752,7 +3755,7 @@ module _ (claims· : Claims) where
       abbrev pub After-dust-backward·gave :
           (c : After-dust-backward) →
           s77 .gives (m53 (c .before .before) (c .before .dust-backward-arg4 .given))
-      After-dust-backward·gave = λ c. Called.given ps·4 r·4 (claims· .9) T79 (record { pos = 1; st = List.[]; d = 0; at = λ x. x }, (record { pos = 10; st = (Syntax.field 2) ∷ (Syntax.field 5) ∷ []; d = 64; at = λ x. Window.struct .as-values (State.struct .as-values x .1 .1 .0) .1 .1 .1 .1 .1 .0 }, (Num.vAt 11 λ x. x, (record { pos = 30; ty = y16; ref = λ x. x }, (Num.vFld 10 ((Syntax.field 2) ∷ (Syntax.field 2) ∷ []) 40 λ x. Window.struct .as-values (State.struct .as-values x .1 .1 .0) .1 .1 .0, (Num.vFld 10 ((Syntax.field 2) ∷ (Syntax.field 3) ∷ []) 48 λ x. Window.struct .as-values (State.struct .as-values x .1 .1 .0) .1 .1 .1 .0, (record { pos = 32; ty = y18; ref = λ x. x }, (record { pos = 3; ty = y24; ref = λ x. x }, (record { pos = 4; ty = y25; ref = λ x. x }, (record { pos = 34; ty = y10; ref = λ x. x }, (record { pos = 36; ty = y20; ref = λ x. x }, tt))))))))))) (m53 (c .before .before) (c .before .dust-backward-arg4 .given)) (c .dust-backward)
+      After-dust-backward·gave = λ c. Called.given ps·4 r·4 (claims· .9) T79 (record { pos = 1; st = List.[]; d = 0; at = λ x. x }, (record { pos = 10; st = (Syntax.field 2) ∷ (Syntax.field 5) ∷ []; d = 64; at = λ x. Window.struct .as-values (State.struct .as-values x .1 .1 .0) .1 .1 .1 .1 .1 .0 }, (Num.vAt 11 λ x. x, (record { pos = 30; ty = y17; ref = λ x. x }, (Num.vFld 10 ((Syntax.field 2) ∷ (Syntax.field 2) ∷ []) 40 λ x. Window.struct .as-values (State.struct .as-values x .1 .1 .0) .1 .1 .0, (Num.vFld 10 ((Syntax.field 2) ∷ (Syntax.field 3) ∷ []) 48 λ x. Window.struct .as-values (State.struct .as-values x .1 .1 .0) .1 .1 .1 .0, (record { pos = 32; ty = y19; ref = λ x. x }, (record { pos = 3; ty = y25; ref = λ x. x }, (record { pos = 4; ty = y26; ref = λ x. x }, (record { pos = 34; ty = y11; ref = λ x. x }, (record { pos = 36; ty = y21; ref = λ x. x }, tt))))))))))) (m53 (c .before .before) (c .before .dust-backward-arg4 .given)) (c .dust-backward)
 
       abbrev pub m55 :
           (before : After-dust-backward-arg4) →
@@ -3863,7 +3866,7 @@ module _ (claims· : Claims) where
 
       module _ (before· : After-answered-arg) where
         abbrev pub After-answered·own : Type 0
-        After-answered·own = Called.Called ps·5 r·5 (claims· .11) T98 (record { pos = 10; st = List.[]; d = 0; at = λ x. x }, (record { pos = 1; st = List.[]; d = 0; at = λ x. x }, (record { pos = 12; st = List.[]; d = 0; at = λ x. x }, (record { pos = 38; ty = y14; ref = λ x. x }, tt)))) (m63 (before· .before) (before· .answered-arg .given))
+        After-answered·own = Called.Called ps·5 r·5 (claims· .11) T98 (record { pos = 10; st = List.[]; d = 0; at = λ x. x }, (record { pos = 1; st = List.[]; d = 0; at = λ x. x }, (record { pos = 12; st = List.[]; d = 0; at = λ x. x }, (record { pos = 38; ty = y15; ref = λ x. x }, tt)))) (m63 (before· .before) (before· .answered-arg .given))
 
       pub record After-answered : Type 0 where
         pub before : After-answered-arg
@@ -3872,7 +3875,7 @@ module _ (claims· : Claims) where
       abbrev pub After-answered·gave :
           (c : After-answered) →
           s96 .gives (m63 (c .before .before) (c .before .answered-arg .given))
-      After-answered·gave = λ c. Called.given ps·5 r·5 (claims· .11) T98 (record { pos = 10; st = List.[]; d = 0; at = λ x. x }, (record { pos = 1; st = List.[]; d = 0; at = λ x. x }, (record { pos = 12; st = List.[]; d = 0; at = λ x. x }, (record { pos = 38; ty = y14; ref = λ x. x }, tt)))) (m63 (c .before .before) (c .before .answered-arg .given)) (c .answered)
+      After-answered·gave = λ c. Called.given ps·5 r·5 (claims· .11) T98 (record { pos = 10; st = List.[]; d = 0; at = λ x. x }, (record { pos = 1; st = List.[]; d = 0; at = λ x. x }, (record { pos = 12; st = List.[]; d = 0; at = λ x. x }, (record { pos = 38; ty = y15; ref = λ x. x }, tt)))) (m63 (c .before .before) (c .before .answered-arg .given)) (c .answered)
 
       abbrev pub m67 :
           (before : After-answered) →
@@ -3926,7 +3929,7 @@ module _ (claims· : Claims) where
             (c .before .before .before .before .before .before .before .before .before .before
             .before .before .before .before .before .before .before .before .before .before .loop
             .st)) (m54 (c .before) (After-dust-backward·gave c))
-        lay8 = λ c. (Path'.refl, λ g. λ g'. (Path'.refl, λ g''. λ g'3. (Path'.refl, (answered-requires record { before = record { before = record { before = record { before = record { before = c .before; dust-backward = c .dust-backward }; scan-counts3 = record { given = g } }; slice-known9 = record { given = g' } }; candidates = record { given = g'' } }; answered-arg = record { given = g'3 } }, λ g'4. (Path'.refl, λ g'5. (μ·0 (Row.get 1 (T21 .locals) (m15 (c .before .before .before .before .before .before .before .before .before .before .before .before .before .before .before .before .before .before .before .before .before .before) (c .before .before .before .before .before .before .before .before .before .before .before .before .before .before .before .before .before .before .before .before .before .slice-known5 .given))) (Row.get 2 (T21 .locals) (m15 (c .before .before .before .before .before .before .before .before .before .before .before .before .before .before .before .before .before .before .before .before .before .before) (c .before .before .before .before .before .before .before .before .before .before .before .before .before .before .before .before .before .before .before .before .before .slice-known5 .given)) .now) (Row.get 3 (T21 .locals) (m15 (c .before .before .before .before .before .before .before .before .before .before .before .before .before .before .before .before .before .before .before .before .before .before) (c .before .before .before .before .before .before .before .before .before .before .before .before .before .before .before .before .before .before .before .before .before .slice-known5 .given)) .now) (Row.get 4 (T21 .locals) (m15 (c .before .before .before .before .before .before .before .before .before .before .before .before .before .before .before .before .before .before .before .before .before .before) (c .before .before .before .before .before .before .before .before .before .before .before .before .before .before .before .before .before .before .before .before .before .slice-known5 .given)) .now) (Row.get 5 (T21 .locals) (m15 (c .before .before .before .before .before .before .before .before .before .before .before .before .before .before .before .before .before .before .before .before .before .before) (c .before .before .before .before .before .before .before .before .before .before .before .before .before .before .before .before .before .before .before .before .before .slice-known5 .given)) .now) (Row.get 6 (T21 .locals) (m15 (c .before .before .before .before .before .before .before .before .before .before .before .before .before .before .before .before .before .before .before .before .before .before) (c .before .before .before .before .before .before .before .before .before .before .before .before .before .before .before .before .before .before .before .before .before .slice-known5 .given)) .now) (Row.get 7 (T21 .locals) (m15 (c .before .before .before .before .before .before .before .before .before .before .before .before .before .before .before .before .before .before .before .before .before .before) (c .before .before .before .before .before .before .before .before .before .before .before .before .before .before .before .before .before .before .before .before .before .slice-known5 .given)) .now) (Row.get 8 (T21 .locals) (m15 (c .before .before .before .before .before .before .before .before .before .before .before .before .before .before .before .before .before .before .before .before .before .before) (c .before .before .before .before .before .before .before .before .before .before .before .before .before .before .before .before .before .before .before .before .before .slice-known5 .given)) .now) (Row.get 9 (T21 .locals) (m15 (c .before .before .before .before .before .before .before .before .before .before .before .before .before .before .before .before .before .before .before .before .before .before) (c .before .before .before .before .before .before .before .before .before .before .before .before .before .before .before .before .before .before .before .before .before .slice-known5 .given)) .now) (Row.get 10 (T21 .locals) (m15 (c .before .before .before .before .before .before .before .before .before .before .before .before .before .before .before .before .before .before .before .before .before .before) (c .before .before .before .before .before .before .before .before .before .before .before .before .before .before .before .before .before .before .before .before .before .slice-known5 .given))) (Row.get 5 (T21 .locals) (m67 record { before = record { before = record { before = record { before = record { before = record { before = c .before; dust-backward = c .dust-backward }; scan-counts3 = record { given = g } }; slice-known9 = record { given = g' } }; candidates = record { given = g'' } }; answered-arg = record { given = g'3 } }; answered = Called.called ps·5 r·5 (claims· .11) T98 (record { pos = 10; st = List.[]; d = 0; at = λ x. x }, (record { pos = 1; st = List.[]; d = 0; at = λ x. x }, (record { pos = 12; st = List.[]; d = 0; at = λ x. x }, (record { pos = 38; ty = y14; ref = λ x. x }, tt)))) (m63 record { before = record { before = record { before = record { before = c .before; dust-backward = c .dust-backward }; scan-counts3 = record { given = g } }; slice-known9 = record { given = g' } }; candidates = record { given = g'' } } g'3) g'4 } g'5) .now) (Row.get 6 (T21 .locals) (m67 record { before = record { before = record { before = record { before = record { before = record { before = c .before; dust-backward = c .dust-backward }; scan-counts3 = record { given = g } }; slice-known9 = record { given = g' } }; candidates = record { given = g'' } }; answered-arg = record { given = g'3 } }; answered = Called.called ps·5 r·5 (claims· .11) T98 (record { pos = 10; st = List.[]; d = 0; at = λ x. x }, (record { pos = 1; st = List.[]; d = 0; at = λ x. x }, (record { pos = 12; st = List.[]; d = 0; at = λ x. x }, (record { pos = 38; ty = y14; ref = λ x. x }, tt)))) (m63 record { before = record { before = record { before = record { before = c .before; dust-backward = c .dust-backward }; scan-counts3 = record { given = g } }; slice-known9 = record { given = g' } }; candidates = record { given = g'' } } g'3) g'4 } g'5) .now) (Row.get 7 (T21 .locals) (m67 record { before = record { before = record { before = record { before = record { before = record { before = c .before; dust-backward = c .dust-backward }; scan-counts3 = record { given = g } }; slice-known9 = record { given = g' } }; candidates = record { given = g'' } }; answered-arg = record { given = g'3 } }; answered = Called.called ps·5 r·5 (claims· .11) T98 (record { pos = 10; st = List.[]; d = 0; at = λ x. x }, (record { pos = 1; st = List.[]; d = 0; at = λ x. x }, (record { pos = 12; st = List.[]; d = 0; at = λ x. x }, (record { pos = 38; ty = y14; ref = λ x. x }, tt)))) (m63 record { before = record { before = record { before = record { before = c .before; dust-backward = c .dust-backward }; scan-counts3 = record { given = g } }; slice-known9 = record { given = g' } }; candidates = record { given = g'' } } g'3) g'4 } g'5) .now) (Row.get 8 (T21 .locals) (m67 record { before = record { before = record { before = record { before = record { before = record { before = c .before; dust-backward = c .dust-backward }; scan-counts3 = record { given = g } }; slice-known9 = record { given = g' } }; candidates = record { given = g'' } }; answered-arg = record { given = g'3 } }; answered = Called.called ps·5 r·5 (claims· .11) T98 (record { pos = 10; st = List.[]; d = 0; at = λ x. x }, (record { pos = 1; st = List.[]; d = 0; at = λ x. x }, (record { pos = 12; st = List.[]; d = 0; at = λ x. x }, (record { pos = 38; ty = y14; ref = λ x. x }, tt)))) (m63 record { before = record { before = record { before = record { before = c .before; dust-backward = c .dust-backward }; scan-counts3 = record { given = g } }; slice-known9 = record { given = g' } }; candidates = record { given = g'' } } g'3) g'4 } g'5) .now) (Row.get 9 (T21 .locals) (m67 record { before = record { before = record { before = record { before = record { before = record { before = c .before; dust-backward = c .dust-backward }; scan-counts3 = record { given = g } }; slice-known9 = record { given = g' } }; candidates = record { given = g'' } }; answered-arg = record { given = g'3 } }; answered = Called.called ps·5 r·5 (claims· .11) T98 (record { pos = 10; st = List.[]; d = 0; at = λ x. x }, (record { pos = 1; st = List.[]; d = 0; at = λ x. x }, (record { pos = 12; st = List.[]; d = 0; at = λ x. x }, (record { pos = 38; ty = y14; ref = λ x. x }, tt)))) (m63 record { before = record { before = record { before = record { before = c .before; dust-backward = c .dust-backward }; scan-counts3 = record { given = g } }; slice-known9 = record { given = g' } }; candidates = record { given = g'' } } g'3) g'4 } g'5) .now) (Row.get 10 (T21 .locals) (m67 record { before = record { before = record { before = record { before = record { before = record { before = c .before; dust-backward = c .dust-backward }; scan-counts3 = record { given = g } }; slice-known9 = record { given = g' } }; candidates = record { given = g'' } }; answered-arg = record { given = g'3 } }; answered = Called.called ps·5 r·5 (claims· .11) T98 (record { pos = 10; st = List.[]; d = 0; at = λ x. x }, (record { pos = 1; st = List.[]; d = 0; at = λ x. x }, (record { pos = 12; st = List.[]; d = 0; at = λ x. x }, (record { pos = 38; ty = y14; ref = λ x. x }, tt)))) (m63 record { before = record { before = record { before = record { before = c .before; dust-backward = c .dust-backward }; scan-counts3 = record { given = g } }; slice-known9 = record { given = g' } }; candidates = record { given = g'' } } g'3) g'4 } g'5)), loop-less record { before = record { before = record { before = record { before = record { before = record { before = record { before = c .before; dust-backward = c .dust-backward }; scan-counts3 = record { given = g } }; slice-known9 = record { given = g' } }; candidates = record { given = g'' } }; answered-arg = record { given = g'3 } }; answered = Called.called ps·5 r·5 (claims· .11) T98 (record { pos = 10; st = List.[]; d = 0; at = λ x. x }, (record { pos = 1; st = List.[]; d = 0; at = λ x. x }, (record { pos = 12; st = List.[]; d = 0; at = λ x. x }, (record { pos = 38; ty = y14; ref = λ x. x }, tt)))) (m63 record { before = record { before = record { before = record { before = c .before; dust-backward = c .dust-backward }; scan-counts3 = record { given = g } }; slice-known9 = record { given = g' } }; candidates = record { given = g'' } } g'3) g'4 }; list3 = record { given = g'5 } }, ((Row.get 5 (T21 .locals) (m67 record { before = record { before = record { before = record { before = record { before = record { before = c .before; dust-backward = c .dust-backward }; scan-counts3 = record { given = g } }; slice-known9 = record { given = g' } }; candidates = record { given = g'' } }; answered-arg = record { given = g'3 } }; answered = Called.called ps·5 r·5 (claims· .11) T98 (record { pos = 10; st = List.[]; d = 0; at = λ x. x }, (record { pos = 1; st = List.[]; d = 0; at = λ x. x }, (record { pos = 12; st = List.[]; d = 0; at = λ x. x }, (record { pos = 38; ty = y14; ref = λ x. x }, tt)))) (m63 record { before = record { before = record { before = record { before = c .before; dust-backward = c .dust-backward }; scan-counts3 = record { given = g } }; slice-known9 = record { given = g' } }; candidates = record { given = g'' } } g'3) g'4 } g'5) .now, Row.get 6 (T21 .locals) (m67 record { before = record { before = record { before = record { before = record { before = record { before = c .before; dust-backward = c .dust-backward }; scan-counts3 = record { given = g } }; slice-known9 = record { given = g' } }; candidates = record { given = g'' } }; answered-arg = record { given = g'3 } }; answered = Called.called ps·5 r·5 (claims· .11) T98 (record { pos = 10; st = List.[]; d = 0; at = λ x. x }, (record { pos = 1; st = List.[]; d = 0; at = λ x. x }, (record { pos = 12; st = List.[]; d = 0; at = λ x. x }, (record { pos = 38; ty = y14; ref = λ x. x }, tt)))) (m63 record { before = record { before = record { before = record { before = c .before; dust-backward = c .dust-backward }; scan-counts3 = record { given = g } }; slice-known9 = record { given = g' } }; candidates = record { given = g'' } } g'3) g'4 } g'5) .now, Row.get 7 (T21 .locals) (m67 record { before = record { before = record { before = record { before = record { before = record { before = c .before; dust-backward = c .dust-backward }; scan-counts3 = record { given = g } }; slice-known9 = record { given = g' } }; candidates = record { given = g'' } }; answered-arg = record { given = g'3 } }; answered = Called.called ps·5 r·5 (claims· .11) T98 (record { pos = 10; st = List.[]; d = 0; at = λ x. x }, (record { pos = 1; st = List.[]; d = 0; at = λ x. x }, (record { pos = 12; st = List.[]; d = 0; at = λ x. x }, (record { pos = 38; ty = y14; ref = λ x. x }, tt)))) (m63 record { before = record { before = record { before = record { before = c .before; dust-backward = c .dust-backward }; scan-counts3 = record { given = g } }; slice-known9 = record { given = g' } }; candidates = record { given = g'' } } g'3) g'4 } g'5) .now, Row.get 8 (T21 .locals) (m67 record { before = record { before = record { before = record { before = record { before = record { before = c .before; dust-backward = c .dust-backward }; scan-counts3 = record { given = g } }; slice-known9 = record { given = g' } }; candidates = record { given = g'' } }; answered-arg = record { given = g'3 } }; answered = Called.called ps·5 r·5 (claims· .11) T98 (record { pos = 10; st = List.[]; d = 0; at = λ x. x }, (record { pos = 1; st = List.[]; d = 0; at = λ x. x }, (record { pos = 12; st = List.[]; d = 0; at = λ x. x }, (record { pos = 38; ty = y14; ref = λ x. x }, tt)))) (m63 record { before = record { before = record { before = record { before = c .before; dust-backward = c .dust-backward }; scan-counts3 = record { given = g } }; slice-known9 = record { given = g' } }; candidates = record { given = g'' } } g'3) g'4 } g'5) .now, Row.get 9 (T21 .locals) (m67 record { before = record { before = record { before = record { before = record { before = record { before = c .before; dust-backward = c .dust-backward }; scan-counts3 = record { given = g } }; slice-known9 = record { given = g' } }; candidates = record { given = g'' } }; answered-arg = record { given = g'3 } }; answered = Called.called ps·5 r·5 (claims· .11) T98 (record { pos = 10; st = List.[]; d = 0; at = λ x. x }, (record { pos = 1; st = List.[]; d = 0; at = λ x. x }, (record { pos = 12; st = List.[]; d = 0; at = λ x. x }, (record { pos = 38; ty = y14; ref = λ x. x }, tt)))) (m63 record { before = record { before = record { before = record { before = c .before; dust-backward = c .dust-backward }; scan-counts3 = record { given = g } }; slice-known9 = record { given = g' } }; candidates = record { given = g'' } } g'3) g'4 } g'5) .now, Row.get 10 (T21 .locals) (m67 record { before = record { before = record { before = record { before = record { before = record { before = c .before; dust-backward = c .dust-backward }; scan-counts3 = record { given = g } }; slice-known9 = record { given = g' } }; candidates = record { given = g'' } }; answered-arg = record { given = g'3 } }; answered = Called.called ps·5 r·5 (claims· .11) T98 (record { pos = 10; st = List.[]; d = 0; at = λ x. x }, (record { pos = 1; st = List.[]; d = 0; at = λ x. x }, (record { pos = 12; st = List.[]; d = 0; at = λ x. x }, (record { pos = 38; ty = y14; ref = λ x. x }, tt)))) (m63 record { before = record { before = record { before = record { before = c .before; dust-backward = c .dust-backward }; scan-counts3 = record { given = g } }; slice-known9 = record { given = g' } }; candidates = record { given = g'' } } g'3) g'4 } g'5)), Path'.refl {a = m67 record { before = record { before = record { before = record { before = record { before = record { before = c .before; dust-backward = c .dust-backward }; scan-counts3 = record { given = g } }; slice-known9 = record { given = g' } }; candidates = record { given = g'' } }; answered-arg = record { given = g'3 } }; answered = Called.called ps·5 r·5 (claims· .11) T98 (record { pos = 10; st = List.[]; d = 0; at = λ x. x }, (record { pos = 1; st = List.[]; d = 0; at = λ x. x }, (record { pos = 12; st = List.[]; d = 0; at = λ x. x }, (record { pos = 38; ty = y14; ref = λ x. x }, tt)))) (m63 record { before = record { before = record { before = record { before = c .before; dust-backward = c .dust-backward }; scan-counts3 = record { given = g } }; slice-known9 = record { given = g' } }; candidates = record { given = g'' } } g'3) g'4 } g'5}, loop-again record { before = record { before = record { before = record { before = record { before = record { before = record { before = c .before; dust-backward = c .dust-backward }; scan-counts3 = record { given = g } }; slice-known9 = record { given = g' } }; candidates = record { given = g'' } }; answered-arg = record { given = g'3 } }; answered = Called.called ps·5 r·5 (claims· .11) T98 (record { pos = 10; st = List.[]; d = 0; at = λ x. x }, (record { pos = 1; st = List.[]; d = 0; at = λ x. x }, (record { pos = 12; st = List.[]; d = 0; at = λ x. x }, (record { pos = 38; ty = y14; ref = λ x. x }, tt)))) (m63 record { before = record { before = record { before = record { before = c .before; dust-backward = c .dust-backward }; scan-counts3 = record { given = g } }; slice-known9 = record { given = g' } }; candidates = record { given = g'' } } g'3) g'4 }; list3 = record { given = g'5 } }, Path'.refl {a = μ·0 (Row.get 1 (T21 .locals) (m15 (c .before .before .before .before .before .before .before .before .before .before .before .before .before .before .before .before .before .before .before .before .before .before) (c .before .before .before .before .before .before .before .before .before .before .before .before .before .before .before .before .before .before .before .before .before .slice-known5 .given))) (Row.get 2 (T21 .locals) (m15 (c .before .before .before .before .before .before .before .before .before .before .before .before .before .before .before .before .before .before .before .before .before .before) (c .before .before .before .before .before .before .before .before .before .before .before .before .before .before .before .before .before .before .before .before .before .slice-known5 .given)) .now) (Row.get 3 (T21 .locals) (m15 (c .before .before .before .before .before .before .before .before .before .before .before .before .before .before .before .before .before .before .before .before .before .before) (c .before .before .before .before .before .before .before .before .before .before .before .before .before .before .before .before .before .before .before .before .before .slice-known5 .given)) .now) (Row.get 4 (T21 .locals) (m15 (c .before .before .before .before .before .before .before .before .before .before .before .before .before .before .before .before .before .before .before .before .before .before) (c .before .before .before .before .before .before .before .before .before .before .before .before .before .before .before .before .before .before .before .before .before .slice-known5 .given)) .now) (Row.get 5 (T21 .locals) (m15 (c .before .before .before .before .before .before .before .before .before .before .before .before .before .before .before .before .before .before .before .before .before .before) (c .before .before .before .before .before .before .before .before .before .before .before .before .before .before .before .before .before .before .before .before .before .slice-known5 .given)) .now) (Row.get 6 (T21 .locals) (m15 (c .before .before .before .before .before .before .before .before .before .before .before .before .before .before .before .before .before .before .before .before .before .before) (c .before .before .before .before .before .before .before .before .before .before .before .before .before .before .before .before .before .before .before .before .before .slice-known5 .given)) .now) (Row.get 7 (T21 .locals) (m15 (c .before .before .before .before .before .before .before .before .before .before .before .before .before .before .before .before .before .before .before .before .before .before) (c .before .before .before .before .before .before .before .before .before .before .before .before .before .before .before .before .before .before .before .before .before .slice-known5 .given)) .now) (Row.get 8 (T21 .locals) (m15 (c .before .before .before .before .before .before .before .before .before .before .before .before .before .before .before .before .before .before .before .before .before .before) (c .before .before .before .before .before .before .before .before .before .before .before .before .before .before .before .before .before .before .before .before .before .slice-known5 .given)) .now) (Row.get 9 (T21 .locals) (m15 (c .before .before .before .before .before .before .before .before .before .before .before .before .before .before .before .before .before .before .before .before .before .before) (c .before .before .before .before .before .before .before .before .before .before .before .before .before .before .before .before .before .before .before .before .before .slice-known5 .given)) .now) (Row.get 10 (T21 .locals) (m15 (c .before .before .before .before .before .before .before .before .before .before .before .before .before .before .before .before .before .before .before .before .before .before) (c .before .before .before .before .before .before .before .before .before .before .before .before .before .before .before .before .before .before .before .before .before .slice-known5 .given))) (Row.get 5 (T21 .locals) (m67 record { before = record { before = record { before = record { before = record { before = record { before = c .before; dust-backward = c .dust-backward }; scan-counts3 = record { given = g } }; slice-known9 = record { given = g' } }; candidates = record { given = g'' } }; answered-arg = record { given = g'3 } }; answered = Called.called ps·5 r·5 (claims· .11) T98 (record { pos = 10; st = List.[]; d = 0; at = λ x. x }, (record { pos = 1; st = List.[]; d = 0; at = λ x. x }, (record { pos = 12; st = List.[]; d = 0; at = λ x. x }, (record { pos = 38; ty = y14; ref = λ x. x }, tt)))) (m63 record { before = record { before = record { before = record { before = c .before; dust-backward = c .dust-backward }; scan-counts3 = record { given = g } }; slice-known9 = record { given = g' } }; candidates = record { given = g'' } } g'3) g'4 } g'5) .now) (Row.get 6 (T21 .locals) (m67 record { before = record { before = record { before = record { before = record { before = record { before = c .before; dust-backward = c .dust-backward }; scan-counts3 = record { given = g } }; slice-known9 = record { given = g' } }; candidates = record { given = g'' } }; answered-arg = record { given = g'3 } }; answered = Called.called ps·5 r·5 (claims· .11) T98 (record { pos = 10; st = List.[]; d = 0; at = λ x. x }, (record { pos = 1; st = List.[]; d = 0; at = λ x. x }, (record { pos = 12; st = List.[]; d = 0; at = λ x. x }, (record { pos = 38; ty = y14; ref = λ x. x }, tt)))) (m63 record { before = record { before = record { before = record { before = c .before; dust-backward = c .dust-backward }; scan-counts3 = record { given = g } }; slice-known9 = record { given = g' } }; candidates = record { given = g'' } } g'3) g'4 } g'5) .now) (Row.get 7 (T21 .locals) (m67 record { before = record { before = record { before = record { before = record { before = record { before = c .before; dust-backward = c .dust-backward }; scan-counts3 = record { given = g } }; slice-known9 = record { given = g' } }; candidates = record { given = g'' } }; answered-arg = record { given = g'3 } }; answered = Called.called ps·5 r·5 (claims· .11) T98 (record { pos = 10; st = List.[]; d = 0; at = λ x. x }, (record { pos = 1; st = List.[]; d = 0; at = λ x. x }, (record { pos = 12; st = List.[]; d = 0; at = λ x. x }, (record { pos = 38; ty = y14; ref = λ x. x }, tt)))) (m63 record { before = record { before = record { before = record { before = c .before; dust-backward = c .dust-backward }; scan-counts3 = record { given = g } }; slice-known9 = record { given = g' } }; candidates = record { given = g'' } } g'3) g'4 } g'5) .now) (Row.get 8 (T21 .locals) (m67 record { before = record { before = record { before = record { before = record { before = record { before = c .before; dust-backward = c .dust-backward }; scan-counts3 = record { given = g } }; slice-known9 = record { given = g' } }; candidates = record { given = g'' } }; answered-arg = record { given = g'3 } }; answered = Called.called ps·5 r·5 (claims· .11) T98 (record { pos = 10; st = List.[]; d = 0; at = λ x. x }, (record { pos = 1; st = List.[]; d = 0; at = λ x. x }, (record { pos = 12; st = List.[]; d = 0; at = λ x. x }, (record { pos = 38; ty = y14; ref = λ x. x }, tt)))) (m63 record { before = record { before = record { before = record { before = c .before; dust-backward = c .dust-backward }; scan-counts3 = record { given = g } }; slice-known9 = record { given = g' } }; candidates = record { given = g'' } } g'3) g'4 } g'5) .now) (Row.get 9 (T21 .locals) (m67 record { before = record { before = record { before = record { before = record { before = record { before = c .before; dust-backward = c .dust-backward }; scan-counts3 = record { given = g } }; slice-known9 = record { given = g' } }; candidates = record { given = g'' } }; answered-arg = record { given = g'3 } }; answered = Called.called ps·5 r·5 (claims· .11) T98 (record { pos = 10; st = List.[]; d = 0; at = λ x. x }, (record { pos = 1; st = List.[]; d = 0; at = λ x. x }, (record { pos = 12; st = List.[]; d = 0; at = λ x. x }, (record { pos = 38; ty = y14; ref = λ x. x }, tt)))) (m63 record { before = record { before = record { before = record { before = c .before; dust-backward = c .dust-backward }; scan-counts3 = record { given = g } }; slice-known9 = record { given = g' } }; candidates = record { given = g'' } } g'3) g'4 } g'5) .now) (Row.get 10 (T21 .locals) (m67 record { before = record { before = record { before = record { before = record { before = record { before = c .before; dust-backward = c .dust-backward }; scan-counts3 = record { given = g } }; slice-known9 = record { given = g' } }; candidates = record { given = g'' } }; answered-arg = record { given = g'3 } }; answered = Called.called ps·5 r·5 (claims· .11) T98 (record { pos = 10; st = List.[]; d = 0; at = λ x. x }, (record { pos = 1; st = List.[]; d = 0; at = λ x. x }, (record { pos = 12; st = List.[]; d = 0; at = λ x. x }, (record { pos = 38; ty = y14; ref = λ x. x }, tt)))) (m63 record { before = record { before = record { before = record { before = c .before; dust-backward = c .dust-backward }; scan-counts3 = record { given = g } }; slice-known9 = record { given = g' } }; candidates = record { given = g'' } } g'3) g'4 } g'5))})))))))
+        lay8 = λ c. (Path'.refl, λ g. λ g'. (Path'.refl, λ g''. λ g'3. (Path'.refl, (answered-requires record { before = record { before = record { before = record { before = record { before = c .before; dust-backward = c .dust-backward }; scan-counts3 = record { given = g } }; slice-known9 = record { given = g' } }; candidates = record { given = g'' } }; answered-arg = record { given = g'3 } }, λ g'4. (Path'.refl, λ g'5. (μ·0 (Row.get 1 (T21 .locals) (m15 (c .before .before .before .before .before .before .before .before .before .before .before .before .before .before .before .before .before .before .before .before .before .before) (c .before .before .before .before .before .before .before .before .before .before .before .before .before .before .before .before .before .before .before .before .before .slice-known5 .given))) (Row.get 2 (T21 .locals) (m15 (c .before .before .before .before .before .before .before .before .before .before .before .before .before .before .before .before .before .before .before .before .before .before) (c .before .before .before .before .before .before .before .before .before .before .before .before .before .before .before .before .before .before .before .before .before .slice-known5 .given)) .now) (Row.get 3 (T21 .locals) (m15 (c .before .before .before .before .before .before .before .before .before .before .before .before .before .before .before .before .before .before .before .before .before .before) (c .before .before .before .before .before .before .before .before .before .before .before .before .before .before .before .before .before .before .before .before .before .slice-known5 .given)) .now) (Row.get 4 (T21 .locals) (m15 (c .before .before .before .before .before .before .before .before .before .before .before .before .before .before .before .before .before .before .before .before .before .before) (c .before .before .before .before .before .before .before .before .before .before .before .before .before .before .before .before .before .before .before .before .before .slice-known5 .given)) .now) (Row.get 5 (T21 .locals) (m15 (c .before .before .before .before .before .before .before .before .before .before .before .before .before .before .before .before .before .before .before .before .before .before) (c .before .before .before .before .before .before .before .before .before .before .before .before .before .before .before .before .before .before .before .before .before .slice-known5 .given)) .now) (Row.get 6 (T21 .locals) (m15 (c .before .before .before .before .before .before .before .before .before .before .before .before .before .before .before .before .before .before .before .before .before .before) (c .before .before .before .before .before .before .before .before .before .before .before .before .before .before .before .before .before .before .before .before .before .slice-known5 .given)) .now) (Row.get 7 (T21 .locals) (m15 (c .before .before .before .before .before .before .before .before .before .before .before .before .before .before .before .before .before .before .before .before .before .before) (c .before .before .before .before .before .before .before .before .before .before .before .before .before .before .before .before .before .before .before .before .before .slice-known5 .given)) .now) (Row.get 8 (T21 .locals) (m15 (c .before .before .before .before .before .before .before .before .before .before .before .before .before .before .before .before .before .before .before .before .before .before) (c .before .before .before .before .before .before .before .before .before .before .before .before .before .before .before .before .before .before .before .before .before .slice-known5 .given)) .now) (Row.get 9 (T21 .locals) (m15 (c .before .before .before .before .before .before .before .before .before .before .before .before .before .before .before .before .before .before .before .before .before .before) (c .before .before .before .before .before .before .before .before .before .before .before .before .before .before .before .before .before .before .before .before .before .slice-known5 .given)) .now) (Row.get 10 (T21 .locals) (m15 (c .before .before .before .before .before .before .before .before .before .before .before .before .before .before .before .before .before .before .before .before .before .before) (c .before .before .before .before .before .before .before .before .before .before .before .before .before .before .before .before .before .before .before .before .before .slice-known5 .given))) (Row.get 5 (T21 .locals) (m67 record { before = record { before = record { before = record { before = record { before = record { before = c .before; dust-backward = c .dust-backward }; scan-counts3 = record { given = g } }; slice-known9 = record { given = g' } }; candidates = record { given = g'' } }; answered-arg = record { given = g'3 } }; answered = Called.called ps·5 r·5 (claims· .11) T98 (record { pos = 10; st = List.[]; d = 0; at = λ x. x }, (record { pos = 1; st = List.[]; d = 0; at = λ x. x }, (record { pos = 12; st = List.[]; d = 0; at = λ x. x }, (record { pos = 38; ty = y15; ref = λ x. x }, tt)))) (m63 record { before = record { before = record { before = record { before = c .before; dust-backward = c .dust-backward }; scan-counts3 = record { given = g } }; slice-known9 = record { given = g' } }; candidates = record { given = g'' } } g'3) g'4 } g'5) .now) (Row.get 6 (T21 .locals) (m67 record { before = record { before = record { before = record { before = record { before = record { before = c .before; dust-backward = c .dust-backward }; scan-counts3 = record { given = g } }; slice-known9 = record { given = g' } }; candidates = record { given = g'' } }; answered-arg = record { given = g'3 } }; answered = Called.called ps·5 r·5 (claims· .11) T98 (record { pos = 10; st = List.[]; d = 0; at = λ x. x }, (record { pos = 1; st = List.[]; d = 0; at = λ x. x }, (record { pos = 12; st = List.[]; d = 0; at = λ x. x }, (record { pos = 38; ty = y15; ref = λ x. x }, tt)))) (m63 record { before = record { before = record { before = record { before = c .before; dust-backward = c .dust-backward }; scan-counts3 = record { given = g } }; slice-known9 = record { given = g' } }; candidates = record { given = g'' } } g'3) g'4 } g'5) .now) (Row.get 7 (T21 .locals) (m67 record { before = record { before = record { before = record { before = record { before = record { before = c .before; dust-backward = c .dust-backward }; scan-counts3 = record { given = g } }; slice-known9 = record { given = g' } }; candidates = record { given = g'' } }; answered-arg = record { given = g'3 } }; answered = Called.called ps·5 r·5 (claims· .11) T98 (record { pos = 10; st = List.[]; d = 0; at = λ x. x }, (record { pos = 1; st = List.[]; d = 0; at = λ x. x }, (record { pos = 12; st = List.[]; d = 0; at = λ x. x }, (record { pos = 38; ty = y15; ref = λ x. x }, tt)))) (m63 record { before = record { before = record { before = record { before = c .before; dust-backward = c .dust-backward }; scan-counts3 = record { given = g } }; slice-known9 = record { given = g' } }; candidates = record { given = g'' } } g'3) g'4 } g'5) .now) (Row.get 8 (T21 .locals) (m67 record { before = record { before = record { before = record { before = record { before = record { before = c .before; dust-backward = c .dust-backward }; scan-counts3 = record { given = g } }; slice-known9 = record { given = g' } }; candidates = record { given = g'' } }; answered-arg = record { given = g'3 } }; answered = Called.called ps·5 r·5 (claims· .11) T98 (record { pos = 10; st = List.[]; d = 0; at = λ x. x }, (record { pos = 1; st = List.[]; d = 0; at = λ x. x }, (record { pos = 12; st = List.[]; d = 0; at = λ x. x }, (record { pos = 38; ty = y15; ref = λ x. x }, tt)))) (m63 record { before = record { before = record { before = record { before = c .before; dust-backward = c .dust-backward }; scan-counts3 = record { given = g } }; slice-known9 = record { given = g' } }; candidates = record { given = g'' } } g'3) g'4 } g'5) .now) (Row.get 9 (T21 .locals) (m67 record { before = record { before = record { before = record { before = record { before = record { before = c .before; dust-backward = c .dust-backward }; scan-counts3 = record { given = g } }; slice-known9 = record { given = g' } }; candidates = record { given = g'' } }; answered-arg = record { given = g'3 } }; answered = Called.called ps·5 r·5 (claims· .11) T98 (record { pos = 10; st = List.[]; d = 0; at = λ x. x }, (record { pos = 1; st = List.[]; d = 0; at = λ x. x }, (record { pos = 12; st = List.[]; d = 0; at = λ x. x }, (record { pos = 38; ty = y15; ref = λ x. x }, tt)))) (m63 record { before = record { before = record { before = record { before = c .before; dust-backward = c .dust-backward }; scan-counts3 = record { given = g } }; slice-known9 = record { given = g' } }; candidates = record { given = g'' } } g'3) g'4 } g'5) .now) (Row.get 10 (T21 .locals) (m67 record { before = record { before = record { before = record { before = record { before = record { before = c .before; dust-backward = c .dust-backward }; scan-counts3 = record { given = g } }; slice-known9 = record { given = g' } }; candidates = record { given = g'' } }; answered-arg = record { given = g'3 } }; answered = Called.called ps·5 r·5 (claims· .11) T98 (record { pos = 10; st = List.[]; d = 0; at = λ x. x }, (record { pos = 1; st = List.[]; d = 0; at = λ x. x }, (record { pos = 12; st = List.[]; d = 0; at = λ x. x }, (record { pos = 38; ty = y15; ref = λ x. x }, tt)))) (m63 record { before = record { before = record { before = record { before = c .before; dust-backward = c .dust-backward }; scan-counts3 = record { given = g } }; slice-known9 = record { given = g' } }; candidates = record { given = g'' } } g'3) g'4 } g'5)), loop-less record { before = record { before = record { before = record { before = record { before = record { before = record { before = c .before; dust-backward = c .dust-backward }; scan-counts3 = record { given = g } }; slice-known9 = record { given = g' } }; candidates = record { given = g'' } }; answered-arg = record { given = g'3 } }; answered = Called.called ps·5 r·5 (claims· .11) T98 (record { pos = 10; st = List.[]; d = 0; at = λ x. x }, (record { pos = 1; st = List.[]; d = 0; at = λ x. x }, (record { pos = 12; st = List.[]; d = 0; at = λ x. x }, (record { pos = 38; ty = y15; ref = λ x. x }, tt)))) (m63 record { before = record { before = record { before = record { before = c .before; dust-backward = c .dust-backward }; scan-counts3 = record { given = g } }; slice-known9 = record { given = g' } }; candidates = record { given = g'' } } g'3) g'4 }; list3 = record { given = g'5 } }, ((Row.get 5 (T21 .locals) (m67 record { before = record { before = record { before = record { before = record { before = record { before = c .before; dust-backward = c .dust-backward }; scan-counts3 = record { given = g } }; slice-known9 = record { given = g' } }; candidates = record { given = g'' } }; answered-arg = record { given = g'3 } }; answered = Called.called ps·5 r·5 (claims· .11) T98 (record { pos = 10; st = List.[]; d = 0; at = λ x. x }, (record { pos = 1; st = List.[]; d = 0; at = λ x. x }, (record { pos = 12; st = List.[]; d = 0; at = λ x. x }, (record { pos = 38; ty = y15; ref = λ x. x }, tt)))) (m63 record { before = record { before = record { before = record { before = c .before; dust-backward = c .dust-backward }; scan-counts3 = record { given = g } }; slice-known9 = record { given = g' } }; candidates = record { given = g'' } } g'3) g'4 } g'5) .now, Row.get 6 (T21 .locals) (m67 record { before = record { before = record { before = record { before = record { before = record { before = c .before; dust-backward = c .dust-backward }; scan-counts3 = record { given = g } }; slice-known9 = record { given = g' } }; candidates = record { given = g'' } }; answered-arg = record { given = g'3 } }; answered = Called.called ps·5 r·5 (claims· .11) T98 (record { pos = 10; st = List.[]; d = 0; at = λ x. x }, (record { pos = 1; st = List.[]; d = 0; at = λ x. x }, (record { pos = 12; st = List.[]; d = 0; at = λ x. x }, (record { pos = 38; ty = y15; ref = λ x. x }, tt)))) (m63 record { before = record { before = record { before = record { before = c .before; dust-backward = c .dust-backward }; scan-counts3 = record { given = g } }; slice-known9 = record { given = g' } }; candidates = record { given = g'' } } g'3) g'4 } g'5) .now, Row.get 7 (T21 .locals) (m67 record { before = record { before = record { before = record { before = record { before = record { before = c .before; dust-backward = c .dust-backward }; scan-counts3 = record { given = g } }; slice-known9 = record { given = g' } }; candidates = record { given = g'' } }; answered-arg = record { given = g'3 } }; answered = Called.called ps·5 r·5 (claims· .11) T98 (record { pos = 10; st = List.[]; d = 0; at = λ x. x }, (record { pos = 1; st = List.[]; d = 0; at = λ x. x }, (record { pos = 12; st = List.[]; d = 0; at = λ x. x }, (record { pos = 38; ty = y15; ref = λ x. x }, tt)))) (m63 record { before = record { before = record { before = record { before = c .before; dust-backward = c .dust-backward }; scan-counts3 = record { given = g } }; slice-known9 = record { given = g' } }; candidates = record { given = g'' } } g'3) g'4 } g'5) .now, Row.get 8 (T21 .locals) (m67 record { before = record { before = record { before = record { before = record { before = record { before = c .before; dust-backward = c .dust-backward }; scan-counts3 = record { given = g } }; slice-known9 = record { given = g' } }; candidates = record { given = g'' } }; answered-arg = record { given = g'3 } }; answered = Called.called ps·5 r·5 (claims· .11) T98 (record { pos = 10; st = List.[]; d = 0; at = λ x. x }, (record { pos = 1; st = List.[]; d = 0; at = λ x. x }, (record { pos = 12; st = List.[]; d = 0; at = λ x. x }, (record { pos = 38; ty = y15; ref = λ x. x }, tt)))) (m63 record { before = record { before = record { before = record { before = c .before; dust-backward = c .dust-backward }; scan-counts3 = record { given = g } }; slice-known9 = record { given = g' } }; candidates = record { given = g'' } } g'3) g'4 } g'5) .now, Row.get 9 (T21 .locals) (m67 record { before = record { before = record { before = record { before = record { before = record { before = c .before; dust-backward = c .dust-backward }; scan-counts3 = record { given = g } }; slice-known9 = record { given = g' } }; candidates = record { given = g'' } }; answered-arg = record { given = g'3 } }; answered = Called.called ps·5 r·5 (claims· .11) T98 (record { pos = 10; st = List.[]; d = 0; at = λ x. x }, (record { pos = 1; st = List.[]; d = 0; at = λ x. x }, (record { pos = 12; st = List.[]; d = 0; at = λ x. x }, (record { pos = 38; ty = y15; ref = λ x. x }, tt)))) (m63 record { before = record { before = record { before = record { before = c .before; dust-backward = c .dust-backward }; scan-counts3 = record { given = g } }; slice-known9 = record { given = g' } }; candidates = record { given = g'' } } g'3) g'4 } g'5) .now, Row.get 10 (T21 .locals) (m67 record { before = record { before = record { before = record { before = record { before = record { before = c .before; dust-backward = c .dust-backward }; scan-counts3 = record { given = g } }; slice-known9 = record { given = g' } }; candidates = record { given = g'' } }; answered-arg = record { given = g'3 } }; answered = Called.called ps·5 r·5 (claims· .11) T98 (record { pos = 10; st = List.[]; d = 0; at = λ x. x }, (record { pos = 1; st = List.[]; d = 0; at = λ x. x }, (record { pos = 12; st = List.[]; d = 0; at = λ x. x }, (record { pos = 38; ty = y15; ref = λ x. x }, tt)))) (m63 record { before = record { before = record { before = record { before = c .before; dust-backward = c .dust-backward }; scan-counts3 = record { given = g } }; slice-known9 = record { given = g' } }; candidates = record { given = g'' } } g'3) g'4 } g'5)), Path'.refl {a = m67 record { before = record { before = record { before = record { before = record { before = record { before = c .before; dust-backward = c .dust-backward }; scan-counts3 = record { given = g } }; slice-known9 = record { given = g' } }; candidates = record { given = g'' } }; answered-arg = record { given = g'3 } }; answered = Called.called ps·5 r·5 (claims· .11) T98 (record { pos = 10; st = List.[]; d = 0; at = λ x. x }, (record { pos = 1; st = List.[]; d = 0; at = λ x. x }, (record { pos = 12; st = List.[]; d = 0; at = λ x. x }, (record { pos = 38; ty = y15; ref = λ x. x }, tt)))) (m63 record { before = record { before = record { before = record { before = c .before; dust-backward = c .dust-backward }; scan-counts3 = record { given = g } }; slice-known9 = record { given = g' } }; candidates = record { given = g'' } } g'3) g'4 } g'5}, loop-again record { before = record { before = record { before = record { before = record { before = record { before = record { before = c .before; dust-backward = c .dust-backward }; scan-counts3 = record { given = g } }; slice-known9 = record { given = g' } }; candidates = record { given = g'' } }; answered-arg = record { given = g'3 } }; answered = Called.called ps·5 r·5 (claims· .11) T98 (record { pos = 10; st = List.[]; d = 0; at = λ x. x }, (record { pos = 1; st = List.[]; d = 0; at = λ x. x }, (record { pos = 12; st = List.[]; d = 0; at = λ x. x }, (record { pos = 38; ty = y15; ref = λ x. x }, tt)))) (m63 record { before = record { before = record { before = record { before = c .before; dust-backward = c .dust-backward }; scan-counts3 = record { given = g } }; slice-known9 = record { given = g' } }; candidates = record { given = g'' } } g'3) g'4 }; list3 = record { given = g'5 } }, Path'.refl {a = μ·0 (Row.get 1 (T21 .locals) (m15 (c .before .before .before .before .before .before .before .before .before .before .before .before .before .before .before .before .before .before .before .before .before .before) (c .before .before .before .before .before .before .before .before .before .before .before .before .before .before .before .before .before .before .before .before .before .slice-known5 .given))) (Row.get 2 (T21 .locals) (m15 (c .before .before .before .before .before .before .before .before .before .before .before .before .before .before .before .before .before .before .before .before .before .before) (c .before .before .before .before .before .before .before .before .before .before .before .before .before .before .before .before .before .before .before .before .before .slice-known5 .given)) .now) (Row.get 3 (T21 .locals) (m15 (c .before .before .before .before .before .before .before .before .before .before .before .before .before .before .before .before .before .before .before .before .before .before) (c .before .before .before .before .before .before .before .before .before .before .before .before .before .before .before .before .before .before .before .before .before .slice-known5 .given)) .now) (Row.get 4 (T21 .locals) (m15 (c .before .before .before .before .before .before .before .before .before .before .before .before .before .before .before .before .before .before .before .before .before .before) (c .before .before .before .before .before .before .before .before .before .before .before .before .before .before .before .before .before .before .before .before .before .slice-known5 .given)) .now) (Row.get 5 (T21 .locals) (m15 (c .before .before .before .before .before .before .before .before .before .before .before .before .before .before .before .before .before .before .before .before .before .before) (c .before .before .before .before .before .before .before .before .before .before .before .before .before .before .before .before .before .before .before .before .before .slice-known5 .given)) .now) (Row.get 6 (T21 .locals) (m15 (c .before .before .before .before .before .before .before .before .before .before .before .before .before .before .before .before .before .before .before .before .before .before) (c .before .before .before .before .before .before .before .before .before .before .before .before .before .before .before .before .before .before .before .before .before .slice-known5 .given)) .now) (Row.get 7 (T21 .locals) (m15 (c .before .before .before .before .before .before .before .before .before .before .before .before .before .before .before .before .before .before .before .before .before .before) (c .before .before .before .before .before .before .before .before .before .before .before .before .before .before .before .before .before .before .before .before .before .slice-known5 .given)) .now) (Row.get 8 (T21 .locals) (m15 (c .before .before .before .before .before .before .before .before .before .before .before .before .before .before .before .before .before .before .before .before .before .before) (c .before .before .before .before .before .before .before .before .before .before .before .before .before .before .before .before .before .before .before .before .before .slice-known5 .given)) .now) (Row.get 9 (T21 .locals) (m15 (c .before .before .before .before .before .before .before .before .before .before .before .before .before .before .before .before .before .before .before .before .before .before) (c .before .before .before .before .before .before .before .before .before .before .before .before .before .before .before .before .before .before .before .before .before .slice-known5 .given)) .now) (Row.get 10 (T21 .locals) (m15 (c .before .before .before .before .before .before .before .before .before .before .before .before .before .before .before .before .before .before .before .before .before .before) (c .before .before .before .before .before .before .before .before .before .before .before .before .before .before .before .before .before .before .before .before .before .slice-known5 .given))) (Row.get 5 (T21 .locals) (m67 record { before = record { before = record { before = record { before = record { before = record { before = c .before; dust-backward = c .dust-backward }; scan-counts3 = record { given = g } }; slice-known9 = record { given = g' } }; candidates = record { given = g'' } }; answered-arg = record { given = g'3 } }; answered = Called.called ps·5 r·5 (claims· .11) T98 (record { pos = 10; st = List.[]; d = 0; at = λ x. x }, (record { pos = 1; st = List.[]; d = 0; at = λ x. x }, (record { pos = 12; st = List.[]; d = 0; at = λ x. x }, (record { pos = 38; ty = y15; ref = λ x. x }, tt)))) (m63 record { before = record { before = record { before = record { before = c .before; dust-backward = c .dust-backward }; scan-counts3 = record { given = g } }; slice-known9 = record { given = g' } }; candidates = record { given = g'' } } g'3) g'4 } g'5) .now) (Row.get 6 (T21 .locals) (m67 record { before = record { before = record { before = record { before = record { before = record { before = c .before; dust-backward = c .dust-backward }; scan-counts3 = record { given = g } }; slice-known9 = record { given = g' } }; candidates = record { given = g'' } }; answered-arg = record { given = g'3 } }; answered = Called.called ps·5 r·5 (claims· .11) T98 (record { pos = 10; st = List.[]; d = 0; at = λ x. x }, (record { pos = 1; st = List.[]; d = 0; at = λ x. x }, (record { pos = 12; st = List.[]; d = 0; at = λ x. x }, (record { pos = 38; ty = y15; ref = λ x. x }, tt)))) (m63 record { before = record { before = record { before = record { before = c .before; dust-backward = c .dust-backward }; scan-counts3 = record { given = g } }; slice-known9 = record { given = g' } }; candidates = record { given = g'' } } g'3) g'4 } g'5) .now) (Row.get 7 (T21 .locals) (m67 record { before = record { before = record { before = record { before = record { before = record { before = c .before; dust-backward = c .dust-backward }; scan-counts3 = record { given = g } }; slice-known9 = record { given = g' } }; candidates = record { given = g'' } }; answered-arg = record { given = g'3 } }; answered = Called.called ps·5 r·5 (claims· .11) T98 (record { pos = 10; st = List.[]; d = 0; at = λ x. x }, (record { pos = 1; st = List.[]; d = 0; at = λ x. x }, (record { pos = 12; st = List.[]; d = 0; at = λ x. x }, (record { pos = 38; ty = y15; ref = λ x. x }, tt)))) (m63 record { before = record { before = record { before = record { before = c .before; dust-backward = c .dust-backward }; scan-counts3 = record { given = g } }; slice-known9 = record { given = g' } }; candidates = record { given = g'' } } g'3) g'4 } g'5) .now) (Row.get 8 (T21 .locals) (m67 record { before = record { before = record { before = record { before = record { before = record { before = c .before; dust-backward = c .dust-backward }; scan-counts3 = record { given = g } }; slice-known9 = record { given = g' } }; candidates = record { given = g'' } }; answered-arg = record { given = g'3 } }; answered = Called.called ps·5 r·5 (claims· .11) T98 (record { pos = 10; st = List.[]; d = 0; at = λ x. x }, (record { pos = 1; st = List.[]; d = 0; at = λ x. x }, (record { pos = 12; st = List.[]; d = 0; at = λ x. x }, (record { pos = 38; ty = y15; ref = λ x. x }, tt)))) (m63 record { before = record { before = record { before = record { before = c .before; dust-backward = c .dust-backward }; scan-counts3 = record { given = g } }; slice-known9 = record { given = g' } }; candidates = record { given = g'' } } g'3) g'4 } g'5) .now) (Row.get 9 (T21 .locals) (m67 record { before = record { before = record { before = record { before = record { before = record { before = c .before; dust-backward = c .dust-backward }; scan-counts3 = record { given = g } }; slice-known9 = record { given = g' } }; candidates = record { given = g'' } }; answered-arg = record { given = g'3 } }; answered = Called.called ps·5 r·5 (claims· .11) T98 (record { pos = 10; st = List.[]; d = 0; at = λ x. x }, (record { pos = 1; st = List.[]; d = 0; at = λ x. x }, (record { pos = 12; st = List.[]; d = 0; at = λ x. x }, (record { pos = 38; ty = y15; ref = λ x. x }, tt)))) (m63 record { before = record { before = record { before = record { before = c .before; dust-backward = c .dust-backward }; scan-counts3 = record { given = g } }; slice-known9 = record { given = g' } }; candidates = record { given = g'' } } g'3) g'4 } g'5) .now) (Row.get 10 (T21 .locals) (m67 record { before = record { before = record { before = record { before = record { before = record { before = c .before; dust-backward = c .dust-backward }; scan-counts3 = record { given = g } }; slice-known9 = record { given = g' } }; candidates = record { given = g'' } }; answered-arg = record { given = g'3 } }; answered = Called.called ps·5 r·5 (claims· .11) T98 (record { pos = 10; st = List.[]; d = 0; at = λ x. x }, (record { pos = 1; st = List.[]; d = 0; at = λ x. x }, (record { pos = 12; st = List.[]; d = 0; at = λ x. x }, (record { pos = 38; ty = y15; ref = λ x. x }, tt)))) (m63 record { before = record { before = record { before = record { before = c .before; dust-backward = c .dust-backward }; scan-counts3 = record { given = g } }; slice-known9 = record { given = g' } }; candidates = record { given = g'' } } g'3) g'4 } g'5))})))))))
 
         lay7 :
             (c : After-last-q-index) → at46 (W3
@@ -3945,7 +3948,7 @@ module _ (claims· : Claims) where
             (c .before .before .before .before .before .before .before .before .before .before
             .before .before .before .before .before .loop .st)) (m45 (c .before)
             (After-last-q-index·gave c))
-        lay7 = λ c. λ g. (Path'.refl, λ g'. (Path'.refl, λ g''. (Path'.refl, λ g'3. (Path'.refl, (dust-backward-requires record { before = record { before = record { before = record { before = record { before = c .before; last-q-index = c .last-q-index }; dust-backward-arg = record { given = g } }; dust-backward-arg2 = record { given = g' } }; dust-backward-arg3 = record { given = g'' } }; dust-backward-arg4 = record { given = g'3 } }, λ g'4. lay8 record { before = record { before = record { before = record { before = record { before = record { before = c .before; last-q-index = c .last-q-index }; dust-backward-arg = record { given = g } }; dust-backward-arg2 = record { given = g' } }; dust-backward-arg3 = record { given = g'' } }; dust-backward-arg4 = record { given = g'3 } }; dust-backward = Called.called ps·4 r·4 (claims· .9) T79 (record { pos = 1; st = List.[]; d = 0; at = λ x. x }, (record { pos = 10; st = (Syntax.field 2) ∷ (Syntax.field 5) ∷ []; d = 64; at = λ x. Window.struct .as-values (State.struct .as-values x .1 .1 .0) .1 .1 .1 .1 .1 .0 }, (Num.vAt 11 λ x. x, (record { pos = 30; ty = y16; ref = λ x. x }, (Num.vFld 10 ((Syntax.field 2) ∷ (Syntax.field 2) ∷ []) 40 λ x. Window.struct .as-values (State.struct .as-values x .1 .1 .0) .1 .1 .0, (Num.vFld 10 ((Syntax.field 2) ∷ (Syntax.field 3) ∷ []) 48 λ x. Window.struct .as-values (State.struct .as-values x .1 .1 .0) .1 .1 .1 .0, (record { pos = 32; ty = y18; ref = λ x. x }, (record { pos = 3; ty = y24; ref = λ x. x }, (record { pos = 4; ty = y25; ref = λ x. x }, (record { pos = 34; ty = y10; ref = λ x. x }, (record { pos = 36; ty = y20; ref = λ x. x }, tt))))))))))) (m53 record { before = record { before = record { before = record { before = c .before; last-q-index = c .last-q-index }; dust-backward-arg = record { given = g } }; dust-backward-arg2 = record { given = g' } }; dust-backward-arg3 = record { given = g'' } } g'3) g'4 })))))
+        lay7 = λ c. λ g. (Path'.refl, λ g'. (Path'.refl, λ g''. (Path'.refl, λ g'3. (Path'.refl, (dust-backward-requires record { before = record { before = record { before = record { before = record { before = c .before; last-q-index = c .last-q-index }; dust-backward-arg = record { given = g } }; dust-backward-arg2 = record { given = g' } }; dust-backward-arg3 = record { given = g'' } }; dust-backward-arg4 = record { given = g'3 } }, λ g'4. lay8 record { before = record { before = record { before = record { before = record { before = record { before = c .before; last-q-index = c .last-q-index }; dust-backward-arg = record { given = g } }; dust-backward-arg2 = record { given = g' } }; dust-backward-arg3 = record { given = g'' } }; dust-backward-arg4 = record { given = g'3 } }; dust-backward = Called.called ps·4 r·4 (claims· .9) T79 (record { pos = 1; st = List.[]; d = 0; at = λ x. x }, (record { pos = 10; st = (Syntax.field 2) ∷ (Syntax.field 5) ∷ []; d = 64; at = λ x. Window.struct .as-values (State.struct .as-values x .1 .1 .0) .1 .1 .1 .1 .1 .0 }, (Num.vAt 11 λ x. x, (record { pos = 30; ty = y17; ref = λ x. x }, (Num.vFld 10 ((Syntax.field 2) ∷ (Syntax.field 2) ∷ []) 40 λ x. Window.struct .as-values (State.struct .as-values x .1 .1 .0) .1 .1 .0, (Num.vFld 10 ((Syntax.field 2) ∷ (Syntax.field 3) ∷ []) 48 λ x. Window.struct .as-values (State.struct .as-values x .1 .1 .0) .1 .1 .1 .0, (record { pos = 32; ty = y19; ref = λ x. x }, (record { pos = 3; ty = y25; ref = λ x. x }, (record { pos = 4; ty = y26; ref = λ x. x }, (record { pos = 34; ty = y11; ref = λ x. x }, (record { pos = 36; ty = y21; ref = λ x. x }, tt))))))))))) (m53 record { before = record { before = record { before = record { before = c .before; last-q-index = c .last-q-index }; dust-backward-arg = record { given = g } }; dust-backward-arg2 = record { given = g' } }; dust-backward-arg3 = record { given = g'' } } g'3) g'4 })))))
 
         lay6 :
             (c : Else1) → at47 (W3
@@ -3986,7 +3989,7 @@ module _ (claims· : Claims) where
             at10
             (W4 (c .before .before) (c .before .struct-known .given))
             (m36 (c .before .before) (c .before .struct-known .given))
-        lay3 = λ c. λ g. (Path'.refl, (close-requires record { before = record { before = c .before; if1 = c .if1 }; close-arg = record { given = g } }, λ g'. lay4 record { before = record { before = record { before = c .before; if1 = c .if1 }; close-arg = record { given = g } }; close = Called.called ps·2 r·2 (claims· .5) T60 (record { pos = 10; st = (Syntax.field 3) ∷ []; d = 88; at = λ x. State.struct .as-values x .1 .1 .1 .0 }, (record { pos = 28; ty = y14; ref = λ x. x }, tt)) (m40 record { before = c .before; if1 = c .if1 } g) g' }))
+        lay3 = λ c. λ g. (Path'.refl, (close-requires record { before = record { before = c .before; if1 = c .if1 }; close-arg = record { given = g } }, λ g'. lay4 record { before = record { before = record { before = c .before; if1 = c .if1 }; close-arg = record { given = g } }; close = Called.called ps·2 r·2 (claims· .5) T60 (record { pos = 10; st = (Syntax.field 3) ∷ []; d = 136; at = λ x. State.struct .as-values x .1 .1 .1 .0 }, (record { pos = 28; ty = y15; ref = λ x. x }, tt)) (m40 record { before = c .before; if1 = c .if1 } g) g' }))
 
         lay2 :
             (c : After-until-scan) →
@@ -4009,10 +4012,10 @@ module _ (claims· : Claims) where
             (c .before .before .before .before .before .before .before .before .before .κs)
             (c .before .before .before .before .before .before .before .before .before .args))
             (m11 (c .before) (After-begin·gave c))
-        lay1 = λ c. (Path'.refl, λ g. λ g'. (Path'.refl, λ g''. λ g'3. (((Row.get 5 (T21 .locals) (m15 record { before = record { before = record { before = record { before = c .before; begin = c .begin }; window-counts = record { given = g } }; slice-known4 = record { given = g' } }; scan-counts = record { given = g'' } } g'3) .now, Row.get 6 (T21 .locals) (m15 record { before = record { before = record { before = record { before = c .before; begin = c .begin }; window-counts = record { given = g } }; slice-known4 = record { given = g' } }; scan-counts = record { given = g'' } } g'3) .now, Row.get 7 (T21 .locals) (m15 record { before = record { before = record { before = record { before = c .before; begin = c .begin }; window-counts = record { given = g } }; slice-known4 = record { given = g' } }; scan-counts = record { given = g'' } } g'3) .now, Row.get 8 (T21 .locals) (m15 record { before = record { before = record { before = record { before = c .before; begin = c .begin }; window-counts = record { given = g } }; slice-known4 = record { given = g' } }; scan-counts = record { given = g'' } } g'3) .now, Row.get 9 (T21 .locals) (m15 record { before = record { before = record { before = record { before = c .before; begin = c .begin }; window-counts = record { given = g } }; slice-known4 = record { given = g' } }; scan-counts = record { given = g'' } } g'3) .now, Row.get 10 (T21 .locals) (m15 record { before = record { before = record { before = record { before = c .before; begin = c .begin }; window-counts = record { given = g } }; slice-known4 = record { given = g' } }; scan-counts = record { given = g'' } } g'3)), Path'.refl {a = m15 record { before = record { before = record { before = record { before = c .before; begin = c .begin }; window-counts = record { given = g } }; slice-known4 = record { given = g' } }; scan-counts = record { given = g'' } } g'3}, loop-holds record { before = record { before = record { before = record { before = record { before = c .before; begin = c .begin }; window-counts = record { given = g } }; slice-known4 = record { given = g' } }; scan-counts = record { given = g'' } }; slice-known5 = record { given = g'3 } }), λ vs inv. λ g'4. (Path'.refl, λ g'5. (Path'.refl, λ g'6. (Path'.refl, λ g'7. (Path'.refl, (until-scan-requires record { before = record { before = record { before = record { before = record { before = record { before = record { before = record { before = record { before = record { before = c .before; begin = c .begin }; window-counts = record { given = g } }; slice-known4 = record { given = g' } }; scan-counts = record { given = g'' } }; slice-known5 = record { given = g'3 } }; loop = record { queue = vs .0; window-counts = vs .1; scan-counts = vs .2; candidates = vs .3; list = vs .4; st = vs .5; inv = inv } }; until-scan-arg = record { given = g'4 } }; until-scan-arg2 = record { given = g'5 } }; until-scan-arg3 = record { given = g'6 } }; until-scan-arg4 = record { given = g'7 } }, λ g'8. lay2 record { before = record { before = record { before = record { before = record { before = record { before = record { before = record { before = record { before = record { before = record { before = c .before; begin = c .begin }; window-counts = record { given = g } }; slice-known4 = record { given = g' } }; scan-counts = record { given = g'' } }; slice-known5 = record { given = g'3 } }; loop = record { queue = vs .0; window-counts = vs .1; scan-counts = vs .2; candidates = vs .3; list = vs .4; st = vs .5; inv = inv } }; until-scan-arg = record { given = g'4 } }; until-scan-arg2 = record { given = g'5 } }; until-scan-arg3 = record { given = g'6 } }; until-scan-arg4 = record { given = g'7 } }; until-scan = Called.called ps·1 r·1 (claims· .3) T34 (record { pos = 1; st = List.[]; d = 0; at = λ x. x }, (record { pos = 10; st = List.[]; d = 0; at = λ x. x }, (record { pos = 2; ty = y23; ref = λ x. x }, (record { pos = 3; ty = y24; ref = λ x. x }, (record { pos = 4; ty = y25; ref = λ x. x }, (record { pos = 18; ty = y12; ref = λ x. x }, (record { pos = 20; ty = y10; ref = λ x. x }, (record { pos = 22; ty = y10; ref = λ x. x }, (record { pos = 24; ty = y14; ref = λ x. x }, tt))))))))) (m24 record { before = record { before = record { before = record { before = record { before = record { before = record { before = record { before = record { before = c .before; begin = c .begin }; window-counts = record { given = g } }; slice-known4 = record { given = g' } }; scan-counts = record { given = g'' } }; slice-known5 = record { given = g'3 } }; loop = record { queue = vs .0; window-counts = vs .1; scan-counts = vs .2; candidates = vs .3; list = vs .4; st = vs .5; inv = inv } }; until-scan-arg = record { given = g'4 } }; until-scan-arg2 = record { given = g'5 } }; until-scan-arg3 = record { given = g'6 } } g'7) g'8 }))))))))
+        lay1 = λ c. (Path'.refl, λ g. λ g'. (Path'.refl, λ g''. λ g'3. (((Row.get 5 (T21 .locals) (m15 record { before = record { before = record { before = record { before = c .before; begin = c .begin }; window-counts = record { given = g } }; slice-known4 = record { given = g' } }; scan-counts = record { given = g'' } } g'3) .now, Row.get 6 (T21 .locals) (m15 record { before = record { before = record { before = record { before = c .before; begin = c .begin }; window-counts = record { given = g } }; slice-known4 = record { given = g' } }; scan-counts = record { given = g'' } } g'3) .now, Row.get 7 (T21 .locals) (m15 record { before = record { before = record { before = record { before = c .before; begin = c .begin }; window-counts = record { given = g } }; slice-known4 = record { given = g' } }; scan-counts = record { given = g'' } } g'3) .now, Row.get 8 (T21 .locals) (m15 record { before = record { before = record { before = record { before = c .before; begin = c .begin }; window-counts = record { given = g } }; slice-known4 = record { given = g' } }; scan-counts = record { given = g'' } } g'3) .now, Row.get 9 (T21 .locals) (m15 record { before = record { before = record { before = record { before = c .before; begin = c .begin }; window-counts = record { given = g } }; slice-known4 = record { given = g' } }; scan-counts = record { given = g'' } } g'3) .now, Row.get 10 (T21 .locals) (m15 record { before = record { before = record { before = record { before = c .before; begin = c .begin }; window-counts = record { given = g } }; slice-known4 = record { given = g' } }; scan-counts = record { given = g'' } } g'3)), Path'.refl {a = m15 record { before = record { before = record { before = record { before = c .before; begin = c .begin }; window-counts = record { given = g } }; slice-known4 = record { given = g' } }; scan-counts = record { given = g'' } } g'3}, loop-holds record { before = record { before = record { before = record { before = record { before = c .before; begin = c .begin }; window-counts = record { given = g } }; slice-known4 = record { given = g' } }; scan-counts = record { given = g'' } }; slice-known5 = record { given = g'3 } }), λ vs inv. λ g'4. (Path'.refl, λ g'5. (Path'.refl, λ g'6. (Path'.refl, λ g'7. (Path'.refl, (until-scan-requires record { before = record { before = record { before = record { before = record { before = record { before = record { before = record { before = record { before = record { before = c .before; begin = c .begin }; window-counts = record { given = g } }; slice-known4 = record { given = g' } }; scan-counts = record { given = g'' } }; slice-known5 = record { given = g'3 } }; loop = record { queue = vs .0; window-counts = vs .1; scan-counts = vs .2; candidates = vs .3; list = vs .4; st = vs .5; inv = inv } }; until-scan-arg = record { given = g'4 } }; until-scan-arg2 = record { given = g'5 } }; until-scan-arg3 = record { given = g'6 } }; until-scan-arg4 = record { given = g'7 } }, λ g'8. lay2 record { before = record { before = record { before = record { before = record { before = record { before = record { before = record { before = record { before = record { before = record { before = c .before; begin = c .begin }; window-counts = record { given = g } }; slice-known4 = record { given = g' } }; scan-counts = record { given = g'' } }; slice-known5 = record { given = g'3 } }; loop = record { queue = vs .0; window-counts = vs .1; scan-counts = vs .2; candidates = vs .3; list = vs .4; st = vs .5; inv = inv } }; until-scan-arg = record { given = g'4 } }; until-scan-arg2 = record { given = g'5 } }; until-scan-arg3 = record { given = g'6 } }; until-scan-arg4 = record { given = g'7 } }; until-scan = Called.called ps·1 r·1 (claims· .3) T34 (record { pos = 1; st = List.[]; d = 0; at = λ x. x }, (record { pos = 10; st = List.[]; d = 0; at = λ x. x }, (record { pos = 2; ty = y24; ref = λ x. x }, (record { pos = 3; ty = y25; ref = λ x. x }, (record { pos = 4; ty = y26; ref = λ x. x }, (record { pos = 18; ty = y13; ref = λ x. x }, (record { pos = 20; ty = y11; ref = λ x. x }, (record { pos = 22; ty = y11; ref = λ x. x }, (record { pos = 24; ty = y15; ref = λ x. x }, tt))))))))) (m24 record { before = record { before = record { before = record { before = record { before = record { before = record { before = record { before = record { before = c .before; begin = c .begin }; window-counts = record { given = g } }; slice-known4 = record { given = g' } }; scan-counts = record { given = g'' } }; slice-known5 = record { given = g'3 } }; loop = record { queue = vs .0; window-counts = vs .1; scan-counts = vs .2; candidates = vs .3; list = vs .4; st = vs .5; inv = inv } }; until-scan-arg = record { given = g'4 } }; until-scan-arg2 = record { given = g'5 } }; until-scan-arg3 = record { given = g'6 } } g'7) g'8 }))))))))
 
         pub laid : (c : Start) → at103 (W0 (c .κs) (c .args)) (m0 (c .κs) (c .args))
-        laid = λ c. λ g. λ g'. λ g''. λ g'3. λ g'4. λ g'5. λ g'6. (Path'.refl, λ g'7. (Path'.refl, (begin-requires record { before = record { before = record { before = record { before = record { before = record { before = record { before = record { before = c; shared-slice-known = record { given = g } }; shared-slice-known2 = record { given = g' } }; shared-slice-known3 = record { given = g'' } }; slice-known = record { given = g'3 } }; slice-known2 = record { given = g'4 } }; slice-known3 = record { given = g'5 } }; begin-arg = record { given = g'6 } }; begin-arg2 = record { given = g'7 } }, λ g'8. lay1 record { before = record { before = record { before = record { before = record { before = record { before = record { before = record { before = record { before = c; shared-slice-known = record { given = g } }; shared-slice-known2 = record { given = g' } }; shared-slice-known3 = record { given = g'' } }; slice-known = record { given = g'3 } }; slice-known2 = record { given = g'4 } }; slice-known3 = record { given = g'5 } }; begin-arg = record { given = g'6 } }; begin-arg2 = record { given = g'7 } }; begin = Called.called ps·0 r·0 (claims· .1) T13 (record { pos = 14; ty = y10; ref = λ x. x }, (record { pos = 16; ty = y10; ref = λ x. x }, tt)) (m10 record { before = record { before = record { before = record { before = record { before = record { before = record { before = c; shared-slice-known = record { given = g } }; shared-slice-known2 = record { given = g' } }; shared-slice-known3 = record { given = g'' } }; slice-known = record { given = g'3 } }; slice-known2 = record { given = g'4 } }; slice-known3 = record { given = g'5 } }; begin-arg = record { given = g'6 } } g'7) g'8 })))
+        laid = λ c. λ g. λ g'. λ g''. λ g'3. λ g'4. λ g'5. λ g'6. (Path'.refl, λ g'7. (Path'.refl, (begin-requires record { before = record { before = record { before = record { before = record { before = record { before = record { before = record { before = c; shared-slice-known = record { given = g } }; shared-slice-known2 = record { given = g' } }; shared-slice-known3 = record { given = g'' } }; slice-known = record { given = g'3 } }; slice-known2 = record { given = g'4 } }; slice-known3 = record { given = g'5 } }; begin-arg = record { given = g'6 } }; begin-arg2 = record { given = g'7 } }, λ g'8. lay1 record { before = record { before = record { before = record { before = record { before = record { before = record { before = record { before = record { before = c; shared-slice-known = record { given = g } }; shared-slice-known2 = record { given = g' } }; shared-slice-known3 = record { given = g'' } }; slice-known = record { given = g'3 } }; slice-known2 = record { given = g'4 } }; slice-known3 = record { given = g'5 } }; begin-arg = record { given = g'6 } }; begin-arg2 = record { given = g'7 } }; begin = Called.called ps·0 r·0 (claims· .1) T13 (record { pos = 14; ty = y11; ref = λ x. x }, (record { pos = 16; ty = y11; ref = λ x. x }, tt)) (m10 record { before = record { before = record { before = record { before = record { before = record { before = record { before = c; shared-slice-known = record { given = g } }; shared-slice-known2 = record { given = g' } }; shared-slice-known3 = record { given = g'' } }; slice-known = record { given = g'3 } }; slice-known2 = record { given = g'4 } }; slice-known3 = record { given = g'5 } }; begin-arg = record { given = g'6 } } g'7) g'8 })))
 
         module _ (κs : Lifetimes.Lfts 8) (qs : Lifetimes.Shares 8) where
           pub asked :

@@ -44,11 +44,12 @@ add-t18 c = let s = start (failed (c .before .before .before .before)) .pre in o
 
 returns-2 : tie.Need-returns-2
 returns-2 c =
-    let k = c .before .before .before .before in
+    let t = c .before in
+    let k = t .before .before .before .before in
     let d = failed k in
     let a = start d in
     let s = a .pre .1 in
-    trial-found _ _ _ _ _ (s .0) (d .if1 .left) _ _ (k .dust-forward .ensures) (omega (arith, s .1, window-long a)) (c .if2 .taken ∙ sym (window-long a)) _ refl refl (refl, refl, refl)
+    trial-found _ _ _ _ _ (s .0) (d .if1 .left) _ _ (k .dust-forward .ensures) (omega (arith, s .1, window-long a)) (t .if2 .taken ∙ sym (window-long a)) _ refl refl (c .begun .ensures)
 
 clear-from-requires : tie.Need-clear-from-requires
 clear-from-requires c κs =
@@ -87,6 +88,7 @@ next-spec =
     returns
     dust-forward-requires
     add-t18
+    (λ c κs. search needs)
     (λ c. search needs)
     returns-2
     clear-from-requires

@@ -90,28 +90,31 @@ abbrev y1 : Syntax.Ty
 y1 = Syntax.tyFloat Ieee.binary64
 
 abbrev y2 : Syntax.Ty
-y2 = Syntax.tyStruct (115 ∷ 99 ∷ 97 ∷ 110 ∷ 115 ∷ 58 ∷ 58 ∷ 67 ∷ 97 ∷ 114 ∷ 114 ∷ 121 ∷ []) (Syntax.tcons Syntax.tyBool (Syntax.tcons y1 (Syntax.tcons y1 Syntax.tnil)))
+y2 = Syntax.tyStruct (115 ∷ 99 ∷ 97 ∷ 110 ∷ 115 ∷ 58 ∷ 58 ∷ 67 ∷ 101 ∷ 114 ∷ 116 ∷ 105 ∷ 102 ∷ 105 ∷ 99 ∷ 97 ∷ 116 ∷ 101 ∷ []) (Syntax.tcons Syntax.tyBool (Syntax.tcons y0 (Syntax.tcons y0 (Syntax.tcons y1 (Syntax.tcons y1 (Syntax.tcons y1 Syntax.tnil))))))
 
 abbrev y3 : Syntax.Ty
-y3 = Syntax.tyStruct (115 ∷ 99 ∷ 97 ∷ 110 ∷ 115 ∷ 58 ∷ 58 ∷ 83 ∷ 99 ∷ 97 ∷ 110 ∷ 110 ∷ 101 ∷ 100 ∷ []) (Syntax.tcons y0 (Syntax.tcons y2 Syntax.tnil))
+y3 = Syntax.tyStruct (115 ∷ 99 ∷ 97 ∷ 110 ∷ 115 ∷ 58 ∷ 58 ∷ 67 ∷ 97 ∷ 114 ∷ 114 ∷ 121 ∷ []) (Syntax.tcons Syntax.tyBool (Syntax.tcons y1 (Syntax.tcons y1 (Syntax.tcons y2 Syntax.tnil))))
 
 abbrev y4 : Syntax.Ty
-y4 = Syntax.tyStruct (115 ∷ 99 ∷ 97 ∷ 110 ∷ 115 ∷ 58 ∷ 58 ∷ 99 ∷ 97 ∷ 110 ∷ 100 ∷ 105 ∷ 100 ∷ 97 ∷ 116 ∷ 101 ∷ 115 ∷ 58 ∷ 58 ∷ 84 ∷ 114 ∷ 105 ∷ 97 ∷ 108 ∷ []) (Syntax.tcons y0 (Syntax.tcons y0 (Syntax.tcons y3 Syntax.tnil)))
+y4 = Syntax.tyStruct (115 ∷ 99 ∷ 97 ∷ 110 ∷ 115 ∷ 58 ∷ 58 ∷ 83 ∷ 99 ∷ 97 ∷ 110 ∷ 110 ∷ 101 ∷ 100 ∷ []) (Syntax.tcons y0 (Syntax.tcons y3 Syntax.tnil))
 
 abbrev y5 : Syntax.Ty
-y5 = Syntax.tyInt Syntax.w32
+y5 = Syntax.tyStruct (115 ∷ 99 ∷ 97 ∷ 110 ∷ 115 ∷ 58 ∷ 58 ∷ 99 ∷ 97 ∷ 110 ∷ 100 ∷ 105 ∷ 100 ∷ 97 ∷ 116 ∷ 101 ∷ 115 ∷ 58 ∷ 58 ∷ 84 ∷ 114 ∷ 105 ∷ 97 ∷ 108 ∷ []) (Syntax.tcons y0 (Syntax.tcons y0 (Syntax.tcons y4 Syntax.tnil)))
 
 abbrev y6 : Syntax.Ty
-y6 = Syntax.tyStruct (115 ∷ 99 ∷ 97 ∷ 110 ∷ 115 ∷ 58 ∷ 58 ∷ 70 ∷ 111 ∷ 114 ∷ 119 ∷ 97 ∷ 114 ∷ 100 ∷ 80 ∷ 111 ∷ 115 ∷ 105 ∷ 116 ∷ 105 ∷ 111 ∷ 110 ∷ []) (Syntax.tcons y5 (Syntax.tcons y1 Syntax.tnil))
+y6 = Syntax.tyInt Syntax.w32
 
 abbrev y7 : Syntax.Ty
-y7 = Syntax.tyInt Syntax.w16
+y7 = Syntax.tyStruct (115 ∷ 99 ∷ 97 ∷ 110 ∷ 115 ∷ 58 ∷ 58 ∷ 70 ∷ 111 ∷ 114 ∷ 119 ∷ 97 ∷ 114 ∷ 100 ∷ 80 ∷ 111 ∷ 115 ∷ 105 ∷ 116 ∷ 105 ∷ 111 ∷ 110 ∷ []) (Syntax.tcons y6 (Syntax.tcons y1 Syntax.tnil))
 
 abbrev y8 : Syntax.Ty
-y8 = Syntax.tyRef Syntax.erased Syntax.mut y7
+y8 = Syntax.tyInt Syntax.w16
 
 abbrev y9 : Syntax.Ty
-y9 = Syntax.tyStruct (38 ∷ 91 ∷ 93 ∷ []) (Syntax.tcons y8 (Syntax.tcons y0 Syntax.tnil))
+y9 = Syntax.tyRef Syntax.erased Syntax.mut y8
+
+abbrev y10 : Syntax.Ty
+y10 = Syntax.tyStruct (38 ∷ 91 ∷ 93 ∷ []) (Syntax.tcons y9 (Syntax.tcons y0 Syntax.tnil))
 
 abbrev q5 : Rows·type.RattleType
 q5 = Declared.row Trial.the-type
@@ -120,16 +123,16 @@ abbrev q6 : Rows·type.RattleType
 q6 = Declared.row ForwardPosition.the-type
 
 abbrev e0 : Row.Entry
-e0 = (0, Rows.any-gone y3)
+e0 = (0, Rows.any-gone y4)
 
 abbrev e1 : Row.Entry
 e1 = (1, Rows.whole q0)
 
-abbrev y10 : Syntax.Ty
-y10 = Syntax.tyRef (Syntax.named 0) Syntax.imm y5
+abbrev y11 : Syntax.Ty
+y11 = Syntax.tyRef (Syntax.named 0) Syntax.imm y6
 
 abbrev e2 : Row.Entry
-e2 = (2, Rows.sslice q1 y10 0)
+e2 = (2, Rows.sslice q1 y11 0)
 
 abbrev z0 : Row.Sc
 z0 = Row.sInt Syntax.w64
@@ -143,35 +146,35 @@ e4 = (4, Rows.sc-here z0)
 abbrev e5 : Row.Entry
 e5 = (5, Rows.sc-here z0)
 
-abbrev y11 : Syntax.Ty
-y11 = Syntax.tyRef (Syntax.named 1) Syntax.imm y1
+abbrev y12 : Syntax.Ty
+y12 = Syntax.tyRef (Syntax.named 1) Syntax.imm y1
 
 abbrev e6 : Row.Entry
-e6 = (6, Rows.sslice q2 y11 1)
-
-abbrev y12 : Syntax.Ty
-y12 = Syntax.tyRef (Syntax.named 2) Syntax.imm y1
-
-abbrev e7 : Row.Entry
-e7 = (7, Rows.sslice q2 y12 2)
+e6 = (6, Rows.sslice q2 y12 1)
 
 abbrev y13 : Syntax.Ty
-y13 = Syntax.tyRef (Syntax.named 3) Syntax.imm (Rec·memory.pointee (ForwardPosition.the-row .written))
+y13 = Syntax.tyRef (Syntax.named 2) Syntax.imm y1
 
-abbrev e8 : Row.Entry
-e8 = (8, Rows.sslice ForwardPosition.the-row y13 3)
+abbrev e7 : Row.Entry
+e7 = (7, Rows.sslice q2 y13 2)
 
 abbrev y14 : Syntax.Ty
-y14 = Syntax.tyRef (Syntax.named 4) Syntax.mut y7
+y14 = Syntax.tyRef (Syntax.named 3) Syntax.imm (Rec·memory.pointee (ForwardPosition.the-row .written))
+
+abbrev e8 : Row.Entry
+e8 = (8, Rows.sslice ForwardPosition.the-row y14 3)
+
+abbrev y15 : Syntax.Ty
+y15 = Syntax.tyRef (Syntax.named 4) Syntax.mut y8
 
 abbrev e9 : Row.Entry
-e9 = (9, Mut.mslice q3 y14 4)
+e9 = (9, Mut.mslice q3 y15 4)
 
 abbrev e10 : Row.Entry
-e10 = (10, Rows.any-gone y4)
+e10 = (10, Rows.any-gone y5)
 
 abbrev e11 : Row.Entry
-e11 = (11, Rows.any-gone y6)
+e11 = (11, Rows.any-gone y7)
 
 abbrev e12 : Row.Entry
 e12 = (12, Rows.any-gone Syntax.tyBool)
@@ -180,10 +183,10 @@ abbrev e13 : Row.Entry
 e13 = (13, Rows.any-gone y0)
 
 abbrev e14 : Row.Entry
-e14 = (14, Rows.any-gone y8)
+e14 = (14, Rows.any-gone y9)
 
 abbrev e15 : Row.Entry
-e15 = (15, Rows.any-gone y9)
+e15 = (15, Rows.any-gone y10)
 
 abbrev c0 : List.List Row.Entry
 c0 = e0 ∷ e1 ∷ e2 ∷ e3 ∷ e4 ∷ e5 ∷ e6 ∷ e7 ∷ []
@@ -194,11 +197,11 @@ c1 = e8 ∷ e9 ∷ e10 ∷ e11 ∷ e12 ∷ e13 ∷ e14 ∷ e15 ∷ []
 abbrev e16 : Row.Entry
 e16 = (0, Rows.whole q4)
 
-abbrev y15 : Syntax.Ty
-y15 = Syntax.tyStruct (115 ∷ 99 ∷ 97 ∷ 110 ∷ 115 ∷ 58 ∷ 58 ∷ 80 ∷ 97 ∷ 114 ∷ 97 ∷ 109 ∷ 115 ∷ []) (Syntax.tcons y0 (Syntax.tcons y0 (Syntax.tcons y7 (Syntax.tcons y1 (Syntax.tcons y1 (Syntax.tcons Syntax.tyBool (Syntax.tcons y5 (Syntax.tcons Syntax.tyBool Syntax.tnil))))))))
+abbrev y16 : Syntax.Ty
+y16 = Syntax.tyStruct (115 ∷ 99 ∷ 97 ∷ 110 ∷ 115 ∷ 58 ∷ 58 ∷ 80 ∷ 97 ∷ 114 ∷ 97 ∷ 109 ∷ 115 ∷ []) (Syntax.tcons y0 (Syntax.tcons y0 (Syntax.tcons y8 (Syntax.tcons y1 (Syntax.tcons y1 (Syntax.tcons Syntax.tyBool (Syntax.tcons y6 (Syntax.tcons Syntax.tyBool Syntax.tnil))))))))
 
 abbrev e17 : Row.Entry
-e17 = (1, Rows.any-gone y15)
+e17 = (1, Rows.any-gone y16)
 
 abbrev e18 : Row.Entry
 e18 = (3, Rows.any-gone y0)
@@ -243,22 +246,22 @@ abbrev c8 : List.List Row.Entry
 c8 = e8 ∷ e9 ∷ e21 ∷ e24 ∷ e12 ∷ e13 ∷ e14 ∷ e15 ∷ []
 
 abbrev e25 : Row.Entry
-e25 = (9, Relend.mslice-owed q3 y14 4 5 Row.off)
+e25 = (9, Relend.mslice-owed q3 y15 4 5 Row.off)
 
 abbrev e26 : Row.Entry
-e26 = (14, Relend.msptr q3 y8 5)
+e26 = (14, Relend.msptr q3 y9 5)
 
 abbrev c9 : List.List Row.Entry
 c9 = e8 ∷ e25 ∷ e21 ∷ e24 ∷ e12 ∷ e13 ∷ e26 ∷ e15 ∷ []
 
 abbrev e27 : Row.Entry
-e27 = (15, Mut.mslice q3 y8 5)
+e27 = (15, Mut.mslice q3 y9 5)
 
 abbrev c10 : List.List Row.Entry
 c10 = e8 ∷ e25 ∷ e21 ∷ e24 ∷ e12 ∷ e13 ∷ e14 ∷ e27 ∷ []
 
 abbrev e28 : Row.Entry
-e28 = (15, Mut.msleft q3 y8)
+e28 = (15, Mut.msleft q3 y9)
 
 abbrev c11 : List.List Row.Entry
 c11 = e8 ∷ e25 ∷ e21 ∷ e24 ∷ e12 ∷ e13 ∷ e14 ∷ e28 ∷ []
@@ -282,7 +285,7 @@ abbrev pub r : Kinds.RK 5
 r = Value.rVal record { ty = q4; one = Path'.refl; val = Laws'4.val Scanned.the-type Laws''.the-laws; tells = Laws'4.tells Scanned.the-type Laws''.the-laws; still = Laws'4.still Scanned.the-type Laws''.the-copy Exit.yes; row = Rows.whole q4; rd = λ x. x; mk = λ x. x } λ M 𝓤 H A W. record { copies = Laws'4.copy Scanned.the-type Laws''.the-copy 𝓤 H A W; lawful = Laws'4.lawful Scanned.the-type Laws''.the-laws 𝓤 H A W; makes = Laws'4.makes Scanned.the-type Laws''.the-plain 𝓤 H A; in-mem = Local.mem-whole 𝓤 H A W q4; of-mem = Local.whole-mem 𝓤 H A W q4 }
 
 abbrev pub xs : List.List Syntax.Ty
-xs = y4 ∷ y6 ∷ Syntax.tyBool ∷ y0 ∷ y8 ∷ y9 ∷ []
+xs = y5 ∷ y7 ∷ Syntax.tyBool ∷ y0 ∷ y9 ∷ y10 ∷ []
 
 abbrev pub m : Nat.ℕ
 m = 1
@@ -330,7 +333,7 @@ abbrev b6 : Syntax.Body
 b6 = Syntax.call "scans::candidates::candidate_at" ((Syntax.copy (Syntax.place 8 List.[])) ∷ (Syntax.copy (Syntax.place 13 List.[])) ∷ []) (Syntax.place 11 List.[])
 
 abbrev b7 : Syntax.Body
-b7 = Syntax.assign (Syntax.place 14 List.[]) (Syntax.addrOf (Syntax.place 9 ((Syntax.field 0) ∷ (Syntax.deref y7) ∷ [])))
+b7 = Syntax.assign (Syntax.place 14 List.[]) (Syntax.addrOf (Syntax.place 9 ((Syntax.field 0) ∷ (Syntax.deref y8) ∷ [])))
 
 abbrev b8 : Syntax.Body
 b8 = Syntax.assign (Syntax.place 15 List.[]) (Syntax.aggregate ((Syntax.copy (Syntax.place 14 List.[])) ∷ (Syntax.copy (Syntax.place 9 ((Syntax.field 1) ∷ []))) ∷ []))
@@ -544,19 +547,19 @@ MeasureT-loop = Rows.whole q0 .Mod → List.List (Referent.rtF (Referent.fInt Sy
 
 module _ (claims· : Claims) where
   abbrev s0 : (bs : List.List Nat.ℕ) → Typed.Gives T0 T2
-  s0 = λ bs. Know.k-shs-known (Referent.fInt Syntax.w32) T0 2 0 y10 Row.off 0 λ x. x
+  s0 = λ bs. Know.k-shs-known (Referent.fInt Syntax.w32) T0 2 0 y11 Row.off 0 λ x. x
 
   abbrev s1 : (bs : List.List Nat.ℕ) → Typed.Gives T2 T3
-  s1 = λ bs. Know.k-shs-known (Referent.fFloat Ieee.binary64) T2 6 1 y11 Row.off Ieee.nan λ x. x
+  s1 = λ bs. Know.k-shs-known (Referent.fFloat Ieee.binary64) T2 6 1 y12 Row.off Ieee.nan λ x. x
 
   abbrev s2 : (bs : List.List Nat.ℕ) → Typed.Gives T3 T4
-  s2 = λ bs. Know.k-shs-known (Referent.fFloat Ieee.binary64) T3 7 2 y12 Row.off Ieee.nan λ x. x
+  s2 = λ bs. Know.k-shs-known (Referent.fFloat Ieee.binary64) T3 7 2 y13 Row.off Ieee.nan λ x. x
 
   abbrev s3 : (bs : List.List Nat.ℕ) → Typed.Gives T4 T5
-  s3 = λ bs. Know.k-sl-known (Referent.fInt Syntax.w16) T4 9 4 y14 Row.off 0 λ x. x
+  s3 = λ bs. Know.k-sl-known (Referent.fInt Syntax.w16) T4 9 4 y15 Row.off 0 λ x. x
 
   abbrev s4 : (bs : List.List Nat.ℕ) → Typed.Both T5 T6
-  s4 = λ bs. Call.callB ps·0 r·0 (claims· .0) (claims· .1) T5 (Num.vAt 5 λ x. x, tt) 10 List.[] y4
+  s4 = λ bs. Call.callB ps·0 r·0 (claims· .0) (claims· .1) T5 (Num.vAt 5 λ x. x, tt) 10 List.[] y5
 
   abbrev s5 : (bs : List.List Nat.ℕ) → Typed.Gives T6 T8
   s5 = λ bs. Know'.k-struct-known Trial.the-type Laws'3.the-laws T6 10 λ x. x
@@ -568,7 +571,7 @@ module _ (claims· : Claims) where
   s7 = λ bs. Scalar.n-room T9 12 Syntax.tyBool
 
   abbrev s8 : (bs : List.List Nat.ℕ) → Typed.Mo T9 → Typed.Mo T12
-  s8 = λ bs. Scalar.n-room T9 1 y15
+  s8 = λ bs. Scalar.n-room T9 1 y16
 
   abbrev s9 : (bs : List.List Nat.ℕ) → Typed.Mo T12 → Typed.Mo T13
   s9 = λ bs. Scalar.n-room T12 12 Syntax.tyBool
@@ -580,34 +583,34 @@ module _ (claims· : Claims) where
   s11 = λ bs. Scalar.k-op2 T14 (Syntax.sub Syntax.unsigned) (Scalar.oFld 10 ((Syntax.field 0) ∷ []) y0 0 (Reads.fieldV Trial.the-type Laws'3.the-laws 0)) (Scalar.oInt Syntax.w64 1) 13 (Rows.sc-here z0) (Row.sInt Syntax.w64 .of)
 
   abbrev s12 : (bs : List.List Nat.ℕ) → Typed.Both T15 T16
-  s12 = λ bs. Call.callB ps·1 r·1 (claims· .2) (claims· .3) T15 (record { pos = 8; ty = y13; ref = λ x. x }, (Num.vAt 13 λ x. x, tt)) 11 (3 ∷ []) y6
+  s12 = λ bs. Call.callB ps·1 r·1 (claims· .2) (claims· .3) T15 (record { pos = 8; ty = y14; ref = λ x. x }, (Num.vAt 13 λ x. x, tt)) 11 (3 ∷ []) y7
 
   abbrev s13 : (bs : List.List Nat.ℕ) → Typed.Mo T16 → Typed.Mo T17
   s13 = λ bs. Scalar.n-room T16 13 y0
 
   abbrev s15 : (bs : List.List Nat.ℕ) → Typed.Gives T17 T19
-  s15 = λ bs. Relend.k-sl-relend q3 T17 9 14 4 5 y14 y8 Row.off λ x. x
+  s15 = λ bs. Relend.k-sl-relend q3 T17 9 14 4 5 y15 y9 Row.off λ x. x
 
   abbrev s16 : (bs : List.List Nat.ℕ) → Typed.Asks T19 T20
-  s16 = λ bs. Relend.k-sl-aggregate q3 (Relend.asMut q3) T19 14 15 5 y8 y8 (λ x. x) (Scalar.oFld 9 ((Syntax.field 1) ∷ []) y0 8 λ v. Shared.lenV (v .0))
+  s16 = λ bs. Relend.k-sl-aggregate q3 (Relend.asMut q3) T19 14 15 5 y9 y9 (λ x. x) (Scalar.oFld 9 ((Syntax.field 1) ∷ []) y0 8 λ v. Shared.lenV (v .0))
 
   abbrev s17 : (bs : List.List Nat.ℕ) → Typed.Both T20 T21
-  s17 = λ bs. Call.callB ps·2 r·2 (claims· .4) (claims· .5) T20 (record { pos = 10; st = List.[]; d = 0; at = λ x. x }, (record { pos = 1; st = List.[]; d = 0; at = λ x. x }, (record { pos = 2; ty = y10; ref = λ x. x }, (Num.vAt 3 λ x. x, (Num.vAt 4 λ x. x, (record { pos = 11; st = List.[]; d = 0; at = λ x. x }, (record { pos = 6; ty = y11; ref = λ x. x }, (record { pos = 7; ty = y12; ref = λ x. x }, (record { pos = 15; ty = y8; ref = λ x. x }, tt))))))))) 10 (0 ∷ 1 ∷ 2 ∷ 5 ∷ []) y4
+  s17 = λ bs. Call.callB ps·2 r·2 (claims· .4) (claims· .5) T20 (record { pos = 10; st = List.[]; d = 0; at = λ x. x }, (record { pos = 1; st = List.[]; d = 0; at = λ x. x }, (record { pos = 2; ty = y11; ref = λ x. x }, (Num.vAt 3 λ x. x, (Num.vAt 4 λ x. x, (record { pos = 11; st = List.[]; d = 0; at = λ x. x }, (record { pos = 6; ty = y12; ref = λ x. x }, (record { pos = 7; ty = y13; ref = λ x. x }, (record { pos = 15; ty = y9; ref = λ x. x }, tt))))))))) 10 (0 ∷ 1 ∷ 2 ∷ 5 ∷ []) y5
 
   abbrev s18 : (bs : List.List Nat.ℕ) → Typed.Mo T21 → Typed.Mo T22
-  s18 = λ bs. Scalar.n-room T21 11 y6
+  s18 = λ bs. Scalar.n-room T21 11 y7
 
   abbrev s20 : (bs : List.List Nat.ℕ) → Typed.Both T22 T24
-  s20 = λ bs. Relend.k-back-sl q3 T22 15 9 4 5 y14 y8 Row.off (λ x. x) λ x. x
+  s20 = λ bs. Relend.k-back-sl q3 T22 15 9 4 5 y15 y9 Row.off (λ x. x) λ x. x
 
   abbrev s21 : (bs : List.List Nat.ℕ) → Typed.Gives T24 T25
-  s21 = λ bs. Know.k-sl-known (Referent.fInt Syntax.w16) T24 9 4 y14 Row.off 0 λ x. x
+  s21 = λ bs. Know.k-sl-known (Referent.fInt Syntax.w16) T24 9 4 y15 Row.off 0 λ x. x
 
   abbrev s23 : (bs : List.List Nat.ℕ) → Typed.Both T7 T27
   s23 = λ bs. WayStmt.k-way-copy-out T7 (Row.out 10 (T7 .locals)) (λ u. Row.drop 10 (T7 .locals) u) 0 (Rows.whole q4) (λ u. At.getAt (Trial.the-type .parts) 2 (Trial.struct .as-values (u .1 .1 .1 .1 .1 .1 .1 .1 .1 .1 .0))) (λ T′. record { locals = Row.setRow 10 (10, Rows.whole q5) T′; slots = List.[] }) (λ u T′ m′. Row.set 10 (10, Rows.whole q5) (u .1 .1 .1 .1 .1 .1 .1 .1 .1 .1 .0) T′ m′) (λ u. Unit) λ u. Unit
 
   abbrev s24 : (bs : List.List Nat.ℕ) → Typed.Mo T27 → Typed.Mo T28
-  s24 = λ bs. Scalar.n-room T27 10 y4
+  s24 = λ bs. Scalar.n-room T27 10 y5
 
   abbrev s25 : (bs : List.List Nat.ℕ) → Typed.Mo T28 → Typed.Mo T29
   s25 = λ bs. Scalar.n-room T28 3 y0
@@ -623,7 +626,7 @@ module _ (claims· : Claims) where
       Rows.whole (Declared.row Trial.the-type) .Mod →
       Typed.Mo T6 →
       Typed.Mo T6
-  put0 = λ vs u. Row.set 10 (10, Rows.whole q5) (vs .1) (T6 .locals) (Row.set 9 (9, Mut.mslice q3 y14 4) record { ptr = Row.get 9 (T6 .locals) u .ptr; name = Row.get 9 (T6 .locals) u .name; now = vs .0 } (T6 .locals) u)
+  put0 = λ vs u. Row.set 10 (10, Rows.whole q5) (vs .1) (T6 .locals) (Row.set 9 (9, Mut.mslice q3 y15 4) record { ptr = Row.get 9 (T6 .locals) u .ptr; name = Row.get 9 (T6 .locals) u .name; now = vs .0 } (T6 .locals) u)
 
   module _ (Pre· : (κs : Lifetimes.Lfts 5) → Kinds.Dens κs ps → Type 0)
       (Post· : (κs : Lifetimes.Lfts 5) → (a : Kinds.Dens κs ps) → Kinds.Plain 5 ps r κs) where
@@ -738,7 +741,7 @@ module _ (claims· : Claims) where
         li0 = Row.lease (κs .1 .1 .1 .1 .0) (qs .1 .1 .1 .1 .0)
 
         abbrev ei0 : Row.Entry
-        ei0 = (9, Relend.mslice-owed q3 y14 4 5 li0)
+        ei0 = (9, Relend.mslice-owed q3 y15 4 5 li0)
 
         abbrev ci0 : List.List Row.Entry
         ci0 = e8 ∷ ei0 ∷ e21 ∷ e24 ∷ e12 ∷ e13 ∷ e26 ∷ e15 ∷ []
@@ -921,19 +924,19 @@ module _ (claims· : Claims) where
           d3 = Typed.g-pre 𝓤 H A W 𝓣 E G12 G13 b3 Δ4 (Typed.pass T12 T13 (s9 bs)) (at2 bs) (Scalar.g-room 𝓤 H A W E G12 12 Syntax.tyBool (Scalar.room-sc 𝓤 H A W Row.sBool)) d2
 
           d4 : Typed.Typed 𝓤 H A 𝓣 E G9 b3 Δ4 (at4 bs)
-          d4 = Typed.g-pre 𝓤 H A W 𝓣 E G9 G12 b3 Δ4 (Typed.pass T9 T12 (s8 bs)) (at3 bs) (Scalar.g-room 𝓤 H A W E G9 1 y15 (Local.room-whole 𝓤 H A W q0 y15 Path'.refl)) d3
+          d4 = Typed.g-pre 𝓤 H A W 𝓣 E G9 G12 b3 Δ4 (Typed.pass T9 T12 (s8 bs)) (at3 bs) (Scalar.g-room 𝓤 H A W E G9 1 y16 (Local.room-whole 𝓤 H A W q0 y16 Path'.refl)) d3
 
           d5 : Typed.Typed 𝓤 H A 𝓣 E G9 b4 Δ4 (at5 bs)
           d5 = Scalar.t-cond 𝓤 H A W E 𝓣 G9 12 (λ x. x) b2 b3 Δ4 (at1 bs) (at4 bs) (Scalar.reads-sc 𝓤 H A W Row.sBool) Path'.refl d1 d4
 
           d6 : Typed.Typed 𝓤 H A 𝓣 E G20 b9 Δ3 (at6 bs)
-          d6 = Typed.s-typed 𝓤 H A W 𝓣 E G20 b9 Δ3 (λ Ψ. Typed.both (s17 bs) (Typed.pass T21 T22 (s18 bs) (Typed.both (s20 bs) (Typed.give (s21 bs) Ψ)))) tt (Typed.g-post 𝓤 H A W 𝓣 E G20 G25 G26 b9 (λ Ψ. Typed.both (s17 bs) (Typed.pass T21 T22 (s18 bs) (Typed.both (s20 bs) (Typed.give (s21 bs) Ψ)))) (λ Ψ. Ψ) (Typed.g-post 𝓤 H A W 𝓣 E G20 G24 G25 b9 (λ Ψ. Typed.both (s17 bs) (Typed.pass T21 T22 (s18 bs) (Typed.both (s20 bs) Ψ))) (Typed.give (s21 bs)) (Typed.g-post 𝓤 H A W 𝓣 E G20 G23 G24 b9 (λ Ψ. Typed.both (s17 bs) (Typed.pass T21 T22 (s18 bs) Ψ)) (Typed.both (s20 bs)) (Typed.g-post 𝓤 H A W 𝓣 E G20 G22 G23 b9 (λ Ψ. Typed.both (s17 bs) (Typed.pass T21 T22 (s18 bs) Ψ)) (λ Ψ. Ψ) (Typed.g-post 𝓤 H A W 𝓣 E G20 G21 G22 b9 (Typed.both (s17 bs)) (Typed.pass T21 T22 (s18 bs)) (Plain.t-call-plain 𝓤 H A W 𝓣 4 ps·2 r·2 (claims· .4) (claims· .5) "scans::candidates::Trial::next" (known .2) E (λ pos β. β) G20 (record { pos = 10; st = List.[]; d = 0; at = λ x. x }, (record { pos = 1; st = List.[]; d = 0; at = λ x. x }, (record { pos = 2; ty = y10; ref = λ x. x }, (Num.vAt 3 λ x. x, (Num.vAt 4 λ x. x, (record { pos = 11; st = List.[]; d = 0; at = λ x. x }, (record { pos = 6; ty = y11; ref = λ x. x }, (record { pos = 7; ty = y12; ref = λ x. x }, (record { pos = 15; ty = y8; ref = λ x. x }, tt))))))))) 10 (0 ∷ 1 ∷ 2 ∷ 5 ∷ []) (Call.sub-id 𝓤 H A W (G20 .slots)) ((Yields.yields-copy 𝓤 H A W (λ ρ. Unit) q5 Path'.refl (Copies.cStruct Trial.the-type Laws'3.the-laws Laws'3.the-copy .copy 𝓤 H A W) (Rows.whole q5) (λ x. x) (λ x. x) (λ ρ told. Local.mem-whole 𝓤 H A W q5 ρ) λ ρ told. Local.whole-mem 𝓤 H A W q5 ρ, Path'.refl), ((Yields.yields-copy 𝓤 H A W (λ ρ. Unit) q0 Path'.refl (Copies.cStruct Params.the-type Laws'.the-laws Laws'.the-copy .copy 𝓤 H A W) (Rows.whole q0) (λ x. x) (λ x. x) (λ ρ told. Local.mem-whole 𝓤 H A W q0 ρ) λ ρ told. Local.whole-mem 𝓤 H A W q0 ρ, Path'.refl), (ShrSlice.spares-sslice 𝓤 H A W q1 y10 0, Shared.reads-sslice 𝓤 H A W q1 y10 0, Path'.refl, ((Scalar.reads-sc 𝓤 H A W z0, Path'.refl), ((Scalar.reads-sc 𝓤 H A W z0, Path'.refl), ((Yields.yields-copy 𝓤 H A W (λ ρ. Unit) q6 Path'.refl (Copies.cStruct ForwardPosition.the-type Laws.the-laws Laws.the-copy .copy 𝓤 H A W) (Rows.whole q6) (λ x. x) (λ x. x) (λ ρ told. Local.mem-whole 𝓤 H A W q6 ρ) λ ρ told. Local.whole-mem 𝓤 H A W q6 ρ, Path'.refl), (ShrSlice.spares-sslice 𝓤 H A W q2 y11 1, Shared.reads-sslice 𝓤 H A W q2 y11 1, Path'.refl, (ShrSlice.spares-sslice 𝓤 H A W q2 y12 2, Shared.reads-sslice 𝓤 H A W q2 y12 2, Path'.refl, (Reads'.as-is 𝓤 H A (Mut.mslice q3 y8 5), Mut.reads-mslice 𝓤 H A W q3 y8 5, Path'.refl, tt))))))))) (Local.room-whole 𝓤 H A W q5 y4 Path'.refl) (tt, (tt, (tt, (tt, tt)))) Path'.refl) (Scalar.g-room 𝓤 H A W E G21 11 y6 (Local.room-whole 𝓤 H A W q6 y6 Path'.refl))) (Lifetime.g-end 𝓤 H A W E G22 5 Path'.refl)) (Relend.g-back-sl 𝓤 H A W E q3 G23 15 9 4 5 y14 y8 li0 (λ x. x) (λ x. x) (Reads'.as-is 𝓤 H A (Mut.msleft q3 y8)) (Reads'.as-is 𝓤 H A (Relend.mslice-owed q3 y14 4 5 li0)) Path'.refl Path'.refl)) (Know.g-sl-known 𝓤 H A W (Referent.fInt Syntax.w16) E G24 9 4 y14 li0 0 (λ x. x) record { fits = Dec'.lit< tt } (Reads'.as-is 𝓤 H A (Mut.mslice q3 y14 4)) Path'.refl tt)) (Lifetime.g-forget 𝓤 H A W E G25 5 Row.dead Path'.refl))
+          d6 = Typed.s-typed 𝓤 H A W 𝓣 E G20 b9 Δ3 (λ Ψ. Typed.both (s17 bs) (Typed.pass T21 T22 (s18 bs) (Typed.both (s20 bs) (Typed.give (s21 bs) Ψ)))) tt (Typed.g-post 𝓤 H A W 𝓣 E G20 G25 G26 b9 (λ Ψ. Typed.both (s17 bs) (Typed.pass T21 T22 (s18 bs) (Typed.both (s20 bs) (Typed.give (s21 bs) Ψ)))) (λ Ψ. Ψ) (Typed.g-post 𝓤 H A W 𝓣 E G20 G24 G25 b9 (λ Ψ. Typed.both (s17 bs) (Typed.pass T21 T22 (s18 bs) (Typed.both (s20 bs) Ψ))) (Typed.give (s21 bs)) (Typed.g-post 𝓤 H A W 𝓣 E G20 G23 G24 b9 (λ Ψ. Typed.both (s17 bs) (Typed.pass T21 T22 (s18 bs) Ψ)) (Typed.both (s20 bs)) (Typed.g-post 𝓤 H A W 𝓣 E G20 G22 G23 b9 (λ Ψ. Typed.both (s17 bs) (Typed.pass T21 T22 (s18 bs) Ψ)) (λ Ψ. Ψ) (Typed.g-post 𝓤 H A W 𝓣 E G20 G21 G22 b9 (Typed.both (s17 bs)) (Typed.pass T21 T22 (s18 bs)) (Plain.t-call-plain 𝓤 H A W 𝓣 4 ps·2 r·2 (claims· .4) (claims· .5) "scans::candidates::Trial::next" (known .2) E (λ pos β. β) G20 (record { pos = 10; st = List.[]; d = 0; at = λ x. x }, (record { pos = 1; st = List.[]; d = 0; at = λ x. x }, (record { pos = 2; ty = y11; ref = λ x. x }, (Num.vAt 3 λ x. x, (Num.vAt 4 λ x. x, (record { pos = 11; st = List.[]; d = 0; at = λ x. x }, (record { pos = 6; ty = y12; ref = λ x. x }, (record { pos = 7; ty = y13; ref = λ x. x }, (record { pos = 15; ty = y9; ref = λ x. x }, tt))))))))) 10 (0 ∷ 1 ∷ 2 ∷ 5 ∷ []) (Call.sub-id 𝓤 H A W (G20 .slots)) ((Yields.yields-copy 𝓤 H A W (λ ρ. Unit) q5 Path'.refl (Copies.cStruct Trial.the-type Laws'3.the-laws Laws'3.the-copy .copy 𝓤 H A W) (Rows.whole q5) (λ x. x) (λ x. x) (λ ρ told. Local.mem-whole 𝓤 H A W q5 ρ) λ ρ told. Local.whole-mem 𝓤 H A W q5 ρ, Path'.refl), ((Yields.yields-copy 𝓤 H A W (λ ρ. Unit) q0 Path'.refl (Copies.cStruct Params.the-type Laws'.the-laws Laws'.the-copy .copy 𝓤 H A W) (Rows.whole q0) (λ x. x) (λ x. x) (λ ρ told. Local.mem-whole 𝓤 H A W q0 ρ) λ ρ told. Local.whole-mem 𝓤 H A W q0 ρ, Path'.refl), (ShrSlice.spares-sslice 𝓤 H A W q1 y11 0, Shared.reads-sslice 𝓤 H A W q1 y11 0, Path'.refl, ((Scalar.reads-sc 𝓤 H A W z0, Path'.refl), ((Scalar.reads-sc 𝓤 H A W z0, Path'.refl), ((Yields.yields-copy 𝓤 H A W (λ ρ. Unit) q6 Path'.refl (Copies.cStruct ForwardPosition.the-type Laws.the-laws Laws.the-copy .copy 𝓤 H A W) (Rows.whole q6) (λ x. x) (λ x. x) (λ ρ told. Local.mem-whole 𝓤 H A W q6 ρ) λ ρ told. Local.whole-mem 𝓤 H A W q6 ρ, Path'.refl), (ShrSlice.spares-sslice 𝓤 H A W q2 y12 1, Shared.reads-sslice 𝓤 H A W q2 y12 1, Path'.refl, (ShrSlice.spares-sslice 𝓤 H A W q2 y13 2, Shared.reads-sslice 𝓤 H A W q2 y13 2, Path'.refl, (Reads'.as-is 𝓤 H A (Mut.mslice q3 y9 5), Mut.reads-mslice 𝓤 H A W q3 y9 5, Path'.refl, tt))))))))) (Local.room-whole 𝓤 H A W q5 y5 Path'.refl) (tt, (tt, (tt, (tt, tt)))) Path'.refl) (Scalar.g-room 𝓤 H A W E G21 11 y7 (Local.room-whole 𝓤 H A W q6 y7 Path'.refl))) (Lifetime.g-end 𝓤 H A W E G22 5 Path'.refl)) (Relend.g-back-sl 𝓤 H A W E q3 G23 15 9 4 5 y15 y9 li0 (λ x. x) (λ x. x) (Reads'.as-is 𝓤 H A (Mut.msleft q3 y9)) (Reads'.as-is 𝓤 H A (Relend.mslice-owed q3 y15 4 5 li0)) Path'.refl Path'.refl)) (Know.g-sl-known 𝓤 H A W (Referent.fInt Syntax.w16) E G24 9 4 y15 li0 0 (λ x. x) record { fits = Dec'.lit< tt } (Reads'.as-is 𝓤 H A (Mut.mslice q3 y15 4)) Path'.refl tt)) (Lifetime.g-forget 𝓤 H A W E G25 5 Row.dead Path'.refl))
 
           d7 : Typed.Typed 𝓤 H A 𝓣 E G19 b10 Δ3 (at7 bs)
-          d7 = Typed.s-seq 𝓤 H A W 𝓣 E G19 G20 b8 b9 Δ3 (Typed.ask (s16 bs)) (at6 bs) (Relend.t-sl-aggregate 𝓤 H A W E q3 𝓣 (Relend.asMut q3) G19 14 15 5 y8 y8 (λ x. x) (Scalar.oFld 9 ((Syntax.field 1) ∷ []) y0 8 λ v. Shared.lenV (v .0)) (Reads'.as-is 𝓤 H A (Relend.msptr q3 y8 5)) (Reads'.room-gone 𝓤 H A y9) (Relend.reads-owed-len 𝓤 H A W q3 y14 4 5 li0 8 Path'.refl, Path'.refl) Path'.refl Path'.refl λ b o k. tt) d6
+          d7 = Typed.s-seq 𝓤 H A W 𝓣 E G19 G20 b8 b9 Δ3 (Typed.ask (s16 bs)) (at6 bs) (Relend.t-sl-aggregate 𝓤 H A W E q3 𝓣 (Relend.asMut q3) G19 14 15 5 y9 y9 (λ x. x) (Scalar.oFld 9 ((Syntax.field 1) ∷ []) y0 8 λ v. Shared.lenV (v .0)) (Reads'.as-is 𝓤 H A (Relend.msptr q3 y9 5)) (Reads'.room-gone 𝓤 H A y10) (Relend.reads-owed-len 𝓤 H A W q3 y15 4 5 li0 8 Path'.refl, Path'.refl) Path'.refl Path'.refl λ b o k. tt) d6
 
           d8 : Typed.Typed 𝓤 H A 𝓣 E G18 b11 Δ3 (at8 bs)
-          d8 = Typed.s-seq 𝓤 H A W 𝓣 E G18 G19 b7 b10 Δ3 (Typed.give (s15 bs)) (at7 bs) (Relend.t-sl-relend 𝓤 H A W E q3 𝓣 G18 9 14 4 5 y14 y8 li0 0 (λ x. x) (Reads'.as-is 𝓤 H A (Mut.mslice q3 y14 4)) (Reads'.room-gone 𝓤 H A y8) Path'.refl tt Path'.refl Path'.refl Path'.refl λ b o. tt) d7
+          d8 = Typed.s-seq 𝓤 H A W 𝓣 E G18 G19 b7 b10 Δ3 (Typed.give (s15 bs)) (at7 bs) (Relend.t-sl-relend 𝓤 H A W E q3 𝓣 G18 9 14 4 5 y15 y9 li0 0 (λ x. x) (Reads'.as-is 𝓤 H A (Mut.mslice q3 y15 4)) (Reads'.room-gone 𝓤 H A y9) Path'.refl tt Path'.refl Path'.refl Path'.refl λ b o. tt) d7
 
           d9 : Typed.Typed 𝓤 H A 𝓣 E G17 b11 Δ3 (at9 bs)
           d9 = Typed.g-pre 𝓤 H A W 𝓣 E G17 G18 b11 Δ3 (λ Ψ. Ψ) (at8 bs) (Lifetime.g-begin 𝓤 H A W E G17 5 (tt, (tt, (tt, (tt, (tt, (tt, (tt, (tt, (tt, (tt, (tt, (tt, (tt, (tt, (tt, (tt, tt))))))))))))))))) d8
@@ -942,7 +945,7 @@ module _ (claims· : Claims) where
           d10 = Typed.g-pre 𝓤 H A W 𝓣 E G16 G17 b11 Δ3 (Typed.pass T16 T17 (s13 bs)) (at9 bs) (Scalar.g-room 𝓤 H A W E G16 13 y0 (Scalar.room-sc 𝓤 H A W z0)) d9
 
           d11 : Typed.Typed 𝓤 H A 𝓣 E G15 b12 Δ3 (at11 bs)
-          d11 = Typed.s-seq 𝓤 H A W 𝓣 E G15 G16 b6 b11 Δ3 (Typed.both (s12 bs)) (at10 bs) (Plain.t-call-plain 𝓤 H A W 𝓣 1 ps·1 r·1 (claims· .2) (claims· .3) "scans::candidates::candidate_at" (known .1) E (λ pos β. β) G15 (record { pos = 8; ty = y13; ref = λ x. x }, (Num.vAt 13 λ x. x, tt)) 11 (3 ∷ []) (Call.sub-id 𝓤 H A W (G15 .slots)) (ShrSlice.spares-sslice 𝓤 H A W ForwardPosition.the-row y13 3, Shared.reads-sslice 𝓤 H A W ForwardPosition.the-row y13 3, Path'.refl, ((Scalar.reads-sc 𝓤 H A W z0, Path'.refl), tt)) (Reads'.room-gone 𝓤 H A y6) (tt, tt) Path'.refl) d10
+          d11 = Typed.s-seq 𝓤 H A W 𝓣 E G15 G16 b6 b11 Δ3 (Typed.both (s12 bs)) (at10 bs) (Plain.t-call-plain 𝓤 H A W 𝓣 1 ps·1 r·1 (claims· .2) (claims· .3) "scans::candidates::candidate_at" (known .1) E (λ pos β. β) G15 (record { pos = 8; ty = y14; ref = λ x. x }, (Num.vAt 13 λ x. x, tt)) 11 (3 ∷ []) (Call.sub-id 𝓤 H A W (G15 .slots)) (ShrSlice.spares-sslice 𝓤 H A W ForwardPosition.the-row y14 3, Shared.reads-sslice 𝓤 H A W ForwardPosition.the-row y14 3, Path'.refl, ((Scalar.reads-sc 𝓤 H A W z0, Path'.refl), tt)) (Reads'.room-gone 𝓤 H A y7) (tt, tt) Path'.refl) d10
 
           d12 : Typed.Typed 𝓤 H A 𝓣 E G14 b13 Δ3 (at12 bs)
           d12 = Typed.s-seq 𝓤 H A W 𝓣 E G14 G15 b5 b12 Δ3 (Typed.ask (s11 bs)) (at11 bs) (Scalar.t-op2 𝓤 H A W E 𝓣 G14 (Syntax.sub Syntax.unsigned) (Scalar.oFld 10 ((Syntax.field 0) ∷ []) y0 0 (Reads.fieldV Trial.the-type Laws'3.the-laws 0)) (Scalar.oInt Syntax.w64 1) 13 (Rows.sc-here z0) y0 (Row.valS z0) (Row.sInt Syntax.w64 .of) (Reads.reads-field 𝓤 H A W Trial.the-type Laws'3.the-laws 0 y0 0 Path'.refl, Path'.refl) tt (Reads'.room-gone 𝓤 H A y0) (Scalar.holds-sc 𝓤 H A W z0) Path'.refl (λ u. Path'.refl) λ u. tt) d11
@@ -978,28 +981,28 @@ module _ (claims· : Claims) where
           d22 = Typed.g-pre 𝓤 H A W 𝓣 E G28 G29 b19 Δ0 (Typed.pass T28 T29 (s25 bs)) (at21 bs) (Scalar.g-room 𝓤 H A W E G28 3 y0 (Scalar.room-sc 𝓤 H A W z0)) d21
 
           d23 : Typed.Typed 𝓤 H A 𝓣 E G27 b19 Δ0 (at23 bs)
-          d23 = Typed.g-pre 𝓤 H A W 𝓣 E G27 G28 b19 Δ0 (Typed.pass T27 T28 (s24 bs)) (at22 bs) (Scalar.g-room 𝓤 H A W E G27 10 y4 (Local.room-whole 𝓤 H A W q5 y4 Path'.refl)) d22
+          d23 = Typed.g-pre 𝓤 H A W 𝓣 E G27 G28 b19 Δ0 (Typed.pass T27 T28 (s24 bs)) (at22 bs) (Scalar.g-room 𝓤 H A W E G27 10 y5 (Local.room-whole 𝓤 H A W q5 y5 Path'.refl)) d22
 
           d24 : Typed.Typed 𝓤 H A 𝓣 E G7 b20 Δ0 (at24 bs)
-          d24 = Typed.s-seq 𝓤 H A W 𝓣 E G7 G27 b18 b19 Δ0 (Typed.both (s23 bs)) (at23 bs) (WayStmt.t-way-copy-out 𝓤 H A W E 𝓣 q4 Path'.refl (Copies.cStruct Scanned.the-type Laws''.the-laws Laws''.the-copy .copy 𝓤 H A W) (λ ρ. Unit) G7 (Row.out 10 (G7 .locals)) (λ u. Row.drop 10 (G7 .locals) u) (G7 .slots) 10 (λ t. List._∷_ (Syntax.field 2) t) y3 y3 0 (Rows.whole q4) (λ x. x) (λ u. At.getAt (Trial.the-type .parts) 2 (Trial.struct .as-values (u .1 .1 .1 .1 .1 .1 .1 .1 .1 .1 .0))) (λ u. (Row.hd 0 (Row.tl (Row.tl (Row.tl (Row.tl (Row.tl (Row.tl (Row.tl (Row.tl (Row.tl (Row.tl bs)))))))))), Nat._+_ 0 16)) (λ T′. record { locals = Row.setRow 10 (10, Rows.whole q5) T′; slots = G7 .slots }) (λ u T′ m′. Row.set 10 (10, Rows.whole q5) (u .1 .1 .1 .1 .1 .1 .1 .1 .1 .1 .0) T′ m′) (λ u. Unit) (λ x. Unit) (Own.told-none 𝓤 H A (G7 .slots)) (DerefMove.learns-nothing 𝓤 H A q4) (λ ρ told u asked. Way'.w-partˢ 𝓤 H A W E q5 q4 y4 y3 2 16 (u .1 .1 .1 .1 .1 .1 .1 .1 .1 .1 .0) (At.getAt (Trial.the-type .parts) 2 (Trial.struct .as-values (u .1 .1 .1 .1 .1 .1 .1 .1 .1 .1 .0))) (Row.hd 0 (Row.tl (Row.tl (Row.tl (Row.tl (Row.tl (Row.tl (Row.tl (Row.tl (Row.tl (Row.tl bs)))))))))), 0) (Way.w-look 𝓤 H A W E (Way.w-local 𝓤 H A W E G7 ρ u (G7 .slots) 10 q5 (Rows.whole q5) (λ x. x) (λ x. x) (u .1 .1 .1 .1 .1 .1 .1 .1 .1 .1 .0) (Local.mem-whole 𝓤 H A W q5 ρ (u .1 .1 .1 .1 .1 .1 .1 .1 .1 .1 .0) (Row.hd 0 (Row.tl (Row.tl (Row.tl (Row.tl (Row.tl (Row.tl (Row.tl (Row.tl (Row.tl (Row.tl bs)))))))))))) (Local.whole-mem 𝓤 H A W q5 ρ (u .1 .1 .1 .1 .1 .1 .1 .1 .1 .1 .0) (Row.hd 0 (Row.tl (Row.tl (Row.tl (Row.tl (Row.tl (Row.tl (Row.tl (Row.tl (Row.tl (Row.tl bs)))))))))))))) Path'.refl λ q. Inner.cut-record 𝓤 H A q q5 Scanned.the-type 16 (u .1 .1 .1 .1 .1 .1 .1 .1 .1 .1 .0) (u .1 .1 .1 .1 .1 .1 .1 .1 .1 .1 .0) (At.getAt (Trial.the-type .parts) 2 (Trial.struct .as-values (u .1 .1 .1 .1 .1 .1 .1 .1 .1 .1 .0))) (At.getAt (Trial.the-type .parts) 2 (Trial.struct .as-values (u .1 .1 .1 .1 .1 .1 .1 .1 .1 .1 .0))) (Row.hd 0 (Row.tl (Row.tl (Row.tl (Row.tl (Row.tl (Row.tl (Row.tl (Row.tl (Row.tl (Row.tl bs)))))))))), 0) (Behind.look-at 𝓤 H A W q Trial.the-type Laws'3.the-laws 2 16 Path'.refl Path'.refl (Row.hd 0 (Row.tl (Row.tl (Row.tl (Row.tl (Row.tl (Row.tl (Row.tl (Row.tl (Row.tl (Row.tl bs)))))))))), 0) (u .1 .1 .1 .1 .1 .1 .1 .1 .1 .1 .0) (Trial.struct .as-values (u .1 .1 .1 .1 .1 .1 .1 .1 .1 .1 .0)) Path'.refl)) (Reads'.room-gone 𝓤 H A y3) (Yields.makes-mem 𝓤 H A W (λ ρ. Unit) q4 Path'.refl (Rows.whole q4) (λ x. x) λ ρ told. Local.whole-mem 𝓤 H A W q4 ρ) Path'.refl Path'.refl Path'.refl) d23
+          d24 = Typed.s-seq 𝓤 H A W 𝓣 E G7 G27 b18 b19 Δ0 (Typed.both (s23 bs)) (at23 bs) (WayStmt.t-way-copy-out 𝓤 H A W E 𝓣 q4 Path'.refl (Copies.cStruct Scanned.the-type Laws''.the-laws Laws''.the-copy .copy 𝓤 H A W) (λ ρ. Unit) G7 (Row.out 10 (G7 .locals)) (λ u. Row.drop 10 (G7 .locals) u) (G7 .slots) 10 (λ t. List._∷_ (Syntax.field 2) t) y4 y4 0 (Rows.whole q4) (λ x. x) (λ u. At.getAt (Trial.the-type .parts) 2 (Trial.struct .as-values (u .1 .1 .1 .1 .1 .1 .1 .1 .1 .1 .0))) (λ u. (Row.hd 0 (Row.tl (Row.tl (Row.tl (Row.tl (Row.tl (Row.tl (Row.tl (Row.tl (Row.tl (Row.tl bs)))))))))), Nat._+_ 0 16)) (λ T′. record { locals = Row.setRow 10 (10, Rows.whole q5) T′; slots = G7 .slots }) (λ u T′ m′. Row.set 10 (10, Rows.whole q5) (u .1 .1 .1 .1 .1 .1 .1 .1 .1 .1 .0) T′ m′) (λ u. Unit) (λ x. Unit) (Own.told-none 𝓤 H A (G7 .slots)) (DerefMove.learns-nothing 𝓤 H A q4) (λ ρ told u asked. Way'.w-partˢ 𝓤 H A W E q5 q4 y5 y4 2 16 (u .1 .1 .1 .1 .1 .1 .1 .1 .1 .1 .0) (At.getAt (Trial.the-type .parts) 2 (Trial.struct .as-values (u .1 .1 .1 .1 .1 .1 .1 .1 .1 .1 .0))) (Row.hd 0 (Row.tl (Row.tl (Row.tl (Row.tl (Row.tl (Row.tl (Row.tl (Row.tl (Row.tl (Row.tl bs)))))))))), 0) (Way.w-look 𝓤 H A W E (Way.w-local 𝓤 H A W E G7 ρ u (G7 .slots) 10 q5 (Rows.whole q5) (λ x. x) (λ x. x) (u .1 .1 .1 .1 .1 .1 .1 .1 .1 .1 .0) (Local.mem-whole 𝓤 H A W q5 ρ (u .1 .1 .1 .1 .1 .1 .1 .1 .1 .1 .0) (Row.hd 0 (Row.tl (Row.tl (Row.tl (Row.tl (Row.tl (Row.tl (Row.tl (Row.tl (Row.tl (Row.tl bs)))))))))))) (Local.whole-mem 𝓤 H A W q5 ρ (u .1 .1 .1 .1 .1 .1 .1 .1 .1 .1 .0) (Row.hd 0 (Row.tl (Row.tl (Row.tl (Row.tl (Row.tl (Row.tl (Row.tl (Row.tl (Row.tl (Row.tl bs)))))))))))))) Path'.refl λ q. Inner.cut-record 𝓤 H A q q5 Scanned.the-type 16 (u .1 .1 .1 .1 .1 .1 .1 .1 .1 .1 .0) (u .1 .1 .1 .1 .1 .1 .1 .1 .1 .1 .0) (At.getAt (Trial.the-type .parts) 2 (Trial.struct .as-values (u .1 .1 .1 .1 .1 .1 .1 .1 .1 .1 .0))) (At.getAt (Trial.the-type .parts) 2 (Trial.struct .as-values (u .1 .1 .1 .1 .1 .1 .1 .1 .1 .1 .0))) (Row.hd 0 (Row.tl (Row.tl (Row.tl (Row.tl (Row.tl (Row.tl (Row.tl (Row.tl (Row.tl (Row.tl bs)))))))))), 0) (Behind.look-at 𝓤 H A W q Trial.the-type Laws'3.the-laws 2 16 Path'.refl Path'.refl (Row.hd 0 (Row.tl (Row.tl (Row.tl (Row.tl (Row.tl (Row.tl (Row.tl (Row.tl (Row.tl (Row.tl bs)))))))))), 0) (u .1 .1 .1 .1 .1 .1 .1 .1 .1 .1 .0) (Trial.struct .as-values (u .1 .1 .1 .1 .1 .1 .1 .1 .1 .1 .0)) Path'.refl)) (Reads'.room-gone 𝓤 H A y4) (Yields.makes-mem 𝓤 H A W (λ ρ. Unit) q4 Path'.refl (Rows.whole q4) (λ x. x) λ ρ told. Local.whole-mem 𝓤 H A W q4 ρ) Path'.refl Path'.refl Path'.refl) d23
 
           d25 : Typed.Typed 𝓤 H A 𝓣 E G6 b21 Δ0 (at25 bs)
           d25 = Typed.t-seq 𝓤 H A W 𝓣 E G6 G7 b17 b20 Δ0 (at18 bs) (at24 bs) d18 d24
 
           d26 : Typed.Typed 𝓤 H A 𝓣 E G5 b22 Δ0 (at26 bs)
-          d26 = Typed.s-seq 𝓤 H A W 𝓣 E G5 G6 b0 b21 Δ0 (Typed.both (s4 bs)) (at25 bs) (Plain.t-call-plain 𝓤 H A W 𝓣 0 ps·0 r·0 (claims· .0) (claims· .1) "scans::candidates::Trial::new" (known .0) E (λ pos β. β) G5 (Num.vAt 5 λ x. x, tt) 10 List.[] (Call.sub-id 𝓤 H A W (G5 .slots)) ((Scalar.reads-sc 𝓤 H A W z0, Path'.refl), tt) (Reads'.room-gone 𝓤 H A y4) tt Path'.refl) d25
+          d26 = Typed.s-seq 𝓤 H A W 𝓣 E G5 G6 b0 b21 Δ0 (Typed.both (s4 bs)) (at25 bs) (Plain.t-call-plain 𝓤 H A W 𝓣 0 ps·0 r·0 (claims· .0) (claims· .1) "scans::candidates::Trial::new" (known .0) E (λ pos β. β) G5 (Num.vAt 5 λ x. x, tt) 10 List.[] (Call.sub-id 𝓤 H A W (G5 .slots)) ((Scalar.reads-sc 𝓤 H A W z0, Path'.refl), tt) (Reads'.room-gone 𝓤 H A y5) tt Path'.refl) d25
 
           d27 : Typed.Typed 𝓤 H A 𝓣 E G4 b22 Δ0 (at27 bs)
-          d27 = Typed.g-pre 𝓤 H A W 𝓣 E G4 G5 b22 Δ0 (Typed.give (s3 bs)) (at26 bs) (Know.g-sl-known 𝓤 H A W (Referent.fInt Syntax.w16) E G4 9 4 y14 li0 0 (λ x. x) record { fits = Dec'.lit< tt } (Reads'.as-is 𝓤 H A (Mut.mslice q3 y14 4)) Path'.refl tt) d26
+          d27 = Typed.g-pre 𝓤 H A W 𝓣 E G4 G5 b22 Δ0 (Typed.give (s3 bs)) (at26 bs) (Know.g-sl-known 𝓤 H A W (Referent.fInt Syntax.w16) E G4 9 4 y15 li0 0 (λ x. x) record { fits = Dec'.lit< tt } (Reads'.as-is 𝓤 H A (Mut.mslice q3 y15 4)) Path'.refl tt) d26
 
           d28 : Typed.Typed 𝓤 H A 𝓣 E G3 b22 Δ0 (at28 bs)
-          d28 = Typed.g-pre 𝓤 H A W 𝓣 E G3 G4 b22 Δ0 (Typed.give (s2 bs)) (at27 bs) (Know.g-shs-known 𝓤 H A W (Referent.fFloat Ieee.binary64) E G3 7 2 y12 li3 Ieee.nan (λ x. x) (Fits.nan-fits Ieee.binary64) (Reads'.as-is 𝓤 H A (Rows.sslice q2 y12 2)) Path'.refl tt) d27
+          d28 = Typed.g-pre 𝓤 H A W 𝓣 E G3 G4 b22 Δ0 (Typed.give (s2 bs)) (at27 bs) (Know.g-shs-known 𝓤 H A W (Referent.fFloat Ieee.binary64) E G3 7 2 y13 li3 Ieee.nan (λ x. x) (Fits.nan-fits Ieee.binary64) (Reads'.as-is 𝓤 H A (Rows.sslice q2 y13 2)) Path'.refl tt) d27
 
           d29 : Typed.Typed 𝓤 H A 𝓣 E G2 b22 Δ0 (at29 bs)
-          d29 = Typed.g-pre 𝓤 H A W 𝓣 E G2 G3 b22 Δ0 (Typed.give (s1 bs)) (at28 bs) (Know.g-shs-known 𝓤 H A W (Referent.fFloat Ieee.binary64) E G2 6 1 y11 li2 Ieee.nan (λ x. x) (Fits.nan-fits Ieee.binary64) (Reads'.as-is 𝓤 H A (Rows.sslice q2 y11 1)) Path'.refl tt) d28
+          d29 = Typed.g-pre 𝓤 H A W 𝓣 E G2 G3 b22 Δ0 (Typed.give (s1 bs)) (at28 bs) (Know.g-shs-known 𝓤 H A W (Referent.fFloat Ieee.binary64) E G2 6 1 y12 li2 Ieee.nan (λ x. x) (Fits.nan-fits Ieee.binary64) (Reads'.as-is 𝓤 H A (Rows.sslice q2 y12 1)) Path'.refl tt) d28
 
           d30 : Typed.Typed 𝓤 H A 𝓣 E G0 b22 Δ0 (at30 bs)
-          d30 = Typed.g-pre 𝓤 H A W 𝓣 E G0 G2 b22 Δ0 (Typed.give (s0 bs)) (at29 bs) (Know.g-shs-known 𝓤 H A W (Referent.fInt Syntax.w32) E G0 2 0 y10 li1 0 (λ x. x) record { fits = Dec'.lit< tt } (Reads'.as-is 𝓤 H A (Rows.sslice q1 y10 0)) Path'.refl tt) d29
+          d30 = Typed.g-pre 𝓤 H A W 𝓣 E G0 G2 b22 Δ0 (Typed.give (s0 bs)) (at29 bs) (Know.g-shs-known 𝓤 H A W (Referent.fInt Syntax.w32) E G0 2 0 y11 li1 0 (λ x. x) record { fits = Dec'.lit< tt } (Reads'.as-is 𝓤 H A (Rows.sslice q1 y11 0)) Path'.refl tt) d29
 
           pub typed :
               Typed.Typed
@@ -1196,7 +1199,7 @@ module _ (claims· : Claims) where
           (scan-counts : List.List (Referent.rtF (Referent.fInt Syntax.w16) .Denot)) →
           (trial : Rows.whole (Declared.row Trial.the-type) .Mod) →
           Typed.Mo T6
-      m6 = λ before scan-counts trial. Row.set 10 (10, Rows.whole q5) trial (Row.setRow 9 (9, Mut.mslice q3 y14 4) (T6 .locals)) (Row.set 9 (9, Mut.mslice q3 y14 4) record { ptr = Row.get 9 (T6 .locals) (m5 (before .before) (After-new·gave before)) .ptr; name = Row.get 9 (T6 .locals) (m5 (before .before) (After-new·gave before)) .name; now = scan-counts } (T6 .locals) (m5 (before .before) (After-new·gave before)))
+      m6 = λ before scan-counts trial. Row.set 10 (10, Rows.whole q5) trial (Row.setRow 9 (9, Mut.mslice q3 y15 4) (T6 .locals)) (Row.set 9 (9, Mut.mslice q3 y15 4) record { ptr = Row.get 9 (T6 .locals) (m5 (before .before) (After-new·gave before)) .ptr; name = Row.get 9 (T6 .locals) (m5 (before .before) (After-new·gave before)) .name; now = scan-counts } (T6 .locals) (m5 (before .before) (After-new·gave before)))
 
       abbrev W3 :
           (before : After-new) →
@@ -1333,7 +1336,7 @@ module _ (claims· : Claims) where
 
       module _ (before· : After-struct-known2) where
         abbrev pub After-candidate-at·own : Type 0
-        After-candidate-at·own = Called.Called ps·1 r·1 (claims· .3) T15 (record { pos = 8; ty = y13; ref = λ x. x }, (Num.vAt 13 λ x. x, tt)) (m13 (before· .before) (before· .struct-known2 .given))
+        After-candidate-at·own = Called.Called ps·1 r·1 (claims· .3) T15 (record { pos = 8; ty = y14; ref = λ x. x }, (Num.vAt 13 λ x. x, tt)) (m13 (before· .before) (before· .struct-known2 .given))
 
       pub record After-candidate-at : Type 0 where
         pub before : After-struct-known2
@@ -1343,7 +1346,7 @@ module _ (claims· : Claims) where
           (c : After-candidate-at) → s12
           (c .before .before .before .before .before .before .before .before .before .before
           .blocks) .gives (m13 (c .before .before) (c .before .struct-known2 .given))
-      After-candidate-at·gave = λ c. Called.given ps·1 r·1 (claims· .3) T15 (record { pos = 8; ty = y13; ref = λ x. x }, (Num.vAt 13 λ x. x, tt)) (m13 (c .before .before) (c .before .struct-known2 .given)) (c .candidate-at)
+      After-candidate-at·gave = λ c. Called.given ps·1 r·1 (claims· .3) T15 (record { pos = 8; ty = y14; ref = λ x. x }, (Num.vAt 13 λ x. x, tt)) (m13 (c .before .before) (c .before .struct-known2 .given)) (c .candidate-at)
 
       abbrev pub m15 :
           (before : After-struct-known2) → (given : s12
@@ -1391,7 +1394,7 @@ module _ (claims· : Claims) where
 
       module _ (before· : After-next-arg) where
         abbrev pub After-next·own : Type 0
-        After-next·own = Called.Called ps·2 r·2 (claims· .5) T20 (record { pos = 10; st = List.[]; d = 0; at = λ x. x }, (record { pos = 1; st = List.[]; d = 0; at = λ x. x }, (record { pos = 2; ty = y10; ref = λ x. x }, (Num.vAt 3 λ x. x, (Num.vAt 4 λ x. x, (record { pos = 11; st = List.[]; d = 0; at = λ x. x }, (record { pos = 6; ty = y11; ref = λ x. x }, (record { pos = 7; ty = y12; ref = λ x. x }, (record { pos = 15; ty = y8; ref = λ x. x }, tt))))))))) (m17 (before· .before) (before· .next-arg .given))
+        After-next·own = Called.Called ps·2 r·2 (claims· .5) T20 (record { pos = 10; st = List.[]; d = 0; at = λ x. x }, (record { pos = 1; st = List.[]; d = 0; at = λ x. x }, (record { pos = 2; ty = y11; ref = λ x. x }, (Num.vAt 3 λ x. x, (Num.vAt 4 λ x. x, (record { pos = 11; st = List.[]; d = 0; at = λ x. x }, (record { pos = 6; ty = y12; ref = λ x. x }, (record { pos = 7; ty = y13; ref = λ x. x }, (record { pos = 15; ty = y9; ref = λ x. x }, tt))))))))) (m17 (before· .before) (before· .next-arg .given))
 
       pub record After-next : Type 0 where
         pub before : After-next-arg
@@ -1401,7 +1404,7 @@ module _ (claims· : Claims) where
           (c : After-next) → s17
           (c .before .before .before .before .before .before .before .before .before .before
           .before .before .blocks) .gives (m17 (c .before .before) (c .before .next-arg .given))
-      After-next·gave = λ c. Called.given ps·2 r·2 (claims· .5) T20 (record { pos = 10; st = List.[]; d = 0; at = λ x. x }, (record { pos = 1; st = List.[]; d = 0; at = λ x. x }, (record { pos = 2; ty = y10; ref = λ x. x }, (Num.vAt 3 λ x. x, (Num.vAt 4 λ x. x, (record { pos = 11; st = List.[]; d = 0; at = λ x. x }, (record { pos = 6; ty = y11; ref = λ x. x }, (record { pos = 7; ty = y12; ref = λ x. x }, (record { pos = 15; ty = y8; ref = λ x. x }, tt))))))))) (m17 (c .before .before) (c .before .next-arg .given)) (c .next)
+      After-next·gave = λ c. Called.given ps·2 r·2 (claims· .5) T20 (record { pos = 10; st = List.[]; d = 0; at = λ x. x }, (record { pos = 1; st = List.[]; d = 0; at = λ x. x }, (record { pos = 2; ty = y11; ref = λ x. x }, (Num.vAt 3 λ x. x, (Num.vAt 4 λ x. x, (record { pos = 11; st = List.[]; d = 0; at = λ x. x }, (record { pos = 6; ty = y12; ref = λ x. x }, (record { pos = 7; ty = y13; ref = λ x. x }, (record { pos = 15; ty = y9; ref = λ x. x }, tt))))))))) (m17 (c .before .before) (c .before .next-arg .given)) (c .next)
 
       abbrev pub m20 :
           (before : After-next) → (given : s20
@@ -1525,7 +1528,7 @@ module _ (claims· : Claims) where
             (c .before .before .before .before .loop .scan-counts)
             (c .before .before .before .before .loop .trial)) (m14 (c .before)
             (After-candidate-at·gave c))
-        lay5 = λ c. λ g. (Path'.refl, (next-requires record { before = record { before = c .before; candidate-at = c .candidate-at }; next-arg = record { given = g } }, λ g'. (Path'.refl, λ g''. λ g'3. (μ·0 (Row.get 1 (T6 .locals) (m5 (c .before .before .before .before .before .before) (After-new·gave (c .before .before .before .before .before)))) (Row.get 2 (T6 .locals) (m5 (c .before .before .before .before .before .before) (After-new·gave (c .before .before .before .before .before))) .now) (Row.get 3 (T6 .locals) (m5 (c .before .before .before .before .before .before) (After-new·gave (c .before .before .before .before .before)))) (Row.get 4 (T6 .locals) (m5 (c .before .before .before .before .before .before) (After-new·gave (c .before .before .before .before .before)))) (Row.get 5 (T6 .locals) (m5 (c .before .before .before .before .before .before) (After-new·gave (c .before .before .before .before .before)))) (Row.get 6 (T6 .locals) (m5 (c .before .before .before .before .before .before) (After-new·gave (c .before .before .before .before .before))) .now) (Row.get 7 (T6 .locals) (m5 (c .before .before .before .before .before .before) (After-new·gave (c .before .before .before .before .before))) .now) (Row.get 8 (T6 .locals) (m5 (c .before .before .before .before .before .before) (After-new·gave (c .before .before .before .before .before))) .now) (Row.get 9 (T6 .locals) (m5 (c .before .before .before .before .before .before) (After-new·gave (c .before .before .before .before .before))) .now) (Row.get 10 (T6 .locals) (m5 (c .before .before .before .before .before .before) (After-new·gave (c .before .before .before .before .before)))) (Row.get 9 (T6 .locals) (m21 record { before = record { before = record { before = record { before = c .before; candidate-at = c .candidate-at }; next-arg = record { given = g } }; next = Called.called ps·2 r·2 (claims· .5) T20 (record { pos = 10; st = List.[]; d = 0; at = λ x. x }, (record { pos = 1; st = List.[]; d = 0; at = λ x. x }, (record { pos = 2; ty = y10; ref = λ x. x }, (Num.vAt 3 λ x. x, (Num.vAt 4 λ x. x, (record { pos = 11; st = List.[]; d = 0; at = λ x. x }, (record { pos = 6; ty = y11; ref = λ x. x }, (record { pos = 7; ty = y12; ref = λ x. x }, (record { pos = 15; ty = y8; ref = λ x. x }, tt))))))))) (m17 record { before = c .before; candidate-at = c .candidate-at } g) g' }; scan-counts = record { given = g'' } } g'3) .now) (Row.get 10 (T6 .locals) (m21 record { before = record { before = record { before = record { before = c .before; candidate-at = c .candidate-at }; next-arg = record { given = g } }; next = Called.called ps·2 r·2 (claims· .5) T20 (record { pos = 10; st = List.[]; d = 0; at = λ x. x }, (record { pos = 1; st = List.[]; d = 0; at = λ x. x }, (record { pos = 2; ty = y10; ref = λ x. x }, (Num.vAt 3 λ x. x, (Num.vAt 4 λ x. x, (record { pos = 11; st = List.[]; d = 0; at = λ x. x }, (record { pos = 6; ty = y11; ref = λ x. x }, (record { pos = 7; ty = y12; ref = λ x. x }, (record { pos = 15; ty = y8; ref = λ x. x }, tt))))))))) (m17 record { before = c .before; candidate-at = c .candidate-at } g) g' }; scan-counts = record { given = g'' } } g'3)), loop-less record { before = record { before = record { before = record { before = record { before = c .before; candidate-at = c .candidate-at }; next-arg = record { given = g } }; next = Called.called ps·2 r·2 (claims· .5) T20 (record { pos = 10; st = List.[]; d = 0; at = λ x. x }, (record { pos = 1; st = List.[]; d = 0; at = λ x. x }, (record { pos = 2; ty = y10; ref = λ x. x }, (Num.vAt 3 λ x. x, (Num.vAt 4 λ x. x, (record { pos = 11; st = List.[]; d = 0; at = λ x. x }, (record { pos = 6; ty = y11; ref = λ x. x }, (record { pos = 7; ty = y12; ref = λ x. x }, (record { pos = 15; ty = y8; ref = λ x. x }, tt))))))))) (m17 record { before = c .before; candidate-at = c .candidate-at } g) g' }; scan-counts = record { given = g'' } }; slice-known2 = record { given = g'3 } }, ((Row.get 9 (T6 .locals) (m21 record { before = record { before = record { before = record { before = c .before; candidate-at = c .candidate-at }; next-arg = record { given = g } }; next = Called.called ps·2 r·2 (claims· .5) T20 (record { pos = 10; st = List.[]; d = 0; at = λ x. x }, (record { pos = 1; st = List.[]; d = 0; at = λ x. x }, (record { pos = 2; ty = y10; ref = λ x. x }, (Num.vAt 3 λ x. x, (Num.vAt 4 λ x. x, (record { pos = 11; st = List.[]; d = 0; at = λ x. x }, (record { pos = 6; ty = y11; ref = λ x. x }, (record { pos = 7; ty = y12; ref = λ x. x }, (record { pos = 15; ty = y8; ref = λ x. x }, tt))))))))) (m17 record { before = c .before; candidate-at = c .candidate-at } g) g' }; scan-counts = record { given = g'' } } g'3) .now, Row.get 10 (T6 .locals) (m21 record { before = record { before = record { before = record { before = c .before; candidate-at = c .candidate-at }; next-arg = record { given = g } }; next = Called.called ps·2 r·2 (claims· .5) T20 (record { pos = 10; st = List.[]; d = 0; at = λ x. x }, (record { pos = 1; st = List.[]; d = 0; at = λ x. x }, (record { pos = 2; ty = y10; ref = λ x. x }, (Num.vAt 3 λ x. x, (Num.vAt 4 λ x. x, (record { pos = 11; st = List.[]; d = 0; at = λ x. x }, (record { pos = 6; ty = y11; ref = λ x. x }, (record { pos = 7; ty = y12; ref = λ x. x }, (record { pos = 15; ty = y8; ref = λ x. x }, tt))))))))) (m17 record { before = c .before; candidate-at = c .candidate-at } g) g' }; scan-counts = record { given = g'' } } g'3)), Path'.refl {a = m21 record { before = record { before = record { before = record { before = c .before; candidate-at = c .candidate-at }; next-arg = record { given = g } }; next = Called.called ps·2 r·2 (claims· .5) T20 (record { pos = 10; st = List.[]; d = 0; at = λ x. x }, (record { pos = 1; st = List.[]; d = 0; at = λ x. x }, (record { pos = 2; ty = y10; ref = λ x. x }, (Num.vAt 3 λ x. x, (Num.vAt 4 λ x. x, (record { pos = 11; st = List.[]; d = 0; at = λ x. x }, (record { pos = 6; ty = y11; ref = λ x. x }, (record { pos = 7; ty = y12; ref = λ x. x }, (record { pos = 15; ty = y8; ref = λ x. x }, tt))))))))) (m17 record { before = c .before; candidate-at = c .candidate-at } g) g' }; scan-counts = record { given = g'' } } g'3}, loop-again record { before = record { before = record { before = record { before = record { before = c .before; candidate-at = c .candidate-at }; next-arg = record { given = g } }; next = Called.called ps·2 r·2 (claims· .5) T20 (record { pos = 10; st = List.[]; d = 0; at = λ x. x }, (record { pos = 1; st = List.[]; d = 0; at = λ x. x }, (record { pos = 2; ty = y10; ref = λ x. x }, (Num.vAt 3 λ x. x, (Num.vAt 4 λ x. x, (record { pos = 11; st = List.[]; d = 0; at = λ x. x }, (record { pos = 6; ty = y11; ref = λ x. x }, (record { pos = 7; ty = y12; ref = λ x. x }, (record { pos = 15; ty = y8; ref = λ x. x }, tt))))))))) (m17 record { before = c .before; candidate-at = c .candidate-at } g) g' }; scan-counts = record { given = g'' } }; slice-known2 = record { given = g'3 } }, Path'.refl {a = μ·0 (Row.get 1 (T6 .locals) (m5 (c .before .before .before .before .before .before) (After-new·gave (c .before .before .before .before .before)))) (Row.get 2 (T6 .locals) (m5 (c .before .before .before .before .before .before) (After-new·gave (c .before .before .before .before .before))) .now) (Row.get 3 (T6 .locals) (m5 (c .before .before .before .before .before .before) (After-new·gave (c .before .before .before .before .before)))) (Row.get 4 (T6 .locals) (m5 (c .before .before .before .before .before .before) (After-new·gave (c .before .before .before .before .before)))) (Row.get 5 (T6 .locals) (m5 (c .before .before .before .before .before .before) (After-new·gave (c .before .before .before .before .before)))) (Row.get 6 (T6 .locals) (m5 (c .before .before .before .before .before .before) (After-new·gave (c .before .before .before .before .before))) .now) (Row.get 7 (T6 .locals) (m5 (c .before .before .before .before .before .before) (After-new·gave (c .before .before .before .before .before))) .now) (Row.get 8 (T6 .locals) (m5 (c .before .before .before .before .before .before) (After-new·gave (c .before .before .before .before .before))) .now) (Row.get 9 (T6 .locals) (m5 (c .before .before .before .before .before .before) (After-new·gave (c .before .before .before .before .before))) .now) (Row.get 10 (T6 .locals) (m5 (c .before .before .before .before .before .before) (After-new·gave (c .before .before .before .before .before)))) (Row.get 9 (T6 .locals) (m21 record { before = record { before = record { before = record { before = c .before; candidate-at = c .candidate-at }; next-arg = record { given = g } }; next = Called.called ps·2 r·2 (claims· .5) T20 (record { pos = 10; st = List.[]; d = 0; at = λ x. x }, (record { pos = 1; st = List.[]; d = 0; at = λ x. x }, (record { pos = 2; ty = y10; ref = λ x. x }, (Num.vAt 3 λ x. x, (Num.vAt 4 λ x. x, (record { pos = 11; st = List.[]; d = 0; at = λ x. x }, (record { pos = 6; ty = y11; ref = λ x. x }, (record { pos = 7; ty = y12; ref = λ x. x }, (record { pos = 15; ty = y8; ref = λ x. x }, tt))))))))) (m17 record { before = c .before; candidate-at = c .candidate-at } g) g' }; scan-counts = record { given = g'' } } g'3) .now) (Row.get 10 (T6 .locals) (m21 record { before = record { before = record { before = record { before = c .before; candidate-at = c .candidate-at }; next-arg = record { given = g } }; next = Called.called ps·2 r·2 (claims· .5) T20 (record { pos = 10; st = List.[]; d = 0; at = λ x. x }, (record { pos = 1; st = List.[]; d = 0; at = λ x. x }, (record { pos = 2; ty = y10; ref = λ x. x }, (Num.vAt 3 λ x. x, (Num.vAt 4 λ x. x, (record { pos = 11; st = List.[]; d = 0; at = λ x. x }, (record { pos = 6; ty = y11; ref = λ x. x }, (record { pos = 7; ty = y12; ref = λ x. x }, (record { pos = 15; ty = y8; ref = λ x. x }, tt))))))))) (m17 record { before = c .before; candidate-at = c .candidate-at } g) g' }; scan-counts = record { given = g'' } } g'3))})))))
+        lay5 = λ c. λ g. (Path'.refl, (next-requires record { before = record { before = c .before; candidate-at = c .candidate-at }; next-arg = record { given = g } }, λ g'. (Path'.refl, λ g''. λ g'3. (μ·0 (Row.get 1 (T6 .locals) (m5 (c .before .before .before .before .before .before) (After-new·gave (c .before .before .before .before .before)))) (Row.get 2 (T6 .locals) (m5 (c .before .before .before .before .before .before) (After-new·gave (c .before .before .before .before .before))) .now) (Row.get 3 (T6 .locals) (m5 (c .before .before .before .before .before .before) (After-new·gave (c .before .before .before .before .before)))) (Row.get 4 (T6 .locals) (m5 (c .before .before .before .before .before .before) (After-new·gave (c .before .before .before .before .before)))) (Row.get 5 (T6 .locals) (m5 (c .before .before .before .before .before .before) (After-new·gave (c .before .before .before .before .before)))) (Row.get 6 (T6 .locals) (m5 (c .before .before .before .before .before .before) (After-new·gave (c .before .before .before .before .before))) .now) (Row.get 7 (T6 .locals) (m5 (c .before .before .before .before .before .before) (After-new·gave (c .before .before .before .before .before))) .now) (Row.get 8 (T6 .locals) (m5 (c .before .before .before .before .before .before) (After-new·gave (c .before .before .before .before .before))) .now) (Row.get 9 (T6 .locals) (m5 (c .before .before .before .before .before .before) (After-new·gave (c .before .before .before .before .before))) .now) (Row.get 10 (T6 .locals) (m5 (c .before .before .before .before .before .before) (After-new·gave (c .before .before .before .before .before)))) (Row.get 9 (T6 .locals) (m21 record { before = record { before = record { before = record { before = c .before; candidate-at = c .candidate-at }; next-arg = record { given = g } }; next = Called.called ps·2 r·2 (claims· .5) T20 (record { pos = 10; st = List.[]; d = 0; at = λ x. x }, (record { pos = 1; st = List.[]; d = 0; at = λ x. x }, (record { pos = 2; ty = y11; ref = λ x. x }, (Num.vAt 3 λ x. x, (Num.vAt 4 λ x. x, (record { pos = 11; st = List.[]; d = 0; at = λ x. x }, (record { pos = 6; ty = y12; ref = λ x. x }, (record { pos = 7; ty = y13; ref = λ x. x }, (record { pos = 15; ty = y9; ref = λ x. x }, tt))))))))) (m17 record { before = c .before; candidate-at = c .candidate-at } g) g' }; scan-counts = record { given = g'' } } g'3) .now) (Row.get 10 (T6 .locals) (m21 record { before = record { before = record { before = record { before = c .before; candidate-at = c .candidate-at }; next-arg = record { given = g } }; next = Called.called ps·2 r·2 (claims· .5) T20 (record { pos = 10; st = List.[]; d = 0; at = λ x. x }, (record { pos = 1; st = List.[]; d = 0; at = λ x. x }, (record { pos = 2; ty = y11; ref = λ x. x }, (Num.vAt 3 λ x. x, (Num.vAt 4 λ x. x, (record { pos = 11; st = List.[]; d = 0; at = λ x. x }, (record { pos = 6; ty = y12; ref = λ x. x }, (record { pos = 7; ty = y13; ref = λ x. x }, (record { pos = 15; ty = y9; ref = λ x. x }, tt))))))))) (m17 record { before = c .before; candidate-at = c .candidate-at } g) g' }; scan-counts = record { given = g'' } } g'3)), loop-less record { before = record { before = record { before = record { before = record { before = c .before; candidate-at = c .candidate-at }; next-arg = record { given = g } }; next = Called.called ps·2 r·2 (claims· .5) T20 (record { pos = 10; st = List.[]; d = 0; at = λ x. x }, (record { pos = 1; st = List.[]; d = 0; at = λ x. x }, (record { pos = 2; ty = y11; ref = λ x. x }, (Num.vAt 3 λ x. x, (Num.vAt 4 λ x. x, (record { pos = 11; st = List.[]; d = 0; at = λ x. x }, (record { pos = 6; ty = y12; ref = λ x. x }, (record { pos = 7; ty = y13; ref = λ x. x }, (record { pos = 15; ty = y9; ref = λ x. x }, tt))))))))) (m17 record { before = c .before; candidate-at = c .candidate-at } g) g' }; scan-counts = record { given = g'' } }; slice-known2 = record { given = g'3 } }, ((Row.get 9 (T6 .locals) (m21 record { before = record { before = record { before = record { before = c .before; candidate-at = c .candidate-at }; next-arg = record { given = g } }; next = Called.called ps·2 r·2 (claims· .5) T20 (record { pos = 10; st = List.[]; d = 0; at = λ x. x }, (record { pos = 1; st = List.[]; d = 0; at = λ x. x }, (record { pos = 2; ty = y11; ref = λ x. x }, (Num.vAt 3 λ x. x, (Num.vAt 4 λ x. x, (record { pos = 11; st = List.[]; d = 0; at = λ x. x }, (record { pos = 6; ty = y12; ref = λ x. x }, (record { pos = 7; ty = y13; ref = λ x. x }, (record { pos = 15; ty = y9; ref = λ x. x }, tt))))))))) (m17 record { before = c .before; candidate-at = c .candidate-at } g) g' }; scan-counts = record { given = g'' } } g'3) .now, Row.get 10 (T6 .locals) (m21 record { before = record { before = record { before = record { before = c .before; candidate-at = c .candidate-at }; next-arg = record { given = g } }; next = Called.called ps·2 r·2 (claims· .5) T20 (record { pos = 10; st = List.[]; d = 0; at = λ x. x }, (record { pos = 1; st = List.[]; d = 0; at = λ x. x }, (record { pos = 2; ty = y11; ref = λ x. x }, (Num.vAt 3 λ x. x, (Num.vAt 4 λ x. x, (record { pos = 11; st = List.[]; d = 0; at = λ x. x }, (record { pos = 6; ty = y12; ref = λ x. x }, (record { pos = 7; ty = y13; ref = λ x. x }, (record { pos = 15; ty = y9; ref = λ x. x }, tt))))))))) (m17 record { before = c .before; candidate-at = c .candidate-at } g) g' }; scan-counts = record { given = g'' } } g'3)), Path'.refl {a = m21 record { before = record { before = record { before = record { before = c .before; candidate-at = c .candidate-at }; next-arg = record { given = g } }; next = Called.called ps·2 r·2 (claims· .5) T20 (record { pos = 10; st = List.[]; d = 0; at = λ x. x }, (record { pos = 1; st = List.[]; d = 0; at = λ x. x }, (record { pos = 2; ty = y11; ref = λ x. x }, (Num.vAt 3 λ x. x, (Num.vAt 4 λ x. x, (record { pos = 11; st = List.[]; d = 0; at = λ x. x }, (record { pos = 6; ty = y12; ref = λ x. x }, (record { pos = 7; ty = y13; ref = λ x. x }, (record { pos = 15; ty = y9; ref = λ x. x }, tt))))))))) (m17 record { before = c .before; candidate-at = c .candidate-at } g) g' }; scan-counts = record { given = g'' } } g'3}, loop-again record { before = record { before = record { before = record { before = record { before = c .before; candidate-at = c .candidate-at }; next-arg = record { given = g } }; next = Called.called ps·2 r·2 (claims· .5) T20 (record { pos = 10; st = List.[]; d = 0; at = λ x. x }, (record { pos = 1; st = List.[]; d = 0; at = λ x. x }, (record { pos = 2; ty = y11; ref = λ x. x }, (Num.vAt 3 λ x. x, (Num.vAt 4 λ x. x, (record { pos = 11; st = List.[]; d = 0; at = λ x. x }, (record { pos = 6; ty = y12; ref = λ x. x }, (record { pos = 7; ty = y13; ref = λ x. x }, (record { pos = 15; ty = y9; ref = λ x. x }, tt))))))))) (m17 record { before = c .before; candidate-at = c .candidate-at } g) g' }; scan-counts = record { given = g'' } }; slice-known2 = record { given = g'3 } }, Path'.refl {a = μ·0 (Row.get 1 (T6 .locals) (m5 (c .before .before .before .before .before .before) (After-new·gave (c .before .before .before .before .before)))) (Row.get 2 (T6 .locals) (m5 (c .before .before .before .before .before .before) (After-new·gave (c .before .before .before .before .before))) .now) (Row.get 3 (T6 .locals) (m5 (c .before .before .before .before .before .before) (After-new·gave (c .before .before .before .before .before)))) (Row.get 4 (T6 .locals) (m5 (c .before .before .before .before .before .before) (After-new·gave (c .before .before .before .before .before)))) (Row.get 5 (T6 .locals) (m5 (c .before .before .before .before .before .before) (After-new·gave (c .before .before .before .before .before)))) (Row.get 6 (T6 .locals) (m5 (c .before .before .before .before .before .before) (After-new·gave (c .before .before .before .before .before))) .now) (Row.get 7 (T6 .locals) (m5 (c .before .before .before .before .before .before) (After-new·gave (c .before .before .before .before .before))) .now) (Row.get 8 (T6 .locals) (m5 (c .before .before .before .before .before .before) (After-new·gave (c .before .before .before .before .before))) .now) (Row.get 9 (T6 .locals) (m5 (c .before .before .before .before .before .before) (After-new·gave (c .before .before .before .before .before))) .now) (Row.get 10 (T6 .locals) (m5 (c .before .before .before .before .before .before) (After-new·gave (c .before .before .before .before .before)))) (Row.get 9 (T6 .locals) (m21 record { before = record { before = record { before = record { before = c .before; candidate-at = c .candidate-at }; next-arg = record { given = g } }; next = Called.called ps·2 r·2 (claims· .5) T20 (record { pos = 10; st = List.[]; d = 0; at = λ x. x }, (record { pos = 1; st = List.[]; d = 0; at = λ x. x }, (record { pos = 2; ty = y11; ref = λ x. x }, (Num.vAt 3 λ x. x, (Num.vAt 4 λ x. x, (record { pos = 11; st = List.[]; d = 0; at = λ x. x }, (record { pos = 6; ty = y12; ref = λ x. x }, (record { pos = 7; ty = y13; ref = λ x. x }, (record { pos = 15; ty = y9; ref = λ x. x }, tt))))))))) (m17 record { before = c .before; candidate-at = c .candidate-at } g) g' }; scan-counts = record { given = g'' } } g'3) .now) (Row.get 10 (T6 .locals) (m21 record { before = record { before = record { before = record { before = c .before; candidate-at = c .candidate-at }; next-arg = record { given = g } }; next = Called.called ps·2 r·2 (claims· .5) T20 (record { pos = 10; st = List.[]; d = 0; at = λ x. x }, (record { pos = 1; st = List.[]; d = 0; at = λ x. x }, (record { pos = 2; ty = y11; ref = λ x. x }, (Num.vAt 3 λ x. x, (Num.vAt 4 λ x. x, (record { pos = 11; st = List.[]; d = 0; at = λ x. x }, (record { pos = 6; ty = y12; ref = λ x. x }, (record { pos = 7; ty = y13; ref = λ x. x }, (record { pos = 15; ty = y9; ref = λ x. x }, tt))))))))) (m17 record { before = c .before; candidate-at = c .candidate-at } g) g' }; scan-counts = record { given = g'' } } g'3))})))))
 
         lay4 :
             (c : Then1) →
@@ -1536,7 +1539,7 @@ module _ (claims· : Claims) where
             (c .before .before .loop .scan-counts)
             (c .before .before .loop .trial))
             (m9 (c .before))
-        lay4 = λ c. λ g. (sub-candidate-at record { before = record { before = c .before; if1 = c .if1 }; struct-known2 = record { given = g } }, (candidate-at-requires record { before = record { before = c .before; if1 = c .if1 }; struct-known2 = record { given = g } }, λ g'. lay5 record { before = record { before = record { before = c .before; if1 = c .if1 }; struct-known2 = record { given = g } }; candidate-at = Called.called ps·1 r·1 (claims· .3) T15 (record { pos = 8; ty = y13; ref = λ x. x }, (Num.vAt 13 λ x. x, tt)) (m13 record { before = c .before; if1 = c .if1 } g) g' }))
+        lay4 = λ c. λ g. (sub-candidate-at record { before = record { before = c .before; if1 = c .if1 }; struct-known2 = record { given = g } }, (candidate-at-requires record { before = record { before = c .before; if1 = c .if1 }; struct-known2 = record { given = g } }, λ g'. lay5 record { before = record { before = record { before = c .before; if1 = c .if1 }; struct-known2 = record { given = g } }; candidate-at = Called.called ps·1 r·1 (claims· .3) T15 (record { pos = 8; ty = y14; ref = λ x. x }, (Num.vAt 13 λ x. x, tt)) (m13 record { before = c .before; if1 = c .if1 } g) g' }))
 
         lay3 :
             (c : Else1) →

@@ -92,40 +92,43 @@ abbrev y1 : Syntax.Ty
 y1 = Syntax.tyFloat Ieee.binary64
 
 abbrev y2 : Syntax.Ty
-y2 = Syntax.tyStruct (115 ∷ 99 ∷ 97 ∷ 110 ∷ 115 ∷ 58 ∷ 58 ∷ 67 ∷ 97 ∷ 114 ∷ 114 ∷ 121 ∷ []) (Syntax.tcons Syntax.tyBool (Syntax.tcons y1 (Syntax.tcons y1 Syntax.tnil)))
+y2 = Syntax.tyStruct (115 ∷ 99 ∷ 97 ∷ 110 ∷ 115 ∷ 58 ∷ 58 ∷ 67 ∷ 101 ∷ 114 ∷ 116 ∷ 105 ∷ 102 ∷ 105 ∷ 99 ∷ 97 ∷ 116 ∷ 101 ∷ []) (Syntax.tcons Syntax.tyBool (Syntax.tcons y0 (Syntax.tcons y0 (Syntax.tcons y1 (Syntax.tcons y1 (Syntax.tcons y1 Syntax.tnil))))))
 
 abbrev y3 : Syntax.Ty
-y3 = Syntax.tyStruct (115 ∷ 99 ∷ 97 ∷ 110 ∷ 115 ∷ 58 ∷ 58 ∷ 83 ∷ 99 ∷ 97 ∷ 110 ∷ 110 ∷ 101 ∷ 100 ∷ []) (Syntax.tcons y0 (Syntax.tcons y2 Syntax.tnil))
+y3 = Syntax.tyStruct (115 ∷ 99 ∷ 97 ∷ 110 ∷ 115 ∷ 58 ∷ 58 ∷ 67 ∷ 97 ∷ 114 ∷ 114 ∷ 121 ∷ []) (Syntax.tcons Syntax.tyBool (Syntax.tcons y1 (Syntax.tcons y1 (Syntax.tcons y2 Syntax.tnil))))
 
 abbrev y4 : Syntax.Ty
-y4 = Syntax.tyStruct (115 ∷ 99 ∷ 97 ∷ 110 ∷ 115 ∷ 58 ∷ 58 ∷ 99 ∷ 97 ∷ 110 ∷ 100 ∷ 105 ∷ 100 ∷ 97 ∷ 116 ∷ 101 ∷ 115 ∷ 58 ∷ 58 ∷ 83 ∷ 101 ∷ 97 ∷ 114 ∷ 99 ∷ 104 ∷ 101 ∷ 100 ∷ []) (Syntax.tcons y0 (Syntax.tcons y0 (Syntax.tcons y0 (Syntax.tcons y0 Syntax.tnil))))
+y4 = Syntax.tyStruct (115 ∷ 99 ∷ 97 ∷ 110 ∷ 115 ∷ 58 ∷ 58 ∷ 83 ∷ 99 ∷ 97 ∷ 110 ∷ 110 ∷ 101 ∷ 100 ∷ []) (Syntax.tcons y0 (Syntax.tcons y3 Syntax.tnil))
 
 abbrev y5 : Syntax.Ty
-y5 = Syntax.tyInt Syntax.w16
+y5 = Syntax.tyStruct (115 ∷ 99 ∷ 97 ∷ 110 ∷ 115 ∷ 58 ∷ 58 ∷ 99 ∷ 97 ∷ 110 ∷ 100 ∷ 105 ∷ 100 ∷ 97 ∷ 116 ∷ 101 ∷ 115 ∷ 58 ∷ 58 ∷ 83 ∷ 101 ∷ 97 ∷ 114 ∷ 99 ∷ 104 ∷ 101 ∷ 100 ∷ []) (Syntax.tcons y0 (Syntax.tcons y0 (Syntax.tcons y0 (Syntax.tcons y0 Syntax.tnil))))
 
 abbrev y6 : Syntax.Ty
-y6 = Syntax.tyRef Syntax.erased Syntax.mut y5
+y6 = Syntax.tyInt Syntax.w16
 
 abbrev y7 : Syntax.Ty
-y7 = Syntax.tyStruct (38 ∷ 91 ∷ 93 ∷ []) (Syntax.tcons y6 (Syntax.tcons y0 Syntax.tnil))
+y7 = Syntax.tyRef Syntax.erased Syntax.mut y6
 
 abbrev y8 : Syntax.Ty
-y8 = Syntax.tyRef Syntax.erased Syntax.mut (Rec·memory.pointee (Rec·type.the-row .written))
+y8 = Syntax.tyStruct (38 ∷ 91 ∷ 93 ∷ []) (Syntax.tcons y7 (Syntax.tcons y0 Syntax.tnil))
 
 abbrev y9 : Syntax.Ty
-y9 = Syntax.tyStruct (38 ∷ 91 ∷ 93 ∷ []) (Syntax.tcons y8 (Syntax.tcons y0 Syntax.tnil))
+y9 = Syntax.tyRef Syntax.erased Syntax.mut (Rec·memory.pointee (Rec·type.the-row .written))
 
 abbrev y10 : Syntax.Ty
-y10 = Syntax.tyRef Syntax.erased Syntax.imm (Rec·memory.pointee (Rec·type.the-row .written))
+y10 = Syntax.tyStruct (38 ∷ 91 ∷ 93 ∷ []) (Syntax.tcons y9 (Syntax.tcons y0 Syntax.tnil))
 
 abbrev y11 : Syntax.Ty
-y11 = Syntax.tyStruct (38 ∷ 91 ∷ 93 ∷ []) (Syntax.tcons y10 (Syntax.tcons y0 Syntax.tnil))
+y11 = Syntax.tyRef Syntax.erased Syntax.imm (Rec·memory.pointee (Rec·type.the-row .written))
+
+abbrev y12 : Syntax.Ty
+y12 = Syntax.tyStruct (38 ∷ 91 ∷ 93 ∷ []) (Syntax.tcons y11 (Syntax.tcons y0 Syntax.tnil))
 
 abbrev q6 : Rows·type.RattleType
 q6 = Declared.row Searched.the-type
 
 abbrev e0 : Row.Entry
-e0 = (0, Rows.any-gone y3)
+e0 = (0, Rows.any-gone y4)
 
 abbrev e1 : Row.Entry
 e1 = (1, Rows.whole q0)
@@ -139,14 +142,14 @@ z0 = Row.sInt Syntax.w64
 abbrev e3 : Row.Entry
 e3 = (3, Rows.sc-here z0)
 
-abbrev y12 : Syntax.Ty
-y12 = Syntax.tyInt Syntax.w32
-
 abbrev y13 : Syntax.Ty
-y13 = Syntax.tyRef (Syntax.named 0) Syntax.imm y12
+y13 = Syntax.tyInt Syntax.w32
+
+abbrev y14 : Syntax.Ty
+y14 = Syntax.tyRef (Syntax.named 0) Syntax.imm y13
 
 abbrev e4 : Row.Entry
-e4 = (4, Rows.sslice q2 y13 0)
+e4 = (4, Rows.sslice q2 y14 0)
 
 abbrev e5 : Row.Entry
 e5 = (5, Rows.sc-here z0)
@@ -154,47 +157,47 @@ e5 = (5, Rows.sc-here z0)
 abbrev e6 : Row.Entry
 e6 = (6, Rows.sc-here z0)
 
-abbrev y14 : Syntax.Ty
-y14 = Syntax.tyRef (Syntax.named 1) Syntax.imm y5
+abbrev y15 : Syntax.Ty
+y15 = Syntax.tyRef (Syntax.named 1) Syntax.imm y6
 
 abbrev e7 : Row.Entry
-e7 = (7, Rows.sslice q3 y14 1)
-
-abbrev y15 : Syntax.Ty
-y15 = Syntax.tyRef (Syntax.named 2) Syntax.imm y1
-
-abbrev e8 : Row.Entry
-e8 = (8, Rows.sslice q4 y15 2)
+e7 = (7, Rows.sslice q3 y15 1)
 
 abbrev y16 : Syntax.Ty
-y16 = Syntax.tyRef (Syntax.named 3) Syntax.imm y1
+y16 = Syntax.tyRef (Syntax.named 2) Syntax.imm y1
 
-abbrev e9 : Row.Entry
-e9 = (9, Rows.sslice q4 y16 3)
+abbrev e8 : Row.Entry
+e8 = (8, Rows.sslice q4 y16 2)
 
 abbrev y17 : Syntax.Ty
-y17 = Syntax.tyRef (Syntax.named 4) Syntax.mut y5
+y17 = Syntax.tyRef (Syntax.named 3) Syntax.imm y1
 
-abbrev e10 : Row.Entry
-e10 = (10, Mut.mslice q3 y17 4)
+abbrev e9 : Row.Entry
+e9 = (9, Rows.sslice q4 y17 3)
 
 abbrev y18 : Syntax.Ty
-y18 = Syntax.tyRef (Syntax.named 5) Syntax.mut (Rec·memory.pointee (Rec·type.the-row .written))
+y18 = Syntax.tyRef (Syntax.named 4) Syntax.mut y6
+
+abbrev e10 : Row.Entry
+e10 = (10, Mut.mslice q3 y18 4)
+
+abbrev y19 : Syntax.Ty
+y19 = Syntax.tyRef (Syntax.named 5) Syntax.mut (Rec·memory.pointee (Rec·type.the-row .written))
 
 abbrev e11 : Row.Entry
-e11 = (11, Mut.mslice Rec·type.the-row y18 5)
+e11 = (11, Mut.mslice Rec·type.the-row y19 5)
 
 abbrev e12 : Row.Entry
-e12 = (12, Rows.any-gone y3)
+e12 = (12, Rows.any-gone y4)
 
 abbrev e13 : Row.Entry
-e13 = (13, Rows.any-gone y4)
+e13 = (13, Rows.any-gone y5)
 
 abbrev e14 : Row.Entry
 e14 = (14, Rows.any-gone y0)
 
 abbrev e15 : Row.Entry
-e15 = (15, Rows.any-gone y6)
+e15 = (15, Rows.any-gone y7)
 
 abbrev c0 : List.List Row.Entry
 c0 = e0 ∷ e1 ∷ e2 ∷ e3 ∷ e4 ∷ e5 ∷ e6 ∷ e7 ∷ []
@@ -203,43 +206,43 @@ abbrev c1 : List.List Row.Entry
 c1 = e8 ∷ e9 ∷ e10 ∷ e11 ∷ e12 ∷ e13 ∷ e14 ∷ e15 ∷ []
 
 abbrev e16 : Row.Entry
-e16 = (16, Rows.any-gone y7)
+e16 = (16, Rows.any-gone y8)
 
 abbrev e17 : Row.Entry
 e17 = (17, Rows.any-gone Syntax.tyBool)
 
 abbrev e18 : Row.Entry
-e18 = (18, Rows.any-gone y6)
+e18 = (18, Rows.any-gone y7)
 
 abbrev e19 : Row.Entry
-e19 = (19, Rows.any-gone y7)
+e19 = (19, Rows.any-gone y8)
 
 abbrev e20 : Row.Entry
-e20 = (20, Rows.any-gone y8)
+e20 = (20, Rows.any-gone y9)
 
 abbrev e21 : Row.Entry
-e21 = (21, Rows.any-gone y9)
+e21 = (21, Rows.any-gone y10)
 
 abbrev e22 : Row.Entry
 e22 = (22, Rows.any-gone Syntax.tyBool)
 
 abbrev e23 : Row.Entry
-e23 = (23, Rows.any-gone y6)
+e23 = (23, Rows.any-gone y7)
 
 abbrev e24 : Row.Entry
-e24 = (24, Rows.any-gone y7)
+e24 = (24, Rows.any-gone y8)
 
 abbrev e25 : Row.Entry
-e25 = (25, Rows.any-gone y10)
+e25 = (25, Rows.any-gone y11)
 
 abbrev e26 : Row.Entry
-e26 = (26, Rows.any-gone y11)
+e26 = (26, Rows.any-gone y12)
 
 abbrev e27 : Row.Entry
-e27 = (27, Rows.any-gone y6)
+e27 = (27, Rows.any-gone y7)
 
 abbrev e28 : Row.Entry
-e28 = (28, Rows.any-gone y7)
+e28 = (28, Rows.any-gone y8)
 
 abbrev c2 : List.List Row.Entry
 c2 = e16 ∷ e17 ∷ e18 ∷ e19 ∷ e20 ∷ e21 ∷ e22 ∷ e23 ∷ []
@@ -250,14 +253,14 @@ c3 = e24 ∷ e25 ∷ e26 ∷ e27 ∷ e28 ∷ []
 abbrev e29 : Row.Entry
 e29 = (0, Rows.whole q5)
 
-abbrev y19 : Syntax.Ty
-y19 = Syntax.tyStruct (115 ∷ 99 ∷ 97 ∷ 110 ∷ 115 ∷ 58 ∷ 58 ∷ 80 ∷ 97 ∷ 114 ∷ 97 ∷ 109 ∷ 115 ∷ []) (Syntax.tcons y0 (Syntax.tcons y0 (Syntax.tcons y5 (Syntax.tcons y1 (Syntax.tcons y1 (Syntax.tcons Syntax.tyBool (Syntax.tcons y12 (Syntax.tcons Syntax.tyBool Syntax.tnil))))))))
+abbrev y20 : Syntax.Ty
+y20 = Syntax.tyStruct (115 ∷ 99 ∷ 97 ∷ 110 ∷ 115 ∷ 58 ∷ 58 ∷ 80 ∷ 97 ∷ 114 ∷ 97 ∷ 109 ∷ 115 ∷ []) (Syntax.tcons y0 (Syntax.tcons y0 (Syntax.tcons y6 (Syntax.tcons y1 (Syntax.tcons y1 (Syntax.tcons Syntax.tyBool (Syntax.tcons y13 (Syntax.tcons Syntax.tyBool Syntax.tnil))))))))
 
 abbrev e30 : Row.Entry
-e30 = (1, Rows.any-gone y19)
+e30 = (1, Rows.any-gone y20)
 
 abbrev e31 : Row.Entry
-e31 = (2, Rows.any-gone y2)
+e31 = (2, Rows.any-gone y3)
 
 abbrev e32 : Row.Entry
 e32 = (3, Rows.any-gone y0)
@@ -272,10 +275,10 @@ abbrev c4 : List.List Row.Entry
 c4 = e29 ∷ e30 ∷ e31 ∷ e32 ∷ e4 ∷ e33 ∷ e34 ∷ e7 ∷ []
 
 abbrev e35 : Row.Entry
-e35 = (10, Relend.mslice-owed q3 y17 4 6 Row.off)
+e35 = (10, Relend.mslice-owed q3 y18 4 6 Row.off)
 
 abbrev e36 : Row.Entry
-e36 = (15, Relend.msptr q3 y6 6)
+e36 = (15, Relend.msptr q3 y7 6)
 
 abbrev c5 : List.List Row.Entry
 c5 = e8 ∷ e9 ∷ e35 ∷ e11 ∷ e12 ∷ e13 ∷ e14 ∷ e36 ∷ []
@@ -284,7 +287,7 @@ abbrev c6 : List.List Row.Entry
 c6 = e8 ∷ e9 ∷ e35 ∷ e11 ∷ e12 ∷ e13 ∷ e14 ∷ e15 ∷ []
 
 abbrev e37 : Row.Entry
-e37 = (16, Mut.mslice q3 y6 6)
+e37 = (16, Mut.mslice q3 y7 6)
 
 abbrev c7 : List.List Row.Entry
 c7 = e37 ∷ e17 ∷ e18 ∷ e19 ∷ e20 ∷ e21 ∷ e22 ∷ e23 ∷ []
@@ -296,7 +299,7 @@ abbrev c8 : List.List Row.Entry
 c8 = e8 ∷ e9 ∷ e35 ∷ e11 ∷ e38 ∷ e13 ∷ e14 ∷ e15 ∷ []
 
 abbrev e39 : Row.Entry
-e39 = (16, Mut.msleft q3 y6)
+e39 = (16, Mut.msleft q3 y7)
 
 abbrev c9 : List.List Row.Entry
 c9 = e39 ∷ e17 ∷ e18 ∷ e19 ∷ e20 ∷ e21 ∷ e22 ∷ e23 ∷ []
@@ -326,37 +329,37 @@ abbrev c16 : List.List Row.Entry
 c16 = e29 ∷ e30 ∷ e31 ∷ e32 ∷ e4 ∷ e33 ∷ e6 ∷ e7 ∷ []
 
 abbrev e41 : Row.Entry
-e41 = (10, Relend.mslice-owed q3 y17 4 7 Row.off)
+e41 = (10, Relend.mslice-owed q3 y18 4 7 Row.off)
 
 abbrev c17 : List.List Row.Entry
 c17 = e8 ∷ e9 ∷ e41 ∷ e11 ∷ e12 ∷ e13 ∷ e14 ∷ e15 ∷ []
 
 abbrev e42 : Row.Entry
-e42 = (18, Relend.msptr q3 y6 7)
+e42 = (18, Relend.msptr q3 y7 7)
 
 abbrev c18 : List.List Row.Entry
 c18 = e16 ∷ e17 ∷ e42 ∷ e19 ∷ e20 ∷ e21 ∷ e22 ∷ e23 ∷ []
 
 abbrev e43 : Row.Entry
-e43 = (19, Mut.mslice q3 y6 7)
+e43 = (19, Mut.mslice q3 y7 7)
 
 abbrev c19 : List.List Row.Entry
 c19 = e16 ∷ e17 ∷ e18 ∷ e43 ∷ e20 ∷ e21 ∷ e22 ∷ e23 ∷ []
 
 abbrev e44 : Row.Entry
-e44 = (11, Relend.mslice-owed Rec·type.the-row y18 5 8 Row.off)
+e44 = (11, Relend.mslice-owed Rec·type.the-row y19 5 8 Row.off)
 
 abbrev c20 : List.List Row.Entry
 c20 = e8 ∷ e9 ∷ e41 ∷ e44 ∷ e12 ∷ e13 ∷ e14 ∷ e15 ∷ []
 
 abbrev e45 : Row.Entry
-e45 = (20, Relend.msptr Rec·type.the-row y8 8)
+e45 = (20, Relend.msptr Rec·type.the-row y9 8)
 
 abbrev c21 : List.List Row.Entry
 c21 = e16 ∷ e17 ∷ e18 ∷ e43 ∷ e45 ∷ e21 ∷ e22 ∷ e23 ∷ []
 
 abbrev e46 : Row.Entry
-e46 = (21, Mut.mslice Rec·type.the-row y8 8)
+e46 = (21, Mut.mslice Rec·type.the-row y9 8)
 
 abbrev c22 : List.List Row.Entry
 c22 = e16 ∷ e17 ∷ e18 ∷ e43 ∷ e20 ∷ e46 ∷ e22 ∷ e23 ∷ []
@@ -368,10 +371,10 @@ abbrev c23 : List.List Row.Entry
 c23 = e8 ∷ e9 ∷ e41 ∷ e44 ∷ e12 ∷ e47 ∷ e14 ∷ e15 ∷ []
 
 abbrev e48 : Row.Entry
-e48 = (19, Mut.msleft q3 y6)
+e48 = (19, Mut.msleft q3 y7)
 
 abbrev e49 : Row.Entry
-e49 = (21, Mut.msleft Rec·type.the-row y8)
+e49 = (21, Mut.msleft Rec·type.the-row y9)
 
 abbrev c24 : List.List Row.Entry
 c24 = e16 ∷ e17 ∷ e18 ∷ e48 ∷ e20 ∷ e49 ∷ e22 ∷ e23 ∷ []
@@ -386,19 +389,19 @@ abbrev c27 : List.List Row.Entry
 c27 = e8 ∷ e9 ∷ e10 ∷ e11 ∷ e12 ∷ e47 ∷ e14 ∷ e15 ∷ []
 
 abbrev e50 : Row.Entry
-e50 = (10, Relend.mslice-owed q3 y17 4 9 Row.off)
+e50 = (10, Relend.mslice-owed q3 y18 4 9 Row.off)
 
 abbrev c28 : List.List Row.Entry
 c28 = e8 ∷ e9 ∷ e50 ∷ e11 ∷ e12 ∷ e47 ∷ e14 ∷ e15 ∷ []
 
 abbrev e51 : Row.Entry
-e51 = (23, Relend.msptr q3 y6 9)
+e51 = (23, Relend.msptr q3 y7 9)
 
 abbrev c29 : List.List Row.Entry
 c29 = e16 ∷ e17 ∷ e18 ∷ e19 ∷ e20 ∷ e21 ∷ e22 ∷ e51 ∷ []
 
 abbrev e52 : Row.Entry
-e52 = (24, Mut.mslice q3 y6 9)
+e52 = (24, Mut.mslice q3 y7 9)
 
 abbrev c30 : List.List Row.Entry
 c30 = e52 ∷ e25 ∷ e26 ∷ e27 ∷ e28 ∷ []
@@ -407,7 +410,7 @@ abbrev e53 : Row.Entry
 e53 = (22, Rows.sc-here Row.sBool)
 
 abbrev e54 : Row.Entry
-e54 = (24, Mut.msleft q3 y6)
+e54 = (24, Mut.msleft q3 y7)
 
 abbrev c31 : List.List Row.Entry
 c31 = e16 ∷ e17 ∷ e18 ∷ e19 ∷ e20 ∷ e21 ∷ e53 ∷ e23 ∷ []
@@ -425,37 +428,37 @@ abbrev c34 : List.List Row.Entry
 c34 = e8 ∷ e9 ∷ e10 ∷ e11 ∷ e12 ∷ e13 ∷ e55 ∷ e15 ∷ []
 
 abbrev e56 : Row.Entry
-e56 = (11, Reshare.mslice-owedS Rec·type.the-row y18 5 10 Row.off)
+e56 = (11, Reshare.mslice-owedS Rec·type.the-row y19 5 10 Row.off)
 
 abbrev c35 : List.List Row.Entry
 c35 = e8 ∷ e9 ∷ e10 ∷ e56 ∷ e12 ∷ e13 ∷ e55 ∷ e15 ∷ []
 
 abbrev e57 : Row.Entry
-e57 = (25, Relend.ssptr Rec·type.the-row y10 10)
+e57 = (25, Relend.ssptr Rec·type.the-row y11 10)
 
 abbrev c36 : List.List Row.Entry
 c36 = e24 ∷ e57 ∷ e26 ∷ e27 ∷ e28 ∷ []
 
 abbrev e58 : Row.Entry
-e58 = (26, Rows.sslice Rec·type.the-row y10 10)
+e58 = (26, Rows.sslice Rec·type.the-row y11 10)
 
 abbrev c37 : List.List Row.Entry
 c37 = e24 ∷ e25 ∷ e58 ∷ e27 ∷ e28 ∷ []
 
 abbrev e59 : Row.Entry
-e59 = (10, Relend.mslice-owed q3 y17 4 11 Row.off)
+e59 = (10, Relend.mslice-owed q3 y18 4 11 Row.off)
 
 abbrev c38 : List.List Row.Entry
 c38 = e8 ∷ e9 ∷ e59 ∷ e56 ∷ e12 ∷ e13 ∷ e55 ∷ e15 ∷ []
 
 abbrev e60 : Row.Entry
-e60 = (27, Relend.msptr q3 y6 11)
+e60 = (27, Relend.msptr q3 y7 11)
 
 abbrev c39 : List.List Row.Entry
 c39 = e24 ∷ e25 ∷ e58 ∷ e60 ∷ e28 ∷ []
 
 abbrev e61 : Row.Entry
-e61 = (28, Mut.mslice q3 y6 11)
+e61 = (28, Mut.mslice q3 y7 11)
 
 abbrev c40 : List.List Row.Entry
 c40 = e24 ∷ e25 ∷ e58 ∷ e27 ∷ e61 ∷ []
@@ -464,7 +467,7 @@ abbrev c41 : List.List Row.Entry
 c41 = e29 ∷ e1 ∷ e31 ∷ e3 ∷ e4 ∷ e5 ∷ e6 ∷ e7 ∷ []
 
 abbrev e62 : Row.Entry
-e62 = (28, Mut.msleft q3 y6)
+e62 = (28, Mut.msleft q3 y7)
 
 abbrev c42 : List.List Row.Entry
 c42 = e24 ∷ e25 ∷ e58 ∷ e27 ∷ e62 ∷ []
@@ -515,7 +518,7 @@ abbrev pub r : Kinds.RK 6
 r = Value.rVal record { ty = q5; one = Path'.refl; val = Laws'4.val Scanned.the-type Laws''.the-laws; tells = Laws'4.tells Scanned.the-type Laws''.the-laws; still = Laws'4.still Scanned.the-type Laws''.the-copy Exit.yes; row = Rows.whole q5; rd = λ x. x; mk = λ x. x } λ M 𝓤 H A W. record { copies = Laws'4.copy Scanned.the-type Laws''.the-copy 𝓤 H A W; lawful = Laws'4.lawful Scanned.the-type Laws''.the-laws 𝓤 H A W; makes = Laws'4.makes Scanned.the-type Laws''.the-plain 𝓤 H A; in-mem = Local.mem-whole 𝓤 H A W q5; of-mem = Local.whole-mem 𝓤 H A W q5 }
 
 abbrev pub xs : List.List Syntax.Ty
-xs = y3 ∷ y4 ∷ y0 ∷ y6 ∷ y7 ∷ Syntax.tyBool ∷ y6 ∷ y7 ∷ y8 ∷ y9 ∷ Syntax.tyBool ∷ y6 ∷ y7 ∷ y10 ∷ y11 ∷ y6 ∷ y7 ∷ []
+xs = y4 ∷ y5 ∷ y0 ∷ y7 ∷ y8 ∷ Syntax.tyBool ∷ y7 ∷ y8 ∷ y9 ∷ y10 ∷ Syntax.tyBool ∷ y7 ∷ y8 ∷ y11 ∷ y12 ∷ y7 ∷ y8 ∷ []
 
 abbrev pub m : Nat.ℕ
 m = 6
@@ -554,7 +557,7 @@ abbrev pub hs : List.List Syntax.Home
 hs = Syntax.valueLocal ∷ Syntax.valueLocal ∷ Syntax.valueLocal ∷ Syntax.valueLocal ∷ Syntax.valueLocal ∷ Syntax.valueLocal ∷ Syntax.valueLocal ∷ Syntax.valueLocal ∷ Syntax.valueLocal ∷ Syntax.valueLocal ∷ Syntax.valueLocal ∷ Syntax.valueLocal ∷ Syntax.valueLocal ∷ Syntax.valueLocal ∷ Syntax.valueLocal ∷ Syntax.valueLocal ∷ Syntax.valueLocal ∷ Syntax.valueLocal ∷ Syntax.valueLocal ∷ Syntax.valueLocal ∷ Syntax.valueLocal ∷ Syntax.valueLocal ∷ Syntax.valueLocal ∷ Syntax.valueLocal ∷ Syntax.valueLocal ∷ Syntax.valueLocal ∷ Syntax.valueLocal ∷ Syntax.valueLocal ∷ Syntax.valueLocal ∷ []
 
 abbrev b0 : Syntax.Body
-b0 = Syntax.assign (Syntax.place 15 List.[]) (Syntax.addrOf (Syntax.place 10 ((Syntax.field 0) ∷ (Syntax.deref y5) ∷ [])))
+b0 = Syntax.assign (Syntax.place 15 List.[]) (Syntax.addrOf (Syntax.place 10 ((Syntax.field 0) ∷ (Syntax.deref y6) ∷ [])))
 
 abbrev b1 : Syntax.Body
 b1 = Syntax.assign (Syntax.place 16 List.[]) (Syntax.aggregate ((Syntax.copy (Syntax.place 15 List.[])) ∷ (Syntax.copy (Syntax.place 10 ((Syntax.field 1) ∷ []))) ∷ []))
@@ -581,7 +584,7 @@ abbrev b8 : Syntax.Body
 b8 = Syntax.cond (Syntax.copy (Syntax.place 17 List.[])) b6 b7
 
 abbrev b9 : Syntax.Body
-b9 = Syntax.assign (Syntax.place 18 List.[]) (Syntax.addrOf (Syntax.place 10 ((Syntax.field 0) ∷ (Syntax.deref y5) ∷ [])))
+b9 = Syntax.assign (Syntax.place 18 List.[]) (Syntax.addrOf (Syntax.place 10 ((Syntax.field 0) ∷ (Syntax.deref y6) ∷ [])))
 
 abbrev b10 : Syntax.Body
 b10 = Syntax.assign (Syntax.place 19 List.[]) (Syntax.aggregate ((Syntax.copy (Syntax.place 18 List.[])) ∷ (Syntax.copy (Syntax.place 10 ((Syntax.field 1) ∷ []))) ∷ []))
@@ -596,7 +599,7 @@ abbrev b13 : Syntax.Body
 b13 = Syntax.call "scans::candidates::scan_backward" ((Syntax.copy (Syntax.place 1 List.[])) ∷ (Syntax.copy (Syntax.place 4 List.[])) ∷ (Syntax.copy (Syntax.place 5 List.[])) ∷ (Syntax.copy (Syntax.place 6 List.[])) ∷ (Syntax.copy (Syntax.place 7 List.[])) ∷ (Syntax.copy (Syntax.place 8 List.[])) ∷ (Syntax.copy (Syntax.place 9 List.[])) ∷ (Syntax.copy (Syntax.place 19 List.[])) ∷ (Syntax.copy (Syntax.place 21 List.[])) ∷ []) (Syntax.place 13 List.[])
 
 abbrev b14 : Syntax.Body
-b14 = Syntax.assign (Syntax.place 23 List.[]) (Syntax.addrOf (Syntax.place 10 ((Syntax.field 0) ∷ (Syntax.deref y5) ∷ [])))
+b14 = Syntax.assign (Syntax.place 23 List.[]) (Syntax.addrOf (Syntax.place 10 ((Syntax.field 0) ∷ (Syntax.deref y6) ∷ [])))
 
 abbrev b15 : Syntax.Body
 b15 = Syntax.assign (Syntax.place 24 List.[]) (Syntax.aggregate ((Syntax.copy (Syntax.place 23 List.[])) ∷ (Syntax.copy (Syntax.place 10 ((Syntax.field 1) ∷ []))) ∷ []))
@@ -629,7 +632,7 @@ abbrev b24 : Syntax.Body
 b24 = Syntax.assign (Syntax.place 26 List.[]) (Syntax.aggregate ((Syntax.copy (Syntax.place 25 List.[])) ∷ (Syntax.copy (Syntax.place 11 ((Syntax.field 1) ∷ []))) ∷ []))
 
 abbrev b25 : Syntax.Body
-b25 = Syntax.assign (Syntax.place 27 List.[]) (Syntax.addrOf (Syntax.place 10 ((Syntax.field 0) ∷ (Syntax.deref y5) ∷ [])))
+b25 = Syntax.assign (Syntax.place 27 List.[]) (Syntax.addrOf (Syntax.place 10 ((Syntax.field 0) ∷ (Syntax.deref y6) ∷ [])))
 
 abbrev b26 : Syntax.Body
 b26 = Syntax.assign (Syntax.place 28 List.[]) (Syntax.aggregate ((Syntax.copy (Syntax.place 27 List.[])) ∷ (Syntax.copy (Syntax.place 10 ((Syntax.field 1) ∷ []))) ∷ []))
@@ -1053,37 +1056,37 @@ O2 = Typed.withNext (Option.some T46) O0
 
 module _ (claims· : Claims) where
   abbrev s0 : Typed.Gives T0 T2
-  s0 = Know.k-shs-known (Referent.fInt Syntax.w32) T0 4 0 y13 Row.off 0 λ x. x
+  s0 = Know.k-shs-known (Referent.fInt Syntax.w32) T0 4 0 y14 Row.off 0 λ x. x
 
   abbrev s1 : Typed.Gives T2 T3
-  s1 = Know.k-shs-known (Referent.fInt Syntax.w16) T2 7 1 y14 Row.off 0 λ x. x
+  s1 = Know.k-shs-known (Referent.fInt Syntax.w16) T2 7 1 y15 Row.off 0 λ x. x
 
   abbrev s2 : Typed.Gives T3 T4
-  s2 = Know.k-shs-known (Referent.fFloat Ieee.binary64) T3 8 2 y15 Row.off Ieee.nan λ x. x
+  s2 = Know.k-shs-known (Referent.fFloat Ieee.binary64) T3 8 2 y16 Row.off Ieee.nan λ x. x
 
   abbrev s3 : Typed.Gives T4 T5
-  s3 = Know.k-shs-known (Referent.fFloat Ieee.binary64) T4 9 3 y16 Row.off Ieee.nan λ x. x
+  s3 = Know.k-shs-known (Referent.fFloat Ieee.binary64) T4 9 3 y17 Row.off Ieee.nan λ x. x
 
   abbrev s4 : Typed.Gives T5 T6
-  s4 = Know.k-sl-known (Referent.fInt Syntax.w16) T5 10 4 y17 Row.off 0 λ x. x
+  s4 = Know.k-sl-known (Referent.fInt Syntax.w16) T5 10 4 y18 Row.off 0 λ x. x
 
   abbrev s6 : Typed.Gives T6 T8
-  s6 = Relend.k-sl-relend q3 T6 10 15 4 6 y17 y6 Row.off λ x. x
+  s6 = Relend.k-sl-relend q3 T6 10 15 4 6 y18 y7 Row.off λ x. x
 
   abbrev s7 : Typed.Asks T8 T9
-  s7 = Relend.k-sl-aggregate q3 (Relend.asMut q3) T8 15 16 6 y6 y6 (λ x. x) (Scalar.oFld 10 ((Syntax.field 1) ∷ []) y0 8 λ v. Shared.lenV (v .0))
+  s7 = Relend.k-sl-aggregate q3 (Relend.asMut q3) T8 15 16 6 y7 y7 (λ x. x) (Scalar.oFld 10 ((Syntax.field 1) ∷ []) y0 8 λ v. Shared.lenV (v .0))
 
   abbrev s8 : Typed.Both T9 T10
-  s8 = Call.callB ps·0 r·0 (claims· .0) (claims· .1) T9 (record { pos = 1; st = List.[]; d = 0; at = λ x. x }, (record { pos = 2; st = List.[]; d = 0; at = λ x. x }, (Num.vAt 3 λ x. x, (record { pos = 4; ty = y13; ref = λ x. x }, (Num.vAt 5 λ x. x, (Num.vAt 6 λ x. x, (record { pos = 7; ty = y14; ref = λ x. x }, (record { pos = 8; ty = y15; ref = λ x. x }, (record { pos = 9; ty = y16; ref = λ x. x }, (record { pos = 16; ty = y6; ref = λ x. x }, tt)))))))))) 12 (0 ∷ 1 ∷ 2 ∷ 3 ∷ 6 ∷ []) y3
+  s8 = Call.callB ps·0 r·0 (claims· .0) (claims· .1) T9 (record { pos = 1; st = List.[]; d = 0; at = λ x. x }, (record { pos = 2; st = List.[]; d = 0; at = λ x. x }, (Num.vAt 3 λ x. x, (record { pos = 4; ty = y14; ref = λ x. x }, (Num.vAt 5 λ x. x, (Num.vAt 6 λ x. x, (record { pos = 7; ty = y15; ref = λ x. x }, (record { pos = 8; ty = y16; ref = λ x. x }, (record { pos = 9; ty = y17; ref = λ x. x }, (record { pos = 16; ty = y7; ref = λ x. x }, tt)))))))))) 12 (0 ∷ 1 ∷ 2 ∷ 3 ∷ 6 ∷ []) y4
 
   abbrev s9 : Typed.Mo T10 → Typed.Mo T11
-  s9 = Scalar.n-room T10 2 y2
+  s9 = Scalar.n-room T10 2 y3
 
   abbrev s11 : Typed.Both T11 T13
-  s11 = Relend.k-back-sl q3 T11 16 10 4 6 y17 y6 Row.off (λ x. x) λ x. x
+  s11 = Relend.k-back-sl q3 T11 16 10 4 6 y18 y7 Row.off (λ x. x) λ x. x
 
   abbrev s12 : Typed.Gives T13 T14
-  s12 = Know.k-sl-known (Referent.fInt Syntax.w16) T13 10 4 y17 Row.off 0 λ x. x
+  s12 = Know.k-sl-known (Referent.fInt Syntax.w16) T13 10 4 y18 Row.off 0 λ x. x
 
   abbrev s14 : Typed.Gives T14 T16
   s14 = Know'.k-struct-known Scanned.the-type Laws''.the-laws T14 12 λ x. x
@@ -1092,7 +1095,7 @@ module _ (claims· : Claims) where
   s15 = Scalar.k-op2 T16 Syntax.ne (Scalar.oFld 12 ((Syntax.field 0) ∷ []) y0 0 (Reads.fieldV Scanned.the-type Laws''.the-laws 0)) (Scalar.oInt Syntax.w64 0) 17 (Rows.sc-here Row.sBool) (Row.sBool .of)
 
   abbrev s16 : Typed.Mo T17 → Typed.Mo T19
-  s16 = Scalar.n-room T17 1 y19
+  s16 = Scalar.n-room T17 1 y20
 
   abbrev s17 : Typed.Mo T19 → Typed.Mo T20
   s17 = Scalar.n-room T19 17 Syntax.tyBool
@@ -1101,7 +1104,7 @@ module _ (claims· : Claims) where
   s18 = LocalCopy.n-val-copy T20 12 0 q5 (Rows.whole q5) (Rows.whole q5) (λ x. x) (λ x. x) λ x. x
 
   abbrev s19 : Typed.Mo T21 → Typed.Mo T22
-  s19 = Scalar.n-room T21 12 y3
+  s19 = Scalar.n-room T21 12 y4
 
   abbrev s20 : Typed.Mo T22 → Typed.Mo T23
   s20 = Scalar.n-room T22 3 y0
@@ -1113,61 +1116,61 @@ module _ (claims· : Claims) where
   s22 = Scalar.n-room T24 6 y0
 
   abbrev s23 : Typed.Mo T17 → Typed.Mo T26
-  s23 = Scalar.n-room T17 12 y3
+  s23 = Scalar.n-room T17 12 y4
 
   abbrev s24 : Typed.Mo T26 → Typed.Mo T27
   s24 = Scalar.n-room T26 17 Syntax.tyBool
 
   abbrev s26 : Typed.Gives T18 T29
-  s26 = Relend.k-sl-relend q3 T18 10 18 4 7 y17 y6 Row.off λ x. x
+  s26 = Relend.k-sl-relend q3 T18 10 18 4 7 y18 y7 Row.off λ x. x
 
   abbrev s27 : Typed.Asks T29 T30
-  s27 = Relend.k-sl-aggregate q3 (Relend.asMut q3) T29 18 19 7 y6 y6 (λ x. x) (Scalar.oFld 10 ((Syntax.field 1) ∷ []) y0 8 λ v. Shared.lenV (v .0))
+  s27 = Relend.k-sl-aggregate q3 (Relend.asMut q3) T29 18 19 7 y7 y7 (λ x. x) (Scalar.oFld 10 ((Syntax.field 1) ∷ []) y0 8 λ v. Shared.lenV (v .0))
 
   abbrev s29 : Typed.Gives T30 T32
-  s29 = Relend.k-sl-relend Rec·type.the-row T30 11 20 5 8 y18 y8 Row.off λ x. x
+  s29 = Relend.k-sl-relend Rec·type.the-row T30 11 20 5 8 y19 y9 Row.off λ x. x
 
   abbrev s30 : Typed.Asks T32 T33
-  s30 = Relend.k-sl-aggregate Rec·type.the-row (Relend.asMut Rec·type.the-row) T32 20 21 8 y8 y8 (λ x. x) (Scalar.oFld 11 ((Syntax.field 1) ∷ []) y0 8 λ v. Shared.lenV (v .0))
+  s30 = Relend.k-sl-aggregate Rec·type.the-row (Relend.asMut Rec·type.the-row) T32 20 21 8 y9 y9 (λ x. x) (Scalar.oFld 11 ((Syntax.field 1) ∷ []) y0 8 λ v. Shared.lenV (v .0))
 
   abbrev s31 : Typed.Both T33 T34
-  s31 = Call.callB ps·1 r·1 (claims· .2) (claims· .3) T33 (record { pos = 1; st = List.[]; d = 0; at = λ x. x }, (record { pos = 4; ty = y13; ref = λ x. x }, (Num.vAt 5 λ x. x, (Num.vAt 6 λ x. x, (record { pos = 7; ty = y14; ref = λ x. x }, (record { pos = 8; ty = y15; ref = λ x. x }, (record { pos = 9; ty = y16; ref = λ x. x }, (record { pos = 19; ty = y6; ref = λ x. x }, (record { pos = 21; ty = y8; ref = λ x. x }, tt))))))))) 13 (0 ∷ 1 ∷ 2 ∷ 3 ∷ 7 ∷ 8 ∷ []) y4
+  s31 = Call.callB ps·1 r·1 (claims· .2) (claims· .3) T33 (record { pos = 1; st = List.[]; d = 0; at = λ x. x }, (record { pos = 4; ty = y14; ref = λ x. x }, (Num.vAt 5 λ x. x, (Num.vAt 6 λ x. x, (record { pos = 7; ty = y15; ref = λ x. x }, (record { pos = 8; ty = y16; ref = λ x. x }, (record { pos = 9; ty = y17; ref = λ x. x }, (record { pos = 19; ty = y7; ref = λ x. x }, (record { pos = 21; ty = y9; ref = λ x. x }, tt))))))))) 13 (0 ∷ 1 ∷ 2 ∷ 3 ∷ 7 ∷ 8 ∷ []) y5
 
   abbrev s33 : Typed.Both T34 T36
-  s33 = Relend.k-back-sl q3 T34 19 10 4 7 y17 y6 Row.off (λ x. x) λ x. x
+  s33 = Relend.k-back-sl q3 T34 19 10 4 7 y18 y7 Row.off (λ x. x) λ x. x
 
   abbrev s34 : Typed.Gives T36 T37
-  s34 = Know.k-sl-known (Referent.fInt Syntax.w16) T36 10 4 y17 Row.off 0 λ x. x
+  s34 = Know.k-sl-known (Referent.fInt Syntax.w16) T36 10 4 y18 Row.off 0 λ x. x
 
   abbrev s37 : Typed.Both T37 T40
-  s37 = Relend.k-back-sl Rec·type.the-row T37 21 11 5 8 y18 y8 Row.off (λ x. x) λ x. x
+  s37 = Relend.k-back-sl Rec·type.the-row T37 21 11 5 8 y19 y9 Row.off (λ x. x) λ x. x
 
   abbrev s40 : Typed.Gives T40 T43
-  s40 = Relend.k-sl-relend q3 T40 10 23 4 9 y17 y6 Row.off λ x. x
+  s40 = Relend.k-sl-relend q3 T40 10 23 4 9 y18 y7 Row.off λ x. x
 
   abbrev s41 : Typed.Asks T43 T44
-  s41 = Relend.k-sl-aggregate q3 (Relend.asMut q3) T43 23 24 9 y6 y6 (λ x. x) (Scalar.oFld 10 ((Syntax.field 1) ∷ []) y0 8 λ v. Shared.lenV (v .0))
+  s41 = Relend.k-sl-aggregate q3 (Relend.asMut q3) T43 23 24 9 y7 y7 (λ x. x) (Scalar.oFld 10 ((Syntax.field 1) ∷ []) y0 8 λ v. Shared.lenV (v .0))
 
   abbrev s42 : Typed.Both T44 T45
-  s42 = Call.callB ps·2 r·2 (claims· .4) (claims· .5) T44 (record { pos = 1; st = List.[]; d = 0; at = λ x. x }, (record { pos = 13; st = List.[]; d = 0; at = λ x. x }, (record { pos = 4; ty = y13; ref = λ x. x }, (Num.vAt 5 λ x. x, (Num.vAt 6 λ x. x, (record { pos = 8; ty = y15; ref = λ x. x }, (record { pos = 9; ty = y16; ref = λ x. x }, (record { pos = 24; ty = y6; ref = λ x. x }, tt)))))))) 22 (0 ∷ 2 ∷ 3 ∷ 9 ∷ []) Syntax.tyBool
+  s42 = Call.callB ps·2 r·2 (claims· .4) (claims· .5) T44 (record { pos = 1; st = List.[]; d = 0; at = λ x. x }, (record { pos = 13; st = List.[]; d = 0; at = λ x. x }, (record { pos = 4; ty = y14; ref = λ x. x }, (Num.vAt 5 λ x. x, (Num.vAt 6 λ x. x, (record { pos = 8; ty = y16; ref = λ x. x }, (record { pos = 9; ty = y17; ref = λ x. x }, (record { pos = 24; ty = y7; ref = λ x. x }, tt)))))))) 22 (0 ∷ 2 ∷ 3 ∷ 9 ∷ []) Syntax.tyBool
 
   abbrev s44 : Typed.Both T45 T48
-  s44 = Relend.k-back-sl q3 T45 24 10 4 9 y17 y6 Row.off (λ x. x) λ x. x
+  s44 = Relend.k-back-sl q3 T45 24 10 4 9 y18 y7 Row.off (λ x. x) λ x. x
 
   abbrev s45 : Typed.Gives T48 T49
-  s45 = Know.k-sl-known (Referent.fInt Syntax.w16) T48 10 4 y17 Row.off 0 λ x. x
+  s45 = Know.k-sl-known (Referent.fInt Syntax.w16) T48 10 4 y18 Row.off 0 λ x. x
 
   abbrev s47 : Typed.Mo T49 → Typed.Mo T51
-  s47 = Scalar.n-room T49 1 y19
+  s47 = Scalar.n-room T49 1 y20
 
   abbrev s48 : Typed.Mo T51 → Typed.Mo T52
-  s48 = Scalar.n-room T51 13 y4
+  s48 = Scalar.n-room T51 13 y5
 
   abbrev s49 : Typed.Mo T52 → Typed.Mo T53
   s49 = Scalar.n-room T52 22 Syntax.tyBool
 
   abbrev s50 : Typed.Both T53 T54
-  s50 = Call.callB ps·3 r·3 (claims· .6) (claims· .7) T53 tt 0 List.[] y3
+  s50 = Call.callB ps·3 r·3 (claims· .6) (claims· .7) T53 tt 0 List.[] y4
 
   abbrev s51 : Typed.Mo T54 → Typed.Mo T55
   s51 = Scalar.n-room T54 3 y0
@@ -1185,40 +1188,40 @@ module _ (claims· : Claims) where
   s55 = Scalar.n-use T46 (Scalar.oFld 13 ((Syntax.field 0) ∷ []) y0 0 (Reads.fieldV Searched.the-type Laws'3.the-laws 0)) 14 (Rows.sc-here z0) (Row.sInt Syntax.w64 .of)
 
   abbrev s56 : Typed.Mo T59 → Typed.Mo T60
-  s56 = Scalar.n-room T59 13 y4
+  s56 = Scalar.n-room T59 13 y5
 
   abbrev s58 : Typed.Gives T60 T62
-  s58 = Reshare.k-sl-reshare Rec·type.the-row T60 11 25 5 10 y18 y10 Row.off λ x. x
+  s58 = Reshare.k-sl-reshare Rec·type.the-row T60 11 25 5 10 y19 y11 Row.off λ x. x
 
   abbrev s59 : Typed.Asks T62 T63
-  s59 = Relend.k-sl-aggregate Rec·type.the-row (Relend.asShr Rec·type.the-row) T62 25 26 10 y10 y10 (λ x. x) (Scalar.oFld 11 ((Syntax.field 1) ∷ []) y0 8 λ v. Shared.lenV (v .0))
+  s59 = Relend.k-sl-aggregate Rec·type.the-row (Relend.asShr Rec·type.the-row) T62 25 26 10 y11 y11 (λ x. x) (Scalar.oFld 11 ((Syntax.field 1) ∷ []) y0 8 λ v. Shared.lenV (v .0))
 
   abbrev s61 : Typed.Gives T63 T65
-  s61 = Relend.k-sl-relend q3 T63 10 27 4 11 y17 y6 Row.off λ x. x
+  s61 = Relend.k-sl-relend q3 T63 10 27 4 11 y18 y7 Row.off λ x. x
 
   abbrev s62 : Typed.Asks T65 T66
-  s62 = Relend.k-sl-aggregate q3 (Relend.asMut q3) T65 27 28 11 y6 y6 (λ x. x) (Scalar.oFld 10 ((Syntax.field 1) ∷ []) y0 8 λ v. Shared.lenV (v .0))
+  s62 = Relend.k-sl-aggregate q3 (Relend.asMut q3) T65 27 28 11 y7 y7 (λ x. x) (Scalar.oFld 10 ((Syntax.field 1) ∷ []) y0 8 λ v. Shared.lenV (v .0))
 
   abbrev s63 : Typed.Both T66 T67
-  s63 = Call.callB ps·4 r·4 (claims· .8) (claims· .9) T66 (record { pos = 1; st = List.[]; d = 0; at = λ x. x }, (record { pos = 4; ty = y13; ref = λ x. x }, (Num.vAt 5 λ x. x, (Num.vAt 6 λ x. x, (Num.vAt 14 λ x. x, (record { pos = 8; ty = y15; ref = λ x. x }, (record { pos = 9; ty = y16; ref = λ x. x }, (record { pos = 26; ty = y10; ref = λ x. x }, (record { pos = 28; ty = y6; ref = λ x. x }, tt))))))))) 0 (0 ∷ 2 ∷ 3 ∷ 10 ∷ 11 ∷ []) y3
+  s63 = Call.callB ps·4 r·4 (claims· .8) (claims· .9) T66 (record { pos = 1; st = List.[]; d = 0; at = λ x. x }, (record { pos = 4; ty = y14; ref = λ x. x }, (Num.vAt 5 λ x. x, (Num.vAt 6 λ x. x, (Num.vAt 14 λ x. x, (record { pos = 8; ty = y16; ref = λ x. x }, (record { pos = 9; ty = y17; ref = λ x. x }, (record { pos = 26; ty = y11; ref = λ x. x }, (record { pos = 28; ty = y7; ref = λ x. x }, tt))))))))) 0 (0 ∷ 2 ∷ 3 ∷ 10 ∷ 11 ∷ []) y4
 
   abbrev s64 : Typed.Mo T67 → Typed.Mo T68
-  s64 = Scalar.n-room T67 26 y11
+  s64 = Scalar.n-room T67 26 y12
 
   abbrev s65 : Typed.Mo T68 → Typed.Mo T69
-  s65 = Scalar.n-room T68 1 y19
+  s65 = Scalar.n-room T68 1 y20
 
   abbrev s66 : Typed.Mo T69 → Typed.Mo T70
   s66 = Scalar.n-room T69 14 y0
 
   abbrev s68 : Typed.Mo T70 → Typed.Mo T72
-  s68 = Reshare.n-back-sl-shr Rec·type.the-row T70 11 5 10 y18 Row.off λ x. x
+  s68 = Reshare.n-back-sl-shr Rec·type.the-row T70 11 5 10 y19 Row.off λ x. x
 
   abbrev s71 : Typed.Both T72 T75
-  s71 = Relend.k-back-sl q3 T72 28 10 4 11 y17 y6 Row.off (λ x. x) λ x. x
+  s71 = Relend.k-back-sl q3 T72 28 10 4 11 y18 y7 Row.off (λ x. x) λ x. x
 
   abbrev s72 : Typed.Gives T75 T76
-  s72 = Know.k-sl-known (Referent.fInt Syntax.w16) T75 10 4 y17 Row.off 0 λ x. x
+  s72 = Know.k-sl-known (Referent.fInt Syntax.w16) T75 10 4 y18 Row.off 0 λ x. x
 
   abbrev s74 : Typed.Mo T76 → Typed.Mo T78
   s74 = Scalar.n-room T76 3 y0
@@ -1507,7 +1510,7 @@ module _ (claims· : Claims) where
         li0 = Row.lease (κs .1 .1 .1 .1 .0) (qs .1 .1 .1 .1 .0)
 
         abbrev ei0 : Row.Entry
-        ei0 = (10, Relend.mslice-owed q3 y17 4 6 li0)
+        ei0 = (10, Relend.mslice-owed q3 y18 4 6 li0)
 
         abbrev ci0 : List.List Row.Entry
         ci0 = e8 ∷ e9 ∷ ei0 ∷ e11 ∷ e12 ∷ e13 ∷ e14 ∷ e36 ∷ []
@@ -1519,7 +1522,7 @@ module _ (claims· : Claims) where
         ci2 = e8 ∷ e9 ∷ ei0 ∷ e11 ∷ e38 ∷ e13 ∷ e14 ∷ e15 ∷ []
 
         abbrev ei1 : Row.Entry
-        ei1 = (10, Relend.mslice-owed q3 y17 4 7 li0)
+        ei1 = (10, Relend.mslice-owed q3 y18 4 7 li0)
 
         abbrev ci3 : List.List Row.Entry
         ci3 = e8 ∷ e9 ∷ ei1 ∷ e11 ∷ e12 ∷ e13 ∷ e14 ∷ e15 ∷ []
@@ -1528,7 +1531,7 @@ module _ (claims· : Claims) where
         li1 = Row.lease (κs .1 .1 .1 .1 .1 .0) (qs .1 .1 .1 .1 .1 .0)
 
         abbrev ei2 : Row.Entry
-        ei2 = (11, Relend.mslice-owed Rec·type.the-row y18 5 8 li1)
+        ei2 = (11, Relend.mslice-owed Rec·type.the-row y19 5 8 li1)
 
         abbrev ci4 : List.List Row.Entry
         ci4 = e8 ∷ e9 ∷ ei1 ∷ ei2 ∷ e12 ∷ e13 ∷ e14 ∷ e15 ∷ []
@@ -1540,19 +1543,19 @@ module _ (claims· : Claims) where
         ci6 = e8 ∷ e9 ∷ e10 ∷ ei2 ∷ e12 ∷ e47 ∷ e14 ∷ e15 ∷ []
 
         abbrev ei3 : Row.Entry
-        ei3 = (10, Relend.mslice-owed q3 y17 4 9 li0)
+        ei3 = (10, Relend.mslice-owed q3 y18 4 9 li0)
 
         abbrev ci7 : List.List Row.Entry
         ci7 = e8 ∷ e9 ∷ ei3 ∷ e11 ∷ e12 ∷ e47 ∷ e14 ∷ e15 ∷ []
 
         abbrev ei4 : Row.Entry
-        ei4 = (11, Reshare.mslice-owedS Rec·type.the-row y18 5 10 li1)
+        ei4 = (11, Reshare.mslice-owedS Rec·type.the-row y19 5 10 li1)
 
         abbrev ci8 : List.List Row.Entry
         ci8 = e8 ∷ e9 ∷ e10 ∷ ei4 ∷ e12 ∷ e13 ∷ e55 ∷ e15 ∷ []
 
         abbrev ei5 : Row.Entry
-        ei5 = (10, Relend.mslice-owed q3 y17 4 11 li0)
+        ei5 = (10, Relend.mslice-owed q3 y18 4 11 li0)
 
         abbrev ci9 : List.List Row.Entry
         ci9 = e8 ∷ e9 ∷ ei5 ∷ ei4 ∷ e12 ∷ e13 ∷ e55 ∷ e15 ∷ []
@@ -1930,16 +1933,16 @@ module _ (claims· : Claims) where
           d3 = Typed.g-pre 𝓤 H A W 𝓣 E G22 G23 b5 Δ1 (Typed.pass T22 T23 s20) at2 (Scalar.g-room 𝓤 H A W E G22 3 y0 (Scalar.room-sc 𝓤 H A W z0)) d2
 
           d4 : Typed.Typed 𝓤 H A 𝓣 E G21 b5 Δ1 at4
-          d4 = Typed.g-pre 𝓤 H A W 𝓣 E G21 G22 b5 Δ1 (Typed.pass T21 T22 s19) at3 (Scalar.g-room 𝓤 H A W E G21 12 y3 (Local.room-whole 𝓤 H A W q5 y3 Path'.refl)) d3
+          d4 = Typed.g-pre 𝓤 H A W 𝓣 E G21 G22 b5 Δ1 (Typed.pass T21 T22 s19) at3 (Scalar.g-room 𝓤 H A W E G21 12 y4 (Local.room-whole 𝓤 H A W q5 y4 Path'.refl)) d3
 
           d5 : Typed.Typed 𝓤 H A 𝓣 E G20 b6 Δ1 at5
-          d5 = Typed.s-seq 𝓤 H A W 𝓣 E G20 G21 b4 b5 Δ1 (Typed.pass T20 T21 s18) at4 (LocalCopy.t-val-copy 𝓤 H A W E 𝓣 (λ ρ. Unit) G20 12 0 q5 y3 y3 (Rows.whole q5) (Rows.whole q5) (λ x. x) (λ x. x) (λ x. x) Path'.refl (Own.told-none 𝓤 H A (G20 .slots)) (Yields.yields-copy 𝓤 H A W (λ ρ. Unit) q5 Path'.refl (Copies.cStruct Scanned.the-type Laws''.the-laws Laws''.the-copy .copy 𝓤 H A W) (Rows.whole q5) (λ x. x) (λ x. x) (λ ρ told. Local.mem-whole 𝓤 H A W q5 ρ) λ ρ told. Local.whole-mem 𝓤 H A W q5 ρ) (Reads'.room-gone 𝓤 H A y3) (Yields.makes-mem 𝓤 H A W (λ ρ. Unit) q5 Path'.refl (Rows.whole q5) (λ x. x) λ ρ told. Local.whole-mem 𝓤 H A W q5 ρ) Path'.refl Path'.refl) d4
+          d5 = Typed.s-seq 𝓤 H A W 𝓣 E G20 G21 b4 b5 Δ1 (Typed.pass T20 T21 s18) at4 (LocalCopy.t-val-copy 𝓤 H A W E 𝓣 (λ ρ. Unit) G20 12 0 q5 y4 y4 (Rows.whole q5) (Rows.whole q5) (λ x. x) (λ x. x) (λ x. x) Path'.refl (Own.told-none 𝓤 H A (G20 .slots)) (Yields.yields-copy 𝓤 H A W (λ ρ. Unit) q5 Path'.refl (Copies.cStruct Scanned.the-type Laws''.the-laws Laws''.the-copy .copy 𝓤 H A W) (Rows.whole q5) (λ x. x) (λ x. x) (λ ρ told. Local.mem-whole 𝓤 H A W q5 ρ) λ ρ told. Local.whole-mem 𝓤 H A W q5 ρ) (Reads'.room-gone 𝓤 H A y4) (Yields.makes-mem 𝓤 H A W (λ ρ. Unit) q5 Path'.refl (Rows.whole q5) (λ x. x) λ ρ told. Local.whole-mem 𝓤 H A W q5 ρ) Path'.refl Path'.refl) d4
 
           d6 : Typed.Typed 𝓤 H A 𝓣 E G19 b6 Δ1 at6
           d6 = Typed.g-pre 𝓤 H A W 𝓣 E G19 G20 b6 Δ1 (Typed.pass T19 T20 s17) at5 (Scalar.g-room 𝓤 H A W E G19 17 Syntax.tyBool (Scalar.room-sc 𝓤 H A W Row.sBool)) d5
 
           d7 : Typed.Typed 𝓤 H A 𝓣 E G17 b6 Δ1 at7
-          d7 = Typed.g-pre 𝓤 H A W 𝓣 E G17 G19 b6 Δ1 (Typed.pass T17 T19 s16) at6 (Scalar.g-room 𝓤 H A W E G17 1 y19 (Local.room-whole 𝓤 H A W q0 y19 Path'.refl)) d6
+          d7 = Typed.g-pre 𝓤 H A W 𝓣 E G17 G19 b6 Δ1 (Typed.pass T17 T19 s16) at6 (Scalar.g-room 𝓤 H A W E G17 1 y20 (Local.room-whole 𝓤 H A W q0 y20 Path'.refl)) d6
 
           d8 : Typed.Typed 𝓤 H A 𝓣 E G27 b7 Δ1 at8
           d8 = Typed.t-skip 𝓤 H A W 𝓣 E Δ1 tt
@@ -1948,7 +1951,7 @@ module _ (claims· : Claims) where
           d9 = Typed.g-pre 𝓤 H A W 𝓣 E G26 G27 b7 Δ1 (Typed.pass T26 T27 s24) at8 (Scalar.g-room 𝓤 H A W E G26 17 Syntax.tyBool (Scalar.room-sc 𝓤 H A W Row.sBool)) d8
 
           d10 : Typed.Typed 𝓤 H A 𝓣 E G17 b7 Δ1 at10
-          d10 = Typed.g-pre 𝓤 H A W 𝓣 E G17 G26 b7 Δ1 (Typed.pass T17 T26 s23) at9 (Scalar.g-room 𝓤 H A W E G17 12 y3 (Local.room-whole 𝓤 H A W q5 y3 Path'.refl)) d9
+          d10 = Typed.g-pre 𝓤 H A W 𝓣 E G17 G26 b7 Δ1 (Typed.pass T17 T26 s23) at9 (Scalar.g-room 𝓤 H A W E G17 12 y4 (Local.room-whole 𝓤 H A W q5 y4 Path'.refl)) d9
 
           d11 : Typed.Typed 𝓤 H A 𝓣 E G17 b8 Δ1 at11
           d11 = Scalar.t-cond 𝓤 H A W E 𝓣 G17 17 (λ x. x) b6 b7 Δ1 at7 at10 (Scalar.reads-sc 𝓤 H A W Row.sBool) Path'.refl d7 d10
@@ -1966,16 +1969,16 @@ module _ (claims· : Claims) where
           d15 = Typed.g-pre 𝓤 H A W 𝓣 E G54 G55 b18 Δ2 (Typed.pass T54 T55 s51) at14 (Scalar.g-room 𝓤 H A W E G54 3 y0 (Scalar.room-sc 𝓤 H A W z0)) d14
 
           d16 : Typed.Typed 𝓤 H A 𝓣 E G53 b19 Δ2 at16
-          d16 = Typed.s-seq 𝓤 H A W 𝓣 E G53 G54 b17 b18 Δ2 (Typed.both s50) at15 (Plain.t-call-plain 𝓤 H A W 𝓣 0 ps·3 r·3 (claims· .6) (claims· .7) "scans::carried::nothing" (known .3) E (λ pos β. β) G53 tt 0 List.[] (Call.sub-id 𝓤 H A W (G53 .slots)) tt (Reads'.room-gone 𝓤 H A y3) tt Path'.refl) d15
+          d16 = Typed.s-seq 𝓤 H A W 𝓣 E G53 G54 b17 b18 Δ2 (Typed.both s50) at15 (Plain.t-call-plain 𝓤 H A W 𝓣 0 ps·3 r·3 (claims· .6) (claims· .7) "scans::carried::nothing" (known .3) E (λ pos β. β) G53 tt 0 List.[] (Call.sub-id 𝓤 H A W (G53 .slots)) tt (Reads'.room-gone 𝓤 H A y4) tt Path'.refl) d15
 
           d17 : Typed.Typed 𝓤 H A 𝓣 E G52 b19 Δ2 at17
           d17 = Typed.g-pre 𝓤 H A W 𝓣 E G52 G53 b19 Δ2 (Typed.pass T52 T53 s49) at16 (Scalar.g-room 𝓤 H A W E G52 22 Syntax.tyBool (Scalar.room-sc 𝓤 H A W Row.sBool)) d16
 
           d18 : Typed.Typed 𝓤 H A 𝓣 E G51 b19 Δ2 at18
-          d18 = Typed.g-pre 𝓤 H A W 𝓣 E G51 G52 b19 Δ2 (Typed.pass T51 T52 s48) at17 (Scalar.g-room 𝓤 H A W E G51 13 y4 (Local.room-whole 𝓤 H A W q6 y4 Path'.refl)) d17
+          d18 = Typed.g-pre 𝓤 H A W 𝓣 E G51 G52 b19 Δ2 (Typed.pass T51 T52 s48) at17 (Scalar.g-room 𝓤 H A W E G51 13 y5 (Local.room-whole 𝓤 H A W q6 y5 Path'.refl)) d17
 
           d19 : Typed.Typed 𝓤 H A 𝓣 E G50 b19 Δ2 at19
-          d19 = Typed.g-pre 𝓤 H A W 𝓣 E G50 G51 b19 Δ2 (Typed.pass T49 T51 s47) at18 (Scalar.g-room 𝓤 H A W E G50 1 y19 (Local.room-whole 𝓤 H A W q0 y19 Path'.refl)) d18
+          d19 = Typed.g-pre 𝓤 H A W 𝓣 E G50 G51 b19 Δ2 (Typed.pass T49 T51 s47) at18 (Scalar.g-room 𝓤 H A W E G50 1 y20 (Local.room-whole 𝓤 H A W q0 y20 Path'.refl)) d18
 
           d20 : Typed.Typed 𝓤 H A 𝓣 E G58 b20 Δ2 at20
           d20 = Typed.t-skip 𝓤 H A W 𝓣 E Δ2 tt
@@ -1990,10 +1993,10 @@ module _ (claims· : Claims) where
           d23 = Typed.g-pre 𝓤 H A W 𝓣 E G49 G50 b21 Δ2 (λ Ψ. Ψ) at22 (Lifetime.g-forget 𝓤 H A W E G49 9 Row.dead Path'.refl) d22
 
           d24 : Typed.Typed 𝓤 H A 𝓣 E G48 b21 Δ2 at24
-          d24 = Typed.g-pre 𝓤 H A W 𝓣 E G48 G49 b21 Δ2 (Typed.give s45) at23 (Know.g-sl-known 𝓤 H A W (Referent.fInt Syntax.w16) E G48 10 4 y17 li0 0 (λ x. x) record { fits = Dec'.lit< tt } (Reads'.as-is 𝓤 H A (Mut.mslice q3 y17 4)) Path'.refl tt) d23
+          d24 = Typed.g-pre 𝓤 H A W 𝓣 E G48 G49 b21 Δ2 (Typed.give s45) at23 (Know.g-sl-known 𝓤 H A W (Referent.fInt Syntax.w16) E G48 10 4 y18 li0 0 (λ x. x) record { fits = Dec'.lit< tt } (Reads'.as-is 𝓤 H A (Mut.mslice q3 y18 4)) Path'.refl tt) d23
 
           d25 : Typed.Typed 𝓤 H A 𝓣 E G47 b21 Δ2 at25
-          d25 = Typed.g-pre 𝓤 H A W 𝓣 E G47 G48 b21 Δ2 (Typed.both s44) at24 (Relend.g-back-sl 𝓤 H A W E q3 G47 24 10 4 9 y17 y6 li0 (λ x. x) (λ x. x) (Reads'.as-is 𝓤 H A (Mut.msleft q3 y6)) (Reads'.as-is 𝓤 H A (Relend.mslice-owed q3 y17 4 9 li0)) Path'.refl Path'.refl) d24
+          d25 = Typed.g-pre 𝓤 H A W 𝓣 E G47 G48 b21 Δ2 (Typed.both s44) at24 (Relend.g-back-sl 𝓤 H A W E q3 G47 24 10 4 9 y18 y7 li0 (λ x. x) (λ x. x) (Reads'.as-is 𝓤 H A (Mut.msleft q3 y7)) (Reads'.as-is 𝓤 H A (Relend.mslice-owed q3 y18 4 9 li0)) Path'.refl Path'.refl) d24
 
           d26 : Typed.Typed 𝓤 H A 𝓣 E G45 b21 Δ2 at26
           d26 = Typed.g-pre 𝓤 H A W 𝓣 E G45 G47 b21 Δ2 (λ Ψ. Ψ) at25 (Lifetime.g-end 𝓤 H A W E G45 9 Path'.refl) d25
@@ -2014,10 +2017,10 @@ module _ (claims· : Claims) where
           d31 = Typed.g-pre 𝓤 H A W 𝓣 E G76 G77 b28 Δ0 (λ Ψ. Ψ) at30 (Lifetime.g-forget 𝓤 H A W E G76 11 Row.dead Path'.refl) d30
 
           d32 : Typed.Typed 𝓤 H A 𝓣 E G75 b28 Δ0 at32
-          d32 = Typed.g-pre 𝓤 H A W 𝓣 E G75 G76 b28 Δ0 (Typed.give s72) at31 (Know.g-sl-known 𝓤 H A W (Referent.fInt Syntax.w16) E G75 10 4 y17 li0 0 (λ x. x) record { fits = Dec'.lit< tt } (Reads'.as-is 𝓤 H A (Mut.mslice q3 y17 4)) Path'.refl tt) d31
+          d32 = Typed.g-pre 𝓤 H A W 𝓣 E G75 G76 b28 Δ0 (Typed.give s72) at31 (Know.g-sl-known 𝓤 H A W (Referent.fInt Syntax.w16) E G75 10 4 y18 li0 0 (λ x. x) record { fits = Dec'.lit< tt } (Reads'.as-is 𝓤 H A (Mut.mslice q3 y18 4)) Path'.refl tt) d31
 
           d33 : Typed.Typed 𝓤 H A 𝓣 E G74 b28 Δ0 at33
-          d33 = Typed.g-pre 𝓤 H A W 𝓣 E G74 G75 b28 Δ0 (Typed.both s71) at32 (Relend.g-back-sl 𝓤 H A W E q3 G74 28 10 4 11 y17 y6 li0 (λ x. x) (λ x. x) (Reads'.as-is 𝓤 H A (Mut.msleft q3 y6)) (Reads'.as-is 𝓤 H A (Relend.mslice-owed q3 y17 4 11 li0)) Path'.refl Path'.refl) d32
+          d33 = Typed.g-pre 𝓤 H A W 𝓣 E G74 G75 b28 Δ0 (Typed.both s71) at32 (Relend.g-back-sl 𝓤 H A W E q3 G74 28 10 4 11 y18 y7 li0 (λ x. x) (λ x. x) (Reads'.as-is 𝓤 H A (Mut.msleft q3 y7)) (Reads'.as-is 𝓤 H A (Relend.mslice-owed q3 y18 4 11 li0)) Path'.refl Path'.refl) d32
 
           d34 : Typed.Typed 𝓤 H A 𝓣 E G73 b28 Δ0 at34
           d34 = Typed.g-pre 𝓤 H A W 𝓣 E G73 G74 b28 Δ0 (λ Ψ. Ψ) at33 (Lifetime.g-end 𝓤 H A W E G73 11 Path'.refl) d33
@@ -2026,7 +2029,7 @@ module _ (claims· : Claims) where
           d35 = Typed.g-pre 𝓤 H A W 𝓣 E G72 G73 b28 Δ0 (λ Ψ. Ψ) at34 (Lifetime.g-forget 𝓤 H A W E G72 10 Row.dead Path'.refl) d34
 
           d36 : Typed.Typed 𝓤 H A 𝓣 E G71 b28 Δ0 at36
-          d36 = Typed.g-pre 𝓤 H A W 𝓣 E G71 G72 b28 Δ0 (Typed.pass T70 T72 s68) at35 (Reshare.g-back-sl-shr 𝓤 H A W E Rec·type.the-row G71 11 5 10 y18 li1 (λ x. x) (Reads'.as-is 𝓤 H A (Reshare.mslice-owedS Rec·type.the-row y18 5 10 li1)) Path'.refl Path'.refl) d35
+          d36 = Typed.g-pre 𝓤 H A W 𝓣 E G71 G72 b28 Δ0 (Typed.pass T70 T72 s68) at35 (Reshare.g-back-sl-shr 𝓤 H A W E Rec·type.the-row G71 11 5 10 y19 li1 (λ x. x) (Reads'.as-is 𝓤 H A (Reshare.mslice-owedS Rec·type.the-row y19 5 10 li1)) Path'.refl Path'.refl) d35
 
           d37 : Typed.Typed 𝓤 H A 𝓣 E G70 b28 Δ0 at37
           d37 = Typed.g-pre 𝓤 H A W 𝓣 E G70 G71 b28 Δ0 (λ Ψ. Ψ) at36 (Lifetime.g-end 𝓤 H A W E G70 10 Path'.refl) d36
@@ -2035,34 +2038,34 @@ module _ (claims· : Claims) where
           d38 = Typed.g-pre 𝓤 H A W 𝓣 E G69 G70 b28 Δ0 (Typed.pass T69 T70 s66) at37 (Scalar.g-room 𝓤 H A W E G69 14 y0 (Scalar.room-sc 𝓤 H A W z0)) d37
 
           d39 : Typed.Typed 𝓤 H A 𝓣 E G68 b28 Δ0 at39
-          d39 = Typed.g-pre 𝓤 H A W 𝓣 E G68 G69 b28 Δ0 (Typed.pass T68 T69 s65) at38 (Scalar.g-room 𝓤 H A W E G68 1 y19 (Local.room-whole 𝓤 H A W q0 y19 Path'.refl)) d38
+          d39 = Typed.g-pre 𝓤 H A W 𝓣 E G68 G69 b28 Δ0 (Typed.pass T68 T69 s65) at38 (Scalar.g-room 𝓤 H A W E G68 1 y20 (Local.room-whole 𝓤 H A W q0 y20 Path'.refl)) d38
 
           d40 : Typed.Typed 𝓤 H A 𝓣 E G67 b28 Δ0 at40
-          d40 = Typed.g-pre 𝓤 H A W 𝓣 E G67 G68 b28 Δ0 (Typed.pass T67 T68 s64) at39 (Scalar.g-room 𝓤 H A W E G67 26 y11 (Shared.room-sslice 𝓤 H A W Rec·type.the-row y10 10)) d39
+          d40 = Typed.g-pre 𝓤 H A W 𝓣 E G67 G68 b28 Δ0 (Typed.pass T67 T68 s64) at39 (Scalar.g-room 𝓤 H A W E G67 26 y12 (Shared.room-sslice 𝓤 H A W Rec·type.the-row y11 10)) d39
 
           d41 : Typed.Typed 𝓤 H A 𝓣 E G66 b29 Δ0 at41
-          d41 = Typed.s-seq 𝓤 H A W 𝓣 E G66 G67 b27 b28 Δ0 (Typed.both s63) at40 (Plain.t-call-plain 𝓤 H A W 𝓣 5 ps·4 r·4 (claims· .8) (claims· .9) "scans::candidates::try_candidates" (known .4) E (λ pos β. β) G66 (record { pos = 1; st = List.[]; d = 0; at = λ x. x }, (record { pos = 4; ty = y13; ref = λ x. x }, (Num.vAt 5 λ x. x, (Num.vAt 6 λ x. x, (Num.vAt 14 λ x. x, (record { pos = 8; ty = y15; ref = λ x. x }, (record { pos = 9; ty = y16; ref = λ x. x }, (record { pos = 26; ty = y10; ref = λ x. x }, (record { pos = 28; ty = y6; ref = λ x. x }, tt))))))))) 0 (0 ∷ 2 ∷ 3 ∷ 10 ∷ 11 ∷ []) (Call.sub-id 𝓤 H A W (G66 .slots)) ((Yields.yields-copy 𝓤 H A W (λ ρ. Unit) q0 Path'.refl (Copies.cStruct Params.the-type Laws'.the-laws Laws'.the-copy .copy 𝓤 H A W) (Rows.whole q0) (λ x. x) (λ x. x) (λ ρ told. Local.mem-whole 𝓤 H A W q0 ρ) λ ρ told. Local.whole-mem 𝓤 H A W q0 ρ, Path'.refl), (ShrSlice.spares-sslice 𝓤 H A W q2 y13 0, Shared.reads-sslice 𝓤 H A W q2 y13 0, Path'.refl, ((Scalar.reads-sc 𝓤 H A W z0, Path'.refl), ((Scalar.reads-sc 𝓤 H A W z0, Path'.refl), ((Scalar.reads-sc 𝓤 H A W z0, Path'.refl), (ShrSlice.spares-sslice 𝓤 H A W q4 y15 2, Shared.reads-sslice 𝓤 H A W q4 y15 2, Path'.refl, (ShrSlice.spares-sslice 𝓤 H A W q4 y16 3, Shared.reads-sslice 𝓤 H A W q4 y16 3, Path'.refl, (ShrSlice.spares-sslice 𝓤 H A W Rec·type.the-row y10 10, Shared.reads-sslice 𝓤 H A W Rec·type.the-row y10 10, Path'.refl, (Reads'.as-is 𝓤 H A (Mut.mslice q3 y6 11), Mut.reads-mslice 𝓤 H A W q3 y6 11, Path'.refl, tt))))))))) (Reads'.room-gone 𝓤 H A y3) (tt, (tt, (tt, (tt, (tt, tt))))) Path'.refl) d40
+          d41 = Typed.s-seq 𝓤 H A W 𝓣 E G66 G67 b27 b28 Δ0 (Typed.both s63) at40 (Plain.t-call-plain 𝓤 H A W 𝓣 5 ps·4 r·4 (claims· .8) (claims· .9) "scans::candidates::try_candidates" (known .4) E (λ pos β. β) G66 (record { pos = 1; st = List.[]; d = 0; at = λ x. x }, (record { pos = 4; ty = y14; ref = λ x. x }, (Num.vAt 5 λ x. x, (Num.vAt 6 λ x. x, (Num.vAt 14 λ x. x, (record { pos = 8; ty = y16; ref = λ x. x }, (record { pos = 9; ty = y17; ref = λ x. x }, (record { pos = 26; ty = y11; ref = λ x. x }, (record { pos = 28; ty = y7; ref = λ x. x }, tt))))))))) 0 (0 ∷ 2 ∷ 3 ∷ 10 ∷ 11 ∷ []) (Call.sub-id 𝓤 H A W (G66 .slots)) ((Yields.yields-copy 𝓤 H A W (λ ρ. Unit) q0 Path'.refl (Copies.cStruct Params.the-type Laws'.the-laws Laws'.the-copy .copy 𝓤 H A W) (Rows.whole q0) (λ x. x) (λ x. x) (λ ρ told. Local.mem-whole 𝓤 H A W q0 ρ) λ ρ told. Local.whole-mem 𝓤 H A W q0 ρ, Path'.refl), (ShrSlice.spares-sslice 𝓤 H A W q2 y14 0, Shared.reads-sslice 𝓤 H A W q2 y14 0, Path'.refl, ((Scalar.reads-sc 𝓤 H A W z0, Path'.refl), ((Scalar.reads-sc 𝓤 H A W z0, Path'.refl), ((Scalar.reads-sc 𝓤 H A W z0, Path'.refl), (ShrSlice.spares-sslice 𝓤 H A W q4 y16 2, Shared.reads-sslice 𝓤 H A W q4 y16 2, Path'.refl, (ShrSlice.spares-sslice 𝓤 H A W q4 y17 3, Shared.reads-sslice 𝓤 H A W q4 y17 3, Path'.refl, (ShrSlice.spares-sslice 𝓤 H A W Rec·type.the-row y11 10, Shared.reads-sslice 𝓤 H A W Rec·type.the-row y11 10, Path'.refl, (Reads'.as-is 𝓤 H A (Mut.mslice q3 y7 11), Mut.reads-mslice 𝓤 H A W q3 y7 11, Path'.refl, tt))))))))) (Reads'.room-gone 𝓤 H A y4) (tt, (tt, (tt, (tt, (tt, tt))))) Path'.refl) d40
 
           d42 : Typed.Typed 𝓤 H A 𝓣 E G65 b30 Δ0 at42
-          d42 = Typed.s-seq 𝓤 H A W 𝓣 E G65 G66 b26 b29 Δ0 (Typed.ask s62) at41 (Relend.t-sl-aggregate 𝓤 H A W E q3 𝓣 (Relend.asMut q3) G65 27 28 11 y6 y6 (λ x. x) (Scalar.oFld 10 ((Syntax.field 1) ∷ []) y0 8 λ v. Shared.lenV (v .0)) (Reads'.as-is 𝓤 H A (Relend.msptr q3 y6 11)) (Reads'.room-gone 𝓤 H A y7) (Relend.reads-owed-len 𝓤 H A W q3 y17 4 11 li0 8 Path'.refl, Path'.refl) Path'.refl Path'.refl λ b o k. tt) d41
+          d42 = Typed.s-seq 𝓤 H A W 𝓣 E G65 G66 b26 b29 Δ0 (Typed.ask s62) at41 (Relend.t-sl-aggregate 𝓤 H A W E q3 𝓣 (Relend.asMut q3) G65 27 28 11 y7 y7 (λ x. x) (Scalar.oFld 10 ((Syntax.field 1) ∷ []) y0 8 λ v. Shared.lenV (v .0)) (Reads'.as-is 𝓤 H A (Relend.msptr q3 y7 11)) (Reads'.room-gone 𝓤 H A y8) (Relend.reads-owed-len 𝓤 H A W q3 y18 4 11 li0 8 Path'.refl, Path'.refl) Path'.refl Path'.refl λ b o k. tt) d41
 
           d43 : Typed.Typed 𝓤 H A 𝓣 E G64 b31 Δ0 at43
-          d43 = Typed.s-seq 𝓤 H A W 𝓣 E G64 G65 b25 b30 Δ0 (Typed.give s61) at42 (Relend.t-sl-relend 𝓤 H A W E q3 𝓣 G64 10 27 4 11 y17 y6 li0 0 (λ x. x) (Reads'.as-is 𝓤 H A (Mut.mslice q3 y17 4)) (Reads'.room-gone 𝓤 H A y6) Path'.refl tt Path'.refl Path'.refl Path'.refl λ b o. tt) d42
+          d43 = Typed.s-seq 𝓤 H A W 𝓣 E G64 G65 b25 b30 Δ0 (Typed.give s61) at42 (Relend.t-sl-relend 𝓤 H A W E q3 𝓣 G64 10 27 4 11 y18 y7 li0 0 (λ x. x) (Reads'.as-is 𝓤 H A (Mut.mslice q3 y18 4)) (Reads'.room-gone 𝓤 H A y7) Path'.refl tt Path'.refl Path'.refl Path'.refl λ b o. tt) d42
 
           d44 : Typed.Typed 𝓤 H A 𝓣 E G63 b31 Δ0 at44
           d44 = Typed.g-pre 𝓤 H A W 𝓣 E G63 G64 b31 Δ0 (λ Ψ. Ψ) at43 (Lifetime.g-begin 𝓤 H A W E G63 11 (tt, (tt, (tt, (tt, (tt, (tt, (tt, (tt, (tt, (tt, (tt, ((tt, tt), (tt, (tt, (tt, (tt, (tt, (tt, (tt, (tt, (tt, (tt, (tt, (tt, (tt, (tt, (tt, (tt, (tt, tt)))))))))))))))))))))))))))))) d43
 
           d45 : Typed.Typed 𝓤 H A 𝓣 E G62 b32 Δ0 at45
-          d45 = Typed.s-seq 𝓤 H A W 𝓣 E G62 G63 b24 b31 Δ0 (Typed.ask s59) at44 (Relend.t-sl-aggregate 𝓤 H A W E Rec·type.the-row 𝓣 (Relend.asShr Rec·type.the-row) G62 25 26 10 y10 y10 (λ x. x) (Scalar.oFld 11 ((Syntax.field 1) ∷ []) y0 8 λ v. Shared.lenV (v .0)) (Reads'.as-is 𝓤 H A (Relend.ssptr Rec·type.the-row y10 10)) (Reads'.room-gone 𝓤 H A y11) (Reshare.reads-owedS-len 𝓤 H A W Rec·type.the-row y18 5 10 li1 8 Path'.refl, Path'.refl) Path'.refl Path'.refl λ b o k. tt) d44
+          d45 = Typed.s-seq 𝓤 H A W 𝓣 E G62 G63 b24 b31 Δ0 (Typed.ask s59) at44 (Relend.t-sl-aggregate 𝓤 H A W E Rec·type.the-row 𝓣 (Relend.asShr Rec·type.the-row) G62 25 26 10 y11 y11 (λ x. x) (Scalar.oFld 11 ((Syntax.field 1) ∷ []) y0 8 λ v. Shared.lenV (v .0)) (Reads'.as-is 𝓤 H A (Relend.ssptr Rec·type.the-row y11 10)) (Reads'.room-gone 𝓤 H A y12) (Reshare.reads-owedS-len 𝓤 H A W Rec·type.the-row y19 5 10 li1 8 Path'.refl, Path'.refl) Path'.refl Path'.refl λ b o k. tt) d44
 
           d46 : Typed.Typed 𝓤 H A 𝓣 E G61 b33 Δ0 at46
-          d46 = Typed.s-seq 𝓤 H A W 𝓣 E G61 G62 b23 b32 Δ0 (Typed.give s58) at45 (Reshare.t-sl-reshare 𝓤 H A W E Rec·type.the-row 𝓣 G61 11 25 5 10 y18 y10 li1 0 (λ x. x) (Reads'.as-is 𝓤 H A (Mut.mslice Rec·type.the-row y18 5)) (Reads'.room-gone 𝓤 H A y10) Path'.refl tt Path'.refl Path'.refl Path'.refl λ b o. tt) d45
+          d46 = Typed.s-seq 𝓤 H A W 𝓣 E G61 G62 b23 b32 Δ0 (Typed.give s58) at45 (Reshare.t-sl-reshare 𝓤 H A W E Rec·type.the-row 𝓣 G61 11 25 5 10 y19 y11 li1 0 (λ x. x) (Reads'.as-is 𝓤 H A (Mut.mslice Rec·type.the-row y19 5)) (Reads'.room-gone 𝓤 H A y11) Path'.refl tt Path'.refl Path'.refl Path'.refl λ b o. tt) d45
 
           d47 : Typed.Typed 𝓤 H A 𝓣 E G60 b33 Δ0 at47
           d47 = Typed.g-pre 𝓤 H A W 𝓣 E G60 G61 b33 Δ0 (λ Ψ. Ψ) at46 (Lifetime.g-begin 𝓤 H A W E G60 10 (tt, (tt, (tt, (tt, (tt, (tt, (tt, (tt, (tt, (tt, (tt, (tt, (tt, (tt, (tt, (tt, (tt, (tt, (tt, (tt, (tt, (tt, (tt, (tt, (tt, (tt, (tt, (tt, (tt, tt)))))))))))))))))))))))))))))) d46
 
           d48 : Typed.Typed 𝓤 H A 𝓣 E G59 b33 Δ0 at48
-          d48 = Typed.g-pre 𝓤 H A W 𝓣 E G59 G60 b33 Δ0 (Typed.pass T59 T60 s56) at47 (Scalar.g-room 𝓤 H A W E G59 13 y4 (Local.room-whole 𝓤 H A W q6 y4 Path'.refl)) d47
+          d48 = Typed.g-pre 𝓤 H A W 𝓣 E G59 G60 b33 Δ0 (Typed.pass T59 T60 s56) at47 (Scalar.g-room 𝓤 H A W E G59 13 y5 (Local.room-whole 𝓤 H A W q6 y5 Path'.refl)) d47
 
           d49 : Typed.Typed 𝓤 H A 𝓣 E G46 b34 Δ0 at49
           d49 = Typed.s-seq 𝓤 H A W 𝓣 E G46 G59 b22 b33 Δ0 (Typed.pass T46 T59 s55) at48 (Scalar.t-use 𝓤 H A W E 𝓣 G46 (Scalar.oFld 13 ((Syntax.field 0) ∷ []) y0 0 (Reads.fieldV Searched.the-type Laws'3.the-laws 0)) 14 (Rows.sc-here z0) y0 (Row.valS z0) (Row.sInt Syntax.w64 .of) (Reads.reads-field 𝓤 H A W Searched.the-type Laws'3.the-laws 0 y0 0 Path'.refl, Path'.refl) (Reads'.room-gone 𝓤 H A y0) (Scalar.holds-sc 𝓤 H A W z0) Path'.refl (λ u. Path'.refl) λ u. tt) d48
@@ -2071,13 +2074,13 @@ module _ (claims· : Claims) where
           d50 = Typed.t-seq 𝓤 H A W 𝓣 E G45 G46 b21 b34 Δ0 at26 at49 d26 d49
 
           d51 : Typed.Typed 𝓤 H A 𝓣 E G44 b36 Δ0 at51
-          d51 = Typed.s-seq 𝓤 H A W 𝓣 E G44 G45 b16 b35 Δ0 (Typed.both s42) at50 (Plain.t-call-plain 𝓤 H A W 𝓣 4 ps·2 r·2 (claims· .4) (claims· .5) "scans::fails::none_ends" (known .2) E (λ pos β. β) G44 (record { pos = 1; st = List.[]; d = 0; at = λ x. x }, (record { pos = 13; st = List.[]; d = 0; at = λ x. x }, (record { pos = 4; ty = y13; ref = λ x. x }, (Num.vAt 5 λ x. x, (Num.vAt 6 λ x. x, (record { pos = 8; ty = y15; ref = λ x. x }, (record { pos = 9; ty = y16; ref = λ x. x }, (record { pos = 24; ty = y6; ref = λ x. x }, tt)))))))) 22 (0 ∷ 2 ∷ 3 ∷ 9 ∷ []) (Call.sub-id 𝓤 H A W (G44 .slots)) ((Yields.yields-copy 𝓤 H A W (λ ρ. Unit) q0 Path'.refl (Copies.cStruct Params.the-type Laws'.the-laws Laws'.the-copy .copy 𝓤 H A W) (Rows.whole q0) (λ x. x) (λ x. x) (λ ρ told. Local.mem-whole 𝓤 H A W q0 ρ) λ ρ told. Local.whole-mem 𝓤 H A W q0 ρ, Path'.refl), ((Yields.yields-copy 𝓤 H A W (λ ρ. Unit) q6 Path'.refl (Copies.cStruct Searched.the-type Laws'3.the-laws Laws'3.the-copy .copy 𝓤 H A W) (Rows.whole q6) (λ x. x) (λ x. x) (λ ρ told. Local.mem-whole 𝓤 H A W q6 ρ) λ ρ told. Local.whole-mem 𝓤 H A W q6 ρ, Path'.refl), (ShrSlice.spares-sslice 𝓤 H A W q2 y13 0, Shared.reads-sslice 𝓤 H A W q2 y13 0, Path'.refl, ((Scalar.reads-sc 𝓤 H A W z0, Path'.refl), ((Scalar.reads-sc 𝓤 H A W z0, Path'.refl), (ShrSlice.spares-sslice 𝓤 H A W q4 y15 2, Shared.reads-sslice 𝓤 H A W q4 y15 2, Path'.refl, (ShrSlice.spares-sslice 𝓤 H A W q4 y16 3, Shared.reads-sslice 𝓤 H A W q4 y16 3, Path'.refl, (Reads'.as-is 𝓤 H A (Mut.mslice q3 y6 9), Mut.reads-mslice 𝓤 H A W q3 y6 9, Path'.refl, tt)))))))) (Reads'.room-gone 𝓤 H A Syntax.tyBool) (tt, (tt, (tt, (tt, tt)))) Path'.refl) d50
+          d51 = Typed.s-seq 𝓤 H A W 𝓣 E G44 G45 b16 b35 Δ0 (Typed.both s42) at50 (Plain.t-call-plain 𝓤 H A W 𝓣 4 ps·2 r·2 (claims· .4) (claims· .5) "scans::fails::none_ends" (known .2) E (λ pos β. β) G44 (record { pos = 1; st = List.[]; d = 0; at = λ x. x }, (record { pos = 13; st = List.[]; d = 0; at = λ x. x }, (record { pos = 4; ty = y14; ref = λ x. x }, (Num.vAt 5 λ x. x, (Num.vAt 6 λ x. x, (record { pos = 8; ty = y16; ref = λ x. x }, (record { pos = 9; ty = y17; ref = λ x. x }, (record { pos = 24; ty = y7; ref = λ x. x }, tt)))))))) 22 (0 ∷ 2 ∷ 3 ∷ 9 ∷ []) (Call.sub-id 𝓤 H A W (G44 .slots)) ((Yields.yields-copy 𝓤 H A W (λ ρ. Unit) q0 Path'.refl (Copies.cStruct Params.the-type Laws'.the-laws Laws'.the-copy .copy 𝓤 H A W) (Rows.whole q0) (λ x. x) (λ x. x) (λ ρ told. Local.mem-whole 𝓤 H A W q0 ρ) λ ρ told. Local.whole-mem 𝓤 H A W q0 ρ, Path'.refl), ((Yields.yields-copy 𝓤 H A W (λ ρ. Unit) q6 Path'.refl (Copies.cStruct Searched.the-type Laws'3.the-laws Laws'3.the-copy .copy 𝓤 H A W) (Rows.whole q6) (λ x. x) (λ x. x) (λ ρ told. Local.mem-whole 𝓤 H A W q6 ρ) λ ρ told. Local.whole-mem 𝓤 H A W q6 ρ, Path'.refl), (ShrSlice.spares-sslice 𝓤 H A W q2 y14 0, Shared.reads-sslice 𝓤 H A W q2 y14 0, Path'.refl, ((Scalar.reads-sc 𝓤 H A W z0, Path'.refl), ((Scalar.reads-sc 𝓤 H A W z0, Path'.refl), (ShrSlice.spares-sslice 𝓤 H A W q4 y16 2, Shared.reads-sslice 𝓤 H A W q4 y16 2, Path'.refl, (ShrSlice.spares-sslice 𝓤 H A W q4 y17 3, Shared.reads-sslice 𝓤 H A W q4 y17 3, Path'.refl, (Reads'.as-is 𝓤 H A (Mut.mslice q3 y7 9), Mut.reads-mslice 𝓤 H A W q3 y7 9, Path'.refl, tt)))))))) (Reads'.room-gone 𝓤 H A Syntax.tyBool) (tt, (tt, (tt, (tt, tt)))) Path'.refl) d50
 
           d52 : Typed.Typed 𝓤 H A 𝓣 E G43 b37 Δ0 at52
-          d52 = Typed.s-seq 𝓤 H A W 𝓣 E G43 G44 b15 b36 Δ0 (Typed.ask s41) at51 (Relend.t-sl-aggregate 𝓤 H A W E q3 𝓣 (Relend.asMut q3) G43 23 24 9 y6 y6 (λ x. x) (Scalar.oFld 10 ((Syntax.field 1) ∷ []) y0 8 λ v. Shared.lenV (v .0)) (Reads'.as-is 𝓤 H A (Relend.msptr q3 y6 9)) (Reads'.room-gone 𝓤 H A y7) (Relend.reads-owed-len 𝓤 H A W q3 y17 4 9 li0 8 Path'.refl, Path'.refl) Path'.refl Path'.refl λ b o k. tt) d51
+          d52 = Typed.s-seq 𝓤 H A W 𝓣 E G43 G44 b15 b36 Δ0 (Typed.ask s41) at51 (Relend.t-sl-aggregate 𝓤 H A W E q3 𝓣 (Relend.asMut q3) G43 23 24 9 y7 y7 (λ x. x) (Scalar.oFld 10 ((Syntax.field 1) ∷ []) y0 8 λ v. Shared.lenV (v .0)) (Reads'.as-is 𝓤 H A (Relend.msptr q3 y7 9)) (Reads'.room-gone 𝓤 H A y8) (Relend.reads-owed-len 𝓤 H A W q3 y18 4 9 li0 8 Path'.refl, Path'.refl) Path'.refl Path'.refl λ b o k. tt) d51
 
           d53 : Typed.Typed 𝓤 H A 𝓣 E G42 b38 Δ0 at53
-          d53 = Typed.s-seq 𝓤 H A W 𝓣 E G42 G43 b14 b37 Δ0 (Typed.give s40) at52 (Relend.t-sl-relend 𝓤 H A W E q3 𝓣 G42 10 23 4 9 y17 y6 li0 0 (λ x. x) (Reads'.as-is 𝓤 H A (Mut.mslice q3 y17 4)) (Reads'.room-gone 𝓤 H A y6) Path'.refl tt Path'.refl Path'.refl Path'.refl λ b o. tt) d52
+          d53 = Typed.s-seq 𝓤 H A W 𝓣 E G42 G43 b14 b37 Δ0 (Typed.give s40) at52 (Relend.t-sl-relend 𝓤 H A W E q3 𝓣 G42 10 23 4 9 y18 y7 li0 0 (λ x. x) (Reads'.as-is 𝓤 H A (Mut.mslice q3 y18 4)) (Reads'.room-gone 𝓤 H A y7) Path'.refl tt Path'.refl Path'.refl Path'.refl λ b o. tt) d52
 
           d54 : Typed.Typed 𝓤 H A 𝓣 E G41 b38 Δ0 at54
           d54 = Typed.g-pre 𝓤 H A W 𝓣 E G41 G42 b38 Δ0 (λ Ψ. Ψ) at53 (Lifetime.g-begin 𝓤 H A W E G41 9 (tt, (tt, (tt, (tt, (tt, (tt, (tt, (tt, (tt, (tt, (tt, (tt, (tt, (tt, (tt, (tt, (tt, (tt, (tt, (tt, (tt, (tt, (tt, (tt, (tt, (tt, (tt, (tt, (tt, tt)))))))))))))))))))))))))))))) d53
@@ -2086,7 +2089,7 @@ module _ (claims· : Claims) where
           d55 = Typed.g-pre 𝓤 H A W 𝓣 E G40 G41 b38 Δ0 (λ Ψ. Ψ) at54 (Lifetime.g-forget 𝓤 H A W E G40 8 Row.dead Path'.refl) d54
 
           d56 : Typed.Typed 𝓤 H A 𝓣 E G39 b38 Δ0 at56
-          d56 = Typed.g-pre 𝓤 H A W 𝓣 E G39 G40 b38 Δ0 (Typed.both s37) at55 (Relend.g-back-sl 𝓤 H A W E Rec·type.the-row G39 21 11 5 8 y18 y8 li1 (λ x. x) (λ x. x) (Reads'.as-is 𝓤 H A (Mut.msleft Rec·type.the-row y8)) (Reads'.as-is 𝓤 H A (Relend.mslice-owed Rec·type.the-row y18 5 8 li1)) Path'.refl Path'.refl) d55
+          d56 = Typed.g-pre 𝓤 H A W 𝓣 E G39 G40 b38 Δ0 (Typed.both s37) at55 (Relend.g-back-sl 𝓤 H A W E Rec·type.the-row G39 21 11 5 8 y19 y9 li1 (λ x. x) (λ x. x) (Reads'.as-is 𝓤 H A (Mut.msleft Rec·type.the-row y9)) (Reads'.as-is 𝓤 H A (Relend.mslice-owed Rec·type.the-row y19 5 8 li1)) Path'.refl Path'.refl) d55
 
           d57 : Typed.Typed 𝓤 H A 𝓣 E G38 b38 Δ0 at57
           d57 = Typed.g-pre 𝓤 H A W 𝓣 E G38 G39 b38 Δ0 (λ Ψ. Ψ) at56 (Lifetime.g-end 𝓤 H A W E G38 8 Path'.refl) d56
@@ -2095,31 +2098,31 @@ module _ (claims· : Claims) where
           d58 = Typed.g-pre 𝓤 H A W 𝓣 E G37 G38 b38 Δ0 (λ Ψ. Ψ) at57 (Lifetime.g-forget 𝓤 H A W E G37 7 Row.dead Path'.refl) d57
 
           d59 : Typed.Typed 𝓤 H A 𝓣 E G36 b38 Δ0 at59
-          d59 = Typed.g-pre 𝓤 H A W 𝓣 E G36 G37 b38 Δ0 (Typed.give s34) at58 (Know.g-sl-known 𝓤 H A W (Referent.fInt Syntax.w16) E G36 10 4 y17 li0 0 (λ x. x) record { fits = Dec'.lit< tt } (Reads'.as-is 𝓤 H A (Mut.mslice q3 y17 4)) Path'.refl tt) d58
+          d59 = Typed.g-pre 𝓤 H A W 𝓣 E G36 G37 b38 Δ0 (Typed.give s34) at58 (Know.g-sl-known 𝓤 H A W (Referent.fInt Syntax.w16) E G36 10 4 y18 li0 0 (λ x. x) record { fits = Dec'.lit< tt } (Reads'.as-is 𝓤 H A (Mut.mslice q3 y18 4)) Path'.refl tt) d58
 
           d60 : Typed.Typed 𝓤 H A 𝓣 E G35 b38 Δ0 at60
-          d60 = Typed.g-pre 𝓤 H A W 𝓣 E G35 G36 b38 Δ0 (Typed.both s33) at59 (Relend.g-back-sl 𝓤 H A W E q3 G35 19 10 4 7 y17 y6 li0 (λ x. x) (λ x. x) (Reads'.as-is 𝓤 H A (Mut.msleft q3 y6)) (Reads'.as-is 𝓤 H A (Relend.mslice-owed q3 y17 4 7 li0)) Path'.refl Path'.refl) d59
+          d60 = Typed.g-pre 𝓤 H A W 𝓣 E G35 G36 b38 Δ0 (Typed.both s33) at59 (Relend.g-back-sl 𝓤 H A W E q3 G35 19 10 4 7 y18 y7 li0 (λ x. x) (λ x. x) (Reads'.as-is 𝓤 H A (Mut.msleft q3 y7)) (Reads'.as-is 𝓤 H A (Relend.mslice-owed q3 y18 4 7 li0)) Path'.refl Path'.refl) d59
 
           d61 : Typed.Typed 𝓤 H A 𝓣 E G34 b38 Δ0 at61
           d61 = Typed.g-pre 𝓤 H A W 𝓣 E G34 G35 b38 Δ0 (λ Ψ. Ψ) at60 (Lifetime.g-end 𝓤 H A W E G34 7 Path'.refl) d60
 
           d62 : Typed.Typed 𝓤 H A 𝓣 E G33 b39 Δ0 at62
-          d62 = Typed.s-seq 𝓤 H A W 𝓣 E G33 G34 b13 b38 Δ0 (Typed.both s31) at61 (Plain.t-call-plain 𝓤 H A W 𝓣 6 ps·1 r·1 (claims· .2) (claims· .3) "scans::candidates::scan_backward" (known .1) E (λ pos β. β) G33 (record { pos = 1; st = List.[]; d = 0; at = λ x. x }, (record { pos = 4; ty = y13; ref = λ x. x }, (Num.vAt 5 λ x. x, (Num.vAt 6 λ x. x, (record { pos = 7; ty = y14; ref = λ x. x }, (record { pos = 8; ty = y15; ref = λ x. x }, (record { pos = 9; ty = y16; ref = λ x. x }, (record { pos = 19; ty = y6; ref = λ x. x }, (record { pos = 21; ty = y8; ref = λ x. x }, tt))))))))) 13 (0 ∷ 1 ∷ 2 ∷ 3 ∷ 7 ∷ 8 ∷ []) (Call.sub-id 𝓤 H A W (G33 .slots)) ((Yields.yields-copy 𝓤 H A W (λ ρ. Unit) q0 Path'.refl (Copies.cStruct Params.the-type Laws'.the-laws Laws'.the-copy .copy 𝓤 H A W) (Rows.whole q0) (λ x. x) (λ x. x) (λ ρ told. Local.mem-whole 𝓤 H A W q0 ρ) λ ρ told. Local.whole-mem 𝓤 H A W q0 ρ, Path'.refl), (ShrSlice.spares-sslice 𝓤 H A W q2 y13 0, Shared.reads-sslice 𝓤 H A W q2 y13 0, Path'.refl, ((Scalar.reads-sc 𝓤 H A W z0, Path'.refl), ((Scalar.reads-sc 𝓤 H A W z0, Path'.refl), (ShrSlice.spares-sslice 𝓤 H A W q3 y14 1, Shared.reads-sslice 𝓤 H A W q3 y14 1, Path'.refl, (ShrSlice.spares-sslice 𝓤 H A W q4 y15 2, Shared.reads-sslice 𝓤 H A W q4 y15 2, Path'.refl, (ShrSlice.spares-sslice 𝓤 H A W q4 y16 3, Shared.reads-sslice 𝓤 H A W q4 y16 3, Path'.refl, (Reads'.as-is 𝓤 H A (Mut.mslice q3 y6 7), Mut.reads-mslice 𝓤 H A W q3 y6 7, Path'.refl, (Reads'.as-is 𝓤 H A (Mut.mslice Rec·type.the-row y8 8), Mut.reads-mslice 𝓤 H A W Rec·type.the-row y8 8, Path'.refl, tt))))))))) (Reads'.room-gone 𝓤 H A y4) (tt, (tt, (tt, (tt, (tt, (tt, tt)))))) Path'.refl) d61
+          d62 = Typed.s-seq 𝓤 H A W 𝓣 E G33 G34 b13 b38 Δ0 (Typed.both s31) at61 (Plain.t-call-plain 𝓤 H A W 𝓣 6 ps·1 r·1 (claims· .2) (claims· .3) "scans::candidates::scan_backward" (known .1) E (λ pos β. β) G33 (record { pos = 1; st = List.[]; d = 0; at = λ x. x }, (record { pos = 4; ty = y14; ref = λ x. x }, (Num.vAt 5 λ x. x, (Num.vAt 6 λ x. x, (record { pos = 7; ty = y15; ref = λ x. x }, (record { pos = 8; ty = y16; ref = λ x. x }, (record { pos = 9; ty = y17; ref = λ x. x }, (record { pos = 19; ty = y7; ref = λ x. x }, (record { pos = 21; ty = y9; ref = λ x. x }, tt))))))))) 13 (0 ∷ 1 ∷ 2 ∷ 3 ∷ 7 ∷ 8 ∷ []) (Call.sub-id 𝓤 H A W (G33 .slots)) ((Yields.yields-copy 𝓤 H A W (λ ρ. Unit) q0 Path'.refl (Copies.cStruct Params.the-type Laws'.the-laws Laws'.the-copy .copy 𝓤 H A W) (Rows.whole q0) (λ x. x) (λ x. x) (λ ρ told. Local.mem-whole 𝓤 H A W q0 ρ) λ ρ told. Local.whole-mem 𝓤 H A W q0 ρ, Path'.refl), (ShrSlice.spares-sslice 𝓤 H A W q2 y14 0, Shared.reads-sslice 𝓤 H A W q2 y14 0, Path'.refl, ((Scalar.reads-sc 𝓤 H A W z0, Path'.refl), ((Scalar.reads-sc 𝓤 H A W z0, Path'.refl), (ShrSlice.spares-sslice 𝓤 H A W q3 y15 1, Shared.reads-sslice 𝓤 H A W q3 y15 1, Path'.refl, (ShrSlice.spares-sslice 𝓤 H A W q4 y16 2, Shared.reads-sslice 𝓤 H A W q4 y16 2, Path'.refl, (ShrSlice.spares-sslice 𝓤 H A W q4 y17 3, Shared.reads-sslice 𝓤 H A W q4 y17 3, Path'.refl, (Reads'.as-is 𝓤 H A (Mut.mslice q3 y7 7), Mut.reads-mslice 𝓤 H A W q3 y7 7, Path'.refl, (Reads'.as-is 𝓤 H A (Mut.mslice Rec·type.the-row y9 8), Mut.reads-mslice 𝓤 H A W Rec·type.the-row y9 8, Path'.refl, tt))))))))) (Reads'.room-gone 𝓤 H A y5) (tt, (tt, (tt, (tt, (tt, (tt, tt)))))) Path'.refl) d61
 
           d63 : Typed.Typed 𝓤 H A 𝓣 E G32 b40 Δ0 at63
-          d63 = Typed.s-seq 𝓤 H A W 𝓣 E G32 G33 b12 b39 Δ0 (Typed.ask s30) at62 (Relend.t-sl-aggregate 𝓤 H A W E Rec·type.the-row 𝓣 (Relend.asMut Rec·type.the-row) G32 20 21 8 y8 y8 (λ x. x) (Scalar.oFld 11 ((Syntax.field 1) ∷ []) y0 8 λ v. Shared.lenV (v .0)) (Reads'.as-is 𝓤 H A (Relend.msptr Rec·type.the-row y8 8)) (Reads'.room-gone 𝓤 H A y9) (Relend.reads-owed-len 𝓤 H A W Rec·type.the-row y18 5 8 li1 8 Path'.refl, Path'.refl) Path'.refl Path'.refl λ b o k. tt) d62
+          d63 = Typed.s-seq 𝓤 H A W 𝓣 E G32 G33 b12 b39 Δ0 (Typed.ask s30) at62 (Relend.t-sl-aggregate 𝓤 H A W E Rec·type.the-row 𝓣 (Relend.asMut Rec·type.the-row) G32 20 21 8 y9 y9 (λ x. x) (Scalar.oFld 11 ((Syntax.field 1) ∷ []) y0 8 λ v. Shared.lenV (v .0)) (Reads'.as-is 𝓤 H A (Relend.msptr Rec·type.the-row y9 8)) (Reads'.room-gone 𝓤 H A y10) (Relend.reads-owed-len 𝓤 H A W Rec·type.the-row y19 5 8 li1 8 Path'.refl, Path'.refl) Path'.refl Path'.refl λ b o k. tt) d62
 
           d64 : Typed.Typed 𝓤 H A 𝓣 E G31 b41 Δ0 at64
-          d64 = Typed.s-seq 𝓤 H A W 𝓣 E G31 G32 b11 b40 Δ0 (Typed.give s29) at63 (Relend.t-sl-relend 𝓤 H A W E Rec·type.the-row 𝓣 G31 11 20 5 8 y18 y8 li1 0 (λ x. x) (Reads'.as-is 𝓤 H A (Mut.mslice Rec·type.the-row y18 5)) (Reads'.room-gone 𝓤 H A y8) Path'.refl tt Path'.refl Path'.refl Path'.refl λ b o. tt) d63
+          d64 = Typed.s-seq 𝓤 H A W 𝓣 E G31 G32 b11 b40 Δ0 (Typed.give s29) at63 (Relend.t-sl-relend 𝓤 H A W E Rec·type.the-row 𝓣 G31 11 20 5 8 y19 y9 li1 0 (λ x. x) (Reads'.as-is 𝓤 H A (Mut.mslice Rec·type.the-row y19 5)) (Reads'.room-gone 𝓤 H A y9) Path'.refl tt Path'.refl Path'.refl Path'.refl λ b o. tt) d63
 
           d65 : Typed.Typed 𝓤 H A 𝓣 E G30 b41 Δ0 at65
           d65 = Typed.g-pre 𝓤 H A W 𝓣 E G30 G31 b41 Δ0 (λ Ψ. Ψ) at64 (Lifetime.g-begin 𝓤 H A W E G30 8 (tt, (tt, (tt, (tt, (tt, (tt, (tt, (tt, (tt, (tt, ((tt, tt), (tt, (tt, (tt, (tt, (tt, (tt, (tt, (tt, (tt, (tt, (tt, (tt, (tt, (tt, (tt, (tt, (tt, (tt, tt)))))))))))))))))))))))))))))) d64
 
           d66 : Typed.Typed 𝓤 H A 𝓣 E G29 b42 Δ0 at66
-          d66 = Typed.s-seq 𝓤 H A W 𝓣 E G29 G30 b10 b41 Δ0 (Typed.ask s27) at65 (Relend.t-sl-aggregate 𝓤 H A W E q3 𝓣 (Relend.asMut q3) G29 18 19 7 y6 y6 (λ x. x) (Scalar.oFld 10 ((Syntax.field 1) ∷ []) y0 8 λ v. Shared.lenV (v .0)) (Reads'.as-is 𝓤 H A (Relend.msptr q3 y6 7)) (Reads'.room-gone 𝓤 H A y7) (Relend.reads-owed-len 𝓤 H A W q3 y17 4 7 li0 8 Path'.refl, Path'.refl) Path'.refl Path'.refl λ b o k. tt) d65
+          d66 = Typed.s-seq 𝓤 H A W 𝓣 E G29 G30 b10 b41 Δ0 (Typed.ask s27) at65 (Relend.t-sl-aggregate 𝓤 H A W E q3 𝓣 (Relend.asMut q3) G29 18 19 7 y7 y7 (λ x. x) (Scalar.oFld 10 ((Syntax.field 1) ∷ []) y0 8 λ v. Shared.lenV (v .0)) (Reads'.as-is 𝓤 H A (Relend.msptr q3 y7 7)) (Reads'.room-gone 𝓤 H A y8) (Relend.reads-owed-len 𝓤 H A W q3 y18 4 7 li0 8 Path'.refl, Path'.refl) Path'.refl Path'.refl λ b o k. tt) d65
 
           d67 : Typed.Typed 𝓤 H A 𝓣 E G28 b43 Δ0 at67
-          d67 = Typed.s-seq 𝓤 H A W 𝓣 E G28 G29 b9 b42 Δ0 (Typed.give s26) at66 (Relend.t-sl-relend 𝓤 H A W E q3 𝓣 G28 10 18 4 7 y17 y6 li0 0 (λ x. x) (Reads'.as-is 𝓤 H A (Mut.mslice q3 y17 4)) (Reads'.room-gone 𝓤 H A y6) Path'.refl tt Path'.refl Path'.refl Path'.refl λ b o. tt) d66
+          d67 = Typed.s-seq 𝓤 H A W 𝓣 E G28 G29 b9 b42 Δ0 (Typed.give s26) at66 (Relend.t-sl-relend 𝓤 H A W E q3 𝓣 G28 10 18 4 7 y18 y7 li0 0 (λ x. x) (Reads'.as-is 𝓤 H A (Mut.mslice q3 y18 4)) (Reads'.room-gone 𝓤 H A y7) Path'.refl tt Path'.refl Path'.refl Path'.refl λ b o. tt) d66
 
           d68 : Typed.Typed 𝓤 H A 𝓣 E G18 b43 Δ0 at68
           d68 = Typed.g-pre 𝓤 H A W 𝓣 E G18 G28 b43 Δ0 (λ Ψ. Ψ) at67 (Lifetime.g-begin 𝓤 H A W E G18 7 (tt, (tt, (tt, (tt, (tt, (tt, (tt, (tt, (tt, (tt, (tt, (tt, (tt, (tt, (tt, (tt, (tt, (tt, (tt, (tt, (tt, (tt, (tt, (tt, (tt, (tt, (tt, (tt, (tt, tt)))))))))))))))))))))))))))))) d67
@@ -2137,43 +2140,43 @@ module _ (claims· : Claims) where
           d72 = Typed.g-pre 𝓤 H A W 𝓣 E G14 G15 b45 Δ0 (λ Ψ. Ψ) at71 (Lifetime.g-forget 𝓤 H A W E G14 6 Row.dead Path'.refl) d71
 
           d73 : Typed.Typed 𝓤 H A 𝓣 E G13 b45 Δ0 at73
-          d73 = Typed.g-pre 𝓤 H A W 𝓣 E G13 G14 b45 Δ0 (Typed.give s12) at72 (Know.g-sl-known 𝓤 H A W (Referent.fInt Syntax.w16) E G13 10 4 y17 li0 0 (λ x. x) record { fits = Dec'.lit< tt } (Reads'.as-is 𝓤 H A (Mut.mslice q3 y17 4)) Path'.refl tt) d72
+          d73 = Typed.g-pre 𝓤 H A W 𝓣 E G13 G14 b45 Δ0 (Typed.give s12) at72 (Know.g-sl-known 𝓤 H A W (Referent.fInt Syntax.w16) E G13 10 4 y18 li0 0 (λ x. x) record { fits = Dec'.lit< tt } (Reads'.as-is 𝓤 H A (Mut.mslice q3 y18 4)) Path'.refl tt) d72
 
           d74 : Typed.Typed 𝓤 H A 𝓣 E G12 b45 Δ0 at74
-          d74 = Typed.g-pre 𝓤 H A W 𝓣 E G12 G13 b45 Δ0 (Typed.both s11) at73 (Relend.g-back-sl 𝓤 H A W E q3 G12 16 10 4 6 y17 y6 li0 (λ x. x) (λ x. x) (Reads'.as-is 𝓤 H A (Mut.msleft q3 y6)) (Reads'.as-is 𝓤 H A (Relend.mslice-owed q3 y17 4 6 li0)) Path'.refl Path'.refl) d73
+          d74 = Typed.g-pre 𝓤 H A W 𝓣 E G12 G13 b45 Δ0 (Typed.both s11) at73 (Relend.g-back-sl 𝓤 H A W E q3 G12 16 10 4 6 y18 y7 li0 (λ x. x) (λ x. x) (Reads'.as-is 𝓤 H A (Mut.msleft q3 y7)) (Reads'.as-is 𝓤 H A (Relend.mslice-owed q3 y18 4 6 li0)) Path'.refl Path'.refl) d73
 
           d75 : Typed.Typed 𝓤 H A 𝓣 E G11 b45 Δ0 at75
           d75 = Typed.g-pre 𝓤 H A W 𝓣 E G11 G12 b45 Δ0 (λ Ψ. Ψ) at74 (Lifetime.g-end 𝓤 H A W E G11 6 Path'.refl) d74
 
           d76 : Typed.Typed 𝓤 H A 𝓣 E G10 b45 Δ0 at76
-          d76 = Typed.g-pre 𝓤 H A W 𝓣 E G10 G11 b45 Δ0 (Typed.pass T10 T11 s9) at75 (Scalar.g-room 𝓤 H A W E G10 2 y2 (Local.room-whole 𝓤 H A W q1 y2 Path'.refl)) d75
+          d76 = Typed.g-pre 𝓤 H A W 𝓣 E G10 G11 b45 Δ0 (Typed.pass T10 T11 s9) at75 (Scalar.g-room 𝓤 H A W E G10 2 y3 (Local.room-whole 𝓤 H A W q1 y3 Path'.refl)) d75
 
           d77 : Typed.Typed 𝓤 H A 𝓣 E G9 b46 Δ0 at77
-          d77 = Typed.s-seq 𝓤 H A W 𝓣 E G9 G10 b2 b45 Δ0 (Typed.both s8) at76 (Plain.t-call-plain 𝓤 H A W 𝓣 5 ps·0 r·0 (claims· .0) (claims· .1) "scans::quick::find_quickly" (known .0) E (λ pos β. β) G9 (record { pos = 1; st = List.[]; d = 0; at = λ x. x }, (record { pos = 2; st = List.[]; d = 0; at = λ x. x }, (Num.vAt 3 λ x. x, (record { pos = 4; ty = y13; ref = λ x. x }, (Num.vAt 5 λ x. x, (Num.vAt 6 λ x. x, (record { pos = 7; ty = y14; ref = λ x. x }, (record { pos = 8; ty = y15; ref = λ x. x }, (record { pos = 9; ty = y16; ref = λ x. x }, (record { pos = 16; ty = y6; ref = λ x. x }, tt)))))))))) 12 (0 ∷ 1 ∷ 2 ∷ 3 ∷ 6 ∷ []) (Call.sub-id 𝓤 H A W (G9 .slots)) ((Yields.yields-copy 𝓤 H A W (λ ρ. Unit) q0 Path'.refl (Copies.cStruct Params.the-type Laws'.the-laws Laws'.the-copy .copy 𝓤 H A W) (Rows.whole q0) (λ x. x) (λ x. x) (λ ρ told. Local.mem-whole 𝓤 H A W q0 ρ) λ ρ told. Local.whole-mem 𝓤 H A W q0 ρ, Path'.refl), ((Yields.yields-copy 𝓤 H A W (λ ρ. Unit) q1 Path'.refl (Copies.cStruct Carry.the-type Laws.the-laws Laws.the-copy .copy 𝓤 H A W) (Rows.whole q1) (λ x. x) (λ x. x) (λ ρ told. Local.mem-whole 𝓤 H A W q1 ρ) λ ρ told. Local.whole-mem 𝓤 H A W q1 ρ, Path'.refl), ((Scalar.reads-sc 𝓤 H A W z0, Path'.refl), (ShrSlice.spares-sslice 𝓤 H A W q2 y13 0, Shared.reads-sslice 𝓤 H A W q2 y13 0, Path'.refl, ((Scalar.reads-sc 𝓤 H A W z0, Path'.refl), ((Scalar.reads-sc 𝓤 H A W z0, Path'.refl), (ShrSlice.spares-sslice 𝓤 H A W q3 y14 1, Shared.reads-sslice 𝓤 H A W q3 y14 1, Path'.refl, (ShrSlice.spares-sslice 𝓤 H A W q4 y15 2, Shared.reads-sslice 𝓤 H A W q4 y15 2, Path'.refl, (ShrSlice.spares-sslice 𝓤 H A W q4 y16 3, Shared.reads-sslice 𝓤 H A W q4 y16 3, Path'.refl, (Reads'.as-is 𝓤 H A (Mut.mslice q3 y6 6), Mut.reads-mslice 𝓤 H A W q3 y6 6, Path'.refl, tt)))))))))) (Reads'.room-gone 𝓤 H A y3) (tt, (tt, (tt, (tt, (tt, tt))))) Path'.refl) d76
+          d77 = Typed.s-seq 𝓤 H A W 𝓣 E G9 G10 b2 b45 Δ0 (Typed.both s8) at76 (Plain.t-call-plain 𝓤 H A W 𝓣 5 ps·0 r·0 (claims· .0) (claims· .1) "scans::quick::find_quickly" (known .0) E (λ pos β. β) G9 (record { pos = 1; st = List.[]; d = 0; at = λ x. x }, (record { pos = 2; st = List.[]; d = 0; at = λ x. x }, (Num.vAt 3 λ x. x, (record { pos = 4; ty = y14; ref = λ x. x }, (Num.vAt 5 λ x. x, (Num.vAt 6 λ x. x, (record { pos = 7; ty = y15; ref = λ x. x }, (record { pos = 8; ty = y16; ref = λ x. x }, (record { pos = 9; ty = y17; ref = λ x. x }, (record { pos = 16; ty = y7; ref = λ x. x }, tt)))))))))) 12 (0 ∷ 1 ∷ 2 ∷ 3 ∷ 6 ∷ []) (Call.sub-id 𝓤 H A W (G9 .slots)) ((Yields.yields-copy 𝓤 H A W (λ ρ. Unit) q0 Path'.refl (Copies.cStruct Params.the-type Laws'.the-laws Laws'.the-copy .copy 𝓤 H A W) (Rows.whole q0) (λ x. x) (λ x. x) (λ ρ told. Local.mem-whole 𝓤 H A W q0 ρ) λ ρ told. Local.whole-mem 𝓤 H A W q0 ρ, Path'.refl), ((Yields.yields-copy 𝓤 H A W (λ ρ. Unit) q1 Path'.refl (Copies.cStruct Carry.the-type Laws.the-laws Laws.the-copy .copy 𝓤 H A W) (Rows.whole q1) (λ x. x) (λ x. x) (λ ρ told. Local.mem-whole 𝓤 H A W q1 ρ) λ ρ told. Local.whole-mem 𝓤 H A W q1 ρ, Path'.refl), ((Scalar.reads-sc 𝓤 H A W z0, Path'.refl), (ShrSlice.spares-sslice 𝓤 H A W q2 y14 0, Shared.reads-sslice 𝓤 H A W q2 y14 0, Path'.refl, ((Scalar.reads-sc 𝓤 H A W z0, Path'.refl), ((Scalar.reads-sc 𝓤 H A W z0, Path'.refl), (ShrSlice.spares-sslice 𝓤 H A W q3 y15 1, Shared.reads-sslice 𝓤 H A W q3 y15 1, Path'.refl, (ShrSlice.spares-sslice 𝓤 H A W q4 y16 2, Shared.reads-sslice 𝓤 H A W q4 y16 2, Path'.refl, (ShrSlice.spares-sslice 𝓤 H A W q4 y17 3, Shared.reads-sslice 𝓤 H A W q4 y17 3, Path'.refl, (Reads'.as-is 𝓤 H A (Mut.mslice q3 y7 6), Mut.reads-mslice 𝓤 H A W q3 y7 6, Path'.refl, tt)))))))))) (Reads'.room-gone 𝓤 H A y4) (tt, (tt, (tt, (tt, (tt, tt))))) Path'.refl) d76
 
           d78 : Typed.Typed 𝓤 H A 𝓣 E G8 b47 Δ0 at78
-          d78 = Typed.s-seq 𝓤 H A W 𝓣 E G8 G9 b1 b46 Δ0 (Typed.ask s7) at77 (Relend.t-sl-aggregate 𝓤 H A W E q3 𝓣 (Relend.asMut q3) G8 15 16 6 y6 y6 (λ x. x) (Scalar.oFld 10 ((Syntax.field 1) ∷ []) y0 8 λ v. Shared.lenV (v .0)) (Reads'.as-is 𝓤 H A (Relend.msptr q3 y6 6)) (Reads'.room-gone 𝓤 H A y7) (Relend.reads-owed-len 𝓤 H A W q3 y17 4 6 li0 8 Path'.refl, Path'.refl) Path'.refl Path'.refl λ b o k. tt) d77
+          d78 = Typed.s-seq 𝓤 H A W 𝓣 E G8 G9 b1 b46 Δ0 (Typed.ask s7) at77 (Relend.t-sl-aggregate 𝓤 H A W E q3 𝓣 (Relend.asMut q3) G8 15 16 6 y7 y7 (λ x. x) (Scalar.oFld 10 ((Syntax.field 1) ∷ []) y0 8 λ v. Shared.lenV (v .0)) (Reads'.as-is 𝓤 H A (Relend.msptr q3 y7 6)) (Reads'.room-gone 𝓤 H A y8) (Relend.reads-owed-len 𝓤 H A W q3 y18 4 6 li0 8 Path'.refl, Path'.refl) Path'.refl Path'.refl λ b o k. tt) d77
 
           d79 : Typed.Typed 𝓤 H A 𝓣 E G7 b48 Δ0 at79
-          d79 = Typed.s-seq 𝓤 H A W 𝓣 E G7 G8 b0 b47 Δ0 (Typed.give s6) at78 (Relend.t-sl-relend 𝓤 H A W E q3 𝓣 G7 10 15 4 6 y17 y6 li0 0 (λ x. x) (Reads'.as-is 𝓤 H A (Mut.mslice q3 y17 4)) (Reads'.room-gone 𝓤 H A y6) Path'.refl tt Path'.refl Path'.refl Path'.refl λ b o. tt) d78
+          d79 = Typed.s-seq 𝓤 H A W 𝓣 E G7 G8 b0 b47 Δ0 (Typed.give s6) at78 (Relend.t-sl-relend 𝓤 H A W E q3 𝓣 G7 10 15 4 6 y18 y7 li0 0 (λ x. x) (Reads'.as-is 𝓤 H A (Mut.mslice q3 y18 4)) (Reads'.room-gone 𝓤 H A y7) Path'.refl tt Path'.refl Path'.refl Path'.refl λ b o. tt) d78
 
           d80 : Typed.Typed 𝓤 H A 𝓣 E G6 b48 Δ0 at80
           d80 = Typed.g-pre 𝓤 H A W 𝓣 E G6 G7 b48 Δ0 (λ Ψ. Ψ) at79 (Lifetime.g-begin 𝓤 H A W E G6 6 (tt, (tt, (tt, (tt, (tt, (tt, (tt, (tt, (tt, (tt, (tt, (tt, (tt, (tt, (tt, (tt, (tt, (tt, (tt, (tt, (tt, (tt, (tt, (tt, (tt, (tt, (tt, (tt, (tt, tt)))))))))))))))))))))))))))))) d79
 
           d81 : Typed.Typed 𝓤 H A 𝓣 E G5 b48 Δ0 at81
-          d81 = Typed.g-pre 𝓤 H A W 𝓣 E G5 G6 b48 Δ0 (Typed.give s4) at80 (Know.g-sl-known 𝓤 H A W (Referent.fInt Syntax.w16) E G5 10 4 y17 li0 0 (λ x. x) record { fits = Dec'.lit< tt } (Reads'.as-is 𝓤 H A (Mut.mslice q3 y17 4)) Path'.refl tt) d80
+          d81 = Typed.g-pre 𝓤 H A W 𝓣 E G5 G6 b48 Δ0 (Typed.give s4) at80 (Know.g-sl-known 𝓤 H A W (Referent.fInt Syntax.w16) E G5 10 4 y18 li0 0 (λ x. x) record { fits = Dec'.lit< tt } (Reads'.as-is 𝓤 H A (Mut.mslice q3 y18 4)) Path'.refl tt) d80
 
           d82 : Typed.Typed 𝓤 H A 𝓣 E G4 b48 Δ0 at82
-          d82 = Typed.g-pre 𝓤 H A W 𝓣 E G4 G5 b48 Δ0 (Typed.give s3) at81 (Know.g-shs-known 𝓤 H A W (Referent.fFloat Ieee.binary64) E G4 9 3 y16 li5 Ieee.nan (λ x. x) (Fits.nan-fits Ieee.binary64) (Reads'.as-is 𝓤 H A (Rows.sslice q4 y16 3)) Path'.refl tt) d81
+          d82 = Typed.g-pre 𝓤 H A W 𝓣 E G4 G5 b48 Δ0 (Typed.give s3) at81 (Know.g-shs-known 𝓤 H A W (Referent.fFloat Ieee.binary64) E G4 9 3 y17 li5 Ieee.nan (λ x. x) (Fits.nan-fits Ieee.binary64) (Reads'.as-is 𝓤 H A (Rows.sslice q4 y17 3)) Path'.refl tt) d81
 
           d83 : Typed.Typed 𝓤 H A 𝓣 E G3 b48 Δ0 at83
-          d83 = Typed.g-pre 𝓤 H A W 𝓣 E G3 G4 b48 Δ0 (Typed.give s2) at82 (Know.g-shs-known 𝓤 H A W (Referent.fFloat Ieee.binary64) E G3 8 2 y15 li4 Ieee.nan (λ x. x) (Fits.nan-fits Ieee.binary64) (Reads'.as-is 𝓤 H A (Rows.sslice q4 y15 2)) Path'.refl tt) d82
+          d83 = Typed.g-pre 𝓤 H A W 𝓣 E G3 G4 b48 Δ0 (Typed.give s2) at82 (Know.g-shs-known 𝓤 H A W (Referent.fFloat Ieee.binary64) E G3 8 2 y16 li4 Ieee.nan (λ x. x) (Fits.nan-fits Ieee.binary64) (Reads'.as-is 𝓤 H A (Rows.sslice q4 y16 2)) Path'.refl tt) d82
 
           d84 : Typed.Typed 𝓤 H A 𝓣 E G2 b48 Δ0 at84
-          d84 = Typed.g-pre 𝓤 H A W 𝓣 E G2 G3 b48 Δ0 (Typed.give s1) at83 (Know.g-shs-known 𝓤 H A W (Referent.fInt Syntax.w16) E G2 7 1 y14 li3 0 (λ x. x) record { fits = Dec'.lit< tt } (Reads'.as-is 𝓤 H A (Rows.sslice q3 y14 1)) Path'.refl tt) d83
+          d84 = Typed.g-pre 𝓤 H A W 𝓣 E G2 G3 b48 Δ0 (Typed.give s1) at83 (Know.g-shs-known 𝓤 H A W (Referent.fInt Syntax.w16) E G2 7 1 y15 li3 0 (λ x. x) record { fits = Dec'.lit< tt } (Reads'.as-is 𝓤 H A (Rows.sslice q3 y15 1)) Path'.refl tt) d83
 
           d85 : Typed.Typed 𝓤 H A 𝓣 E G0 b48 Δ0 at85
-          d85 = Typed.g-pre 𝓤 H A W 𝓣 E G0 G2 b48 Δ0 (Typed.give s0) at84 (Know.g-shs-known 𝓤 H A W (Referent.fInt Syntax.w32) E G0 4 0 y13 li2 0 (λ x. x) record { fits = Dec'.lit< tt } (Reads'.as-is 𝓤 H A (Rows.sslice q2 y13 0)) Path'.refl tt) d84
+          d85 = Typed.g-pre 𝓤 H A W 𝓣 E G0 G2 b48 Δ0 (Typed.give s0) at84 (Know.g-shs-known 𝓤 H A W (Referent.fInt Syntax.w32) E G0 4 0 y14 li2 0 (λ x. x) record { fits = Dec'.lit< tt } (Reads'.as-is 𝓤 H A (Rows.sslice q2 y14 0)) Path'.refl tt) d84
 
           pub typed :
               Typed.Typed
@@ -2365,7 +2368,7 @@ module _ (claims· : Claims) where
 
       module _ (before· : After-find-quickly-arg) where
         abbrev pub After-find-quickly·own : Type 0
-        After-find-quickly·own = Called.Called ps·0 r·0 (claims· .1) T9 (record { pos = 1; st = List.[]; d = 0; at = λ x. x }, (record { pos = 2; st = List.[]; d = 0; at = λ x. x }, (Num.vAt 3 λ x. x, (record { pos = 4; ty = y13; ref = λ x. x }, (Num.vAt 5 λ x. x, (Num.vAt 6 λ x. x, (record { pos = 7; ty = y14; ref = λ x. x }, (record { pos = 8; ty = y15; ref = λ x. x }, (record { pos = 9; ty = y16; ref = λ x. x }, (record { pos = 16; ty = y6; ref = λ x. x }, tt)))))))))) (m7 (before· .before) (before· .find-quickly-arg .given))
+        After-find-quickly·own = Called.Called ps·0 r·0 (claims· .1) T9 (record { pos = 1; st = List.[]; d = 0; at = λ x. x }, (record { pos = 2; st = List.[]; d = 0; at = λ x. x }, (Num.vAt 3 λ x. x, (record { pos = 4; ty = y14; ref = λ x. x }, (Num.vAt 5 λ x. x, (Num.vAt 6 λ x. x, (record { pos = 7; ty = y15; ref = λ x. x }, (record { pos = 8; ty = y16; ref = λ x. x }, (record { pos = 9; ty = y17; ref = λ x. x }, (record { pos = 16; ty = y7; ref = λ x. x }, tt)))))))))) (m7 (before· .before) (before· .find-quickly-arg .given))
 
       pub record After-find-quickly : Type 0 where
         pub before : After-find-quickly-arg
@@ -2374,7 +2377,7 @@ module _ (claims· : Claims) where
       abbrev pub After-find-quickly·gave :
           (c : After-find-quickly) →
           s8 .gives (m7 (c .before .before) (c .before .find-quickly-arg .given))
-      After-find-quickly·gave = λ c. Called.given ps·0 r·0 (claims· .1) T9 (record { pos = 1; st = List.[]; d = 0; at = λ x. x }, (record { pos = 2; st = List.[]; d = 0; at = λ x. x }, (Num.vAt 3 λ x. x, (record { pos = 4; ty = y13; ref = λ x. x }, (Num.vAt 5 λ x. x, (Num.vAt 6 λ x. x, (record { pos = 7; ty = y14; ref = λ x. x }, (record { pos = 8; ty = y15; ref = λ x. x }, (record { pos = 9; ty = y16; ref = λ x. x }, (record { pos = 16; ty = y6; ref = λ x. x }, tt)))))))))) (m7 (c .before .before) (c .before .find-quickly-arg .given)) (c .find-quickly)
+      After-find-quickly·gave = λ c. Called.given ps·0 r·0 (claims· .1) T9 (record { pos = 1; st = List.[]; d = 0; at = λ x. x }, (record { pos = 2; st = List.[]; d = 0; at = λ x. x }, (Num.vAt 3 λ x. x, (record { pos = 4; ty = y14; ref = λ x. x }, (Num.vAt 5 λ x. x, (Num.vAt 6 λ x. x, (record { pos = 7; ty = y15; ref = λ x. x }, (record { pos = 8; ty = y16; ref = λ x. x }, (record { pos = 9; ty = y17; ref = λ x. x }, (record { pos = 16; ty = y7; ref = λ x. x }, tt)))))))))) (m7 (c .before .before) (c .before .find-quickly-arg .given)) (c .find-quickly)
 
       abbrev pub m9 :
           (before : After-find-quickly-arg) →
@@ -2539,7 +2542,7 @@ module _ (claims· : Claims) where
 
       module _ (before· : After-scan-backward-arg2) where
         abbrev pub After-scan-backward·own : Type 0
-        After-scan-backward·own = Called.Called ps·1 r·1 (claims· .3) T33 (record { pos = 1; st = List.[]; d = 0; at = λ x. x }, (record { pos = 4; ty = y13; ref = λ x. x }, (Num.vAt 5 λ x. x, (Num.vAt 6 λ x. x, (record { pos = 7; ty = y14; ref = λ x. x }, (record { pos = 8; ty = y15; ref = λ x. x }, (record { pos = 9; ty = y16; ref = λ x. x }, (record { pos = 19; ty = y6; ref = λ x. x }, (record { pos = 21; ty = y8; ref = λ x. x }, tt))))))))) (m26 (before· .before) (before· .scan-backward-arg2 .given))
+        After-scan-backward·own = Called.Called ps·1 r·1 (claims· .3) T33 (record { pos = 1; st = List.[]; d = 0; at = λ x. x }, (record { pos = 4; ty = y14; ref = λ x. x }, (Num.vAt 5 λ x. x, (Num.vAt 6 λ x. x, (record { pos = 7; ty = y15; ref = λ x. x }, (record { pos = 8; ty = y16; ref = λ x. x }, (record { pos = 9; ty = y17; ref = λ x. x }, (record { pos = 19; ty = y7; ref = λ x. x }, (record { pos = 21; ty = y9; ref = λ x. x }, tt))))))))) (m26 (before· .before) (before· .scan-backward-arg2 .given))
 
       pub record After-scan-backward : Type 0 where
         pub before : After-scan-backward-arg2
@@ -2548,7 +2551,7 @@ module _ (claims· : Claims) where
       abbrev pub After-scan-backward·gave :
           (c : After-scan-backward) →
           s31 .gives (m26 (c .before .before) (c .before .scan-backward-arg2 .given))
-      After-scan-backward·gave = λ c. Called.given ps·1 r·1 (claims· .3) T33 (record { pos = 1; st = List.[]; d = 0; at = λ x. x }, (record { pos = 4; ty = y13; ref = λ x. x }, (Num.vAt 5 λ x. x, (Num.vAt 6 λ x. x, (record { pos = 7; ty = y14; ref = λ x. x }, (record { pos = 8; ty = y15; ref = λ x. x }, (record { pos = 9; ty = y16; ref = λ x. x }, (record { pos = 19; ty = y6; ref = λ x. x }, (record { pos = 21; ty = y8; ref = λ x. x }, tt))))))))) (m26 (c .before .before) (c .before .scan-backward-arg2 .given)) (c .scan-backward)
+      After-scan-backward·gave = λ c. Called.given ps·1 r·1 (claims· .3) T33 (record { pos = 1; st = List.[]; d = 0; at = λ x. x }, (record { pos = 4; ty = y14; ref = λ x. x }, (Num.vAt 5 λ x. x, (Num.vAt 6 λ x. x, (record { pos = 7; ty = y15; ref = λ x. x }, (record { pos = 8; ty = y16; ref = λ x. x }, (record { pos = 9; ty = y17; ref = λ x. x }, (record { pos = 19; ty = y7; ref = λ x. x }, (record { pos = 21; ty = y9; ref = λ x. x }, tt))))))))) (m26 (c .before .before) (c .before .scan-backward-arg2 .given)) (c .scan-backward)
 
       abbrev pub m28 :
           (before : After-scan-backward) →
@@ -2623,7 +2626,7 @@ module _ (claims· : Claims) where
 
       module _ (before· : After-none-ends-arg) where
         abbrev pub After-none-ends·own : Type 0
-        After-none-ends·own = Called.Called ps·2 r·2 (claims· .5) T44 (record { pos = 1; st = List.[]; d = 0; at = λ x. x }, (record { pos = 13; st = List.[]; d = 0; at = λ x. x }, (record { pos = 4; ty = y13; ref = λ x. x }, (Num.vAt 5 λ x. x, (Num.vAt 6 λ x. x, (record { pos = 8; ty = y15; ref = λ x. x }, (record { pos = 9; ty = y16; ref = λ x. x }, (record { pos = 24; ty = y6; ref = λ x. x }, tt)))))))) (m32 (before· .before) (before· .none-ends-arg .given))
+        After-none-ends·own = Called.Called ps·2 r·2 (claims· .5) T44 (record { pos = 1; st = List.[]; d = 0; at = λ x. x }, (record { pos = 13; st = List.[]; d = 0; at = λ x. x }, (record { pos = 4; ty = y14; ref = λ x. x }, (Num.vAt 5 λ x. x, (Num.vAt 6 λ x. x, (record { pos = 8; ty = y16; ref = λ x. x }, (record { pos = 9; ty = y17; ref = λ x. x }, (record { pos = 24; ty = y7; ref = λ x. x }, tt)))))))) (m32 (before· .before) (before· .none-ends-arg .given))
 
       pub record After-none-ends : Type 0 where
         pub before : After-none-ends-arg
@@ -2632,7 +2635,7 @@ module _ (claims· : Claims) where
       abbrev pub After-none-ends·gave :
           (c : After-none-ends) →
           s42 .gives (m32 (c .before .before) (c .before .none-ends-arg .given))
-      After-none-ends·gave = λ c. Called.given ps·2 r·2 (claims· .5) T44 (record { pos = 1; st = List.[]; d = 0; at = λ x. x }, (record { pos = 13; st = List.[]; d = 0; at = λ x. x }, (record { pos = 4; ty = y13; ref = λ x. x }, (Num.vAt 5 λ x. x, (Num.vAt 6 λ x. x, (record { pos = 8; ty = y15; ref = λ x. x }, (record { pos = 9; ty = y16; ref = λ x. x }, (record { pos = 24; ty = y6; ref = λ x. x }, tt)))))))) (m32 (c .before .before) (c .before .none-ends-arg .given)) (c .none-ends)
+      After-none-ends·gave = λ c. Called.given ps·2 r·2 (claims· .5) T44 (record { pos = 1; st = List.[]; d = 0; at = λ x. x }, (record { pos = 13; st = List.[]; d = 0; at = λ x. x }, (record { pos = 4; ty = y14; ref = λ x. x }, (Num.vAt 5 λ x. x, (Num.vAt 6 λ x. x, (record { pos = 8; ty = y16; ref = λ x. x }, (record { pos = 9; ty = y17; ref = λ x. x }, (record { pos = 24; ty = y7; ref = λ x. x }, tt)))))))) (m32 (c .before .before) (c .before .none-ends-arg .given)) (c .none-ends)
 
       abbrev W2 :
           (before : After-none-ends-arg) →
@@ -2792,7 +2795,7 @@ module _ (claims· : Claims) where
 
       module _ (before· : After-try-candidates-arg2) where
         abbrev pub After-try-candidates·own : Type 0
-        After-try-candidates·own = Called.Called ps·4 r·4 (claims· .9) T66 (record { pos = 1; st = List.[]; d = 0; at = λ x. x }, (record { pos = 4; ty = y13; ref = λ x. x }, (Num.vAt 5 λ x. x, (Num.vAt 6 λ x. x, (Num.vAt 14 λ x. x, (record { pos = 8; ty = y15; ref = λ x. x }, (record { pos = 9; ty = y16; ref = λ x. x }, (record { pos = 26; ty = y10; ref = λ x. x }, (record { pos = 28; ty = y6; ref = λ x. x }, tt))))))))) (m49 (before· .before) (before· .try-candidates-arg2 .given))
+        After-try-candidates·own = Called.Called ps·4 r·4 (claims· .9) T66 (record { pos = 1; st = List.[]; d = 0; at = λ x. x }, (record { pos = 4; ty = y14; ref = λ x. x }, (Num.vAt 5 λ x. x, (Num.vAt 6 λ x. x, (Num.vAt 14 λ x. x, (record { pos = 8; ty = y16; ref = λ x. x }, (record { pos = 9; ty = y17; ref = λ x. x }, (record { pos = 26; ty = y11; ref = λ x. x }, (record { pos = 28; ty = y7; ref = λ x. x }, tt))))))))) (m49 (before· .before) (before· .try-candidates-arg2 .given))
 
       pub record After-try-candidates : Type 0 where
         pub before : After-try-candidates-arg2
@@ -2801,7 +2804,7 @@ module _ (claims· : Claims) where
       abbrev pub After-try-candidates·gave :
           (c : After-try-candidates) →
           s63 .gives (m49 (c .before .before) (c .before .try-candidates-arg2 .given))
-      After-try-candidates·gave = λ c. Called.given ps·4 r·4 (claims· .9) T66 (record { pos = 1; st = List.[]; d = 0; at = λ x. x }, (record { pos = 4; ty = y13; ref = λ x. x }, (Num.vAt 5 λ x. x, (Num.vAt 6 λ x. x, (Num.vAt 14 λ x. x, (record { pos = 8; ty = y15; ref = λ x. x }, (record { pos = 9; ty = y16; ref = λ x. x }, (record { pos = 26; ty = y10; ref = λ x. x }, (record { pos = 28; ty = y6; ref = λ x. x }, tt))))))))) (m49 (c .before .before) (c .before .try-candidates-arg2 .given)) (c .try-candidates)
+      After-try-candidates·gave = λ c. Called.given ps·4 r·4 (claims· .9) T66 (record { pos = 1; st = List.[]; d = 0; at = λ x. x }, (record { pos = 4; ty = y14; ref = λ x. x }, (Num.vAt 5 λ x. x, (Num.vAt 6 λ x. x, (Num.vAt 14 λ x. x, (record { pos = 8; ty = y16; ref = λ x. x }, (record { pos = 9; ty = y17; ref = λ x. x }, (record { pos = 26; ty = y11; ref = λ x. x }, (record { pos = 28; ty = y7; ref = λ x. x }, tt))))))))) (m49 (c .before .before) (c .before .try-candidates-arg2 .given)) (c .try-candidates)
 
       abbrev pub m51 :
           (before : After-try-candidates-arg2) →
@@ -2908,7 +2911,7 @@ module _ (claims· : Claims) where
             (c .before .before .before .before .before .before .before .before .before .before
             .before .before .before .before .before .before .before .before .before .before .before
             .before .args)) (m43 (c .before))
-        lay8 = λ c. λ g. (Path'.refl, λ g'. (Path'.refl, (try-candidates-requires record { before = record { before = record { before = c .before; if2 = c .if2 }; try-candidates-arg = record { given = g } }; try-candidates-arg2 = record { given = g' } }, λ g''. lay9 record { before = record { before = record { before = record { before = c .before; if2 = c .if2 }; try-candidates-arg = record { given = g } }; try-candidates-arg2 = record { given = g' } }; try-candidates = Called.called ps·4 r·4 (claims· .9) T66 (record { pos = 1; st = List.[]; d = 0; at = λ x. x }, (record { pos = 4; ty = y13; ref = λ x. x }, (Num.vAt 5 λ x. x, (Num.vAt 6 λ x. x, (Num.vAt 14 λ x. x, (record { pos = 8; ty = y15; ref = λ x. x }, (record { pos = 9; ty = y16; ref = λ x. x }, (record { pos = 26; ty = y10; ref = λ x. x }, (record { pos = 28; ty = y6; ref = λ x. x }, tt))))))))) (m49 record { before = record { before = c .before; if2 = c .if2 }; try-candidates-arg = record { given = g } } g') g'' })))
+        lay8 = λ c. λ g. (Path'.refl, λ g'. (Path'.refl, (try-candidates-requires record { before = record { before = record { before = c .before; if2 = c .if2 }; try-candidates-arg = record { given = g } }; try-candidates-arg2 = record { given = g' } }, λ g''. lay9 record { before = record { before = record { before = record { before = c .before; if2 = c .if2 }; try-candidates-arg = record { given = g } }; try-candidates-arg2 = record { given = g' } }; try-candidates = Called.called ps·4 r·4 (claims· .9) T66 (record { pos = 1; st = List.[]; d = 0; at = λ x. x }, (record { pos = 4; ty = y14; ref = λ x. x }, (Num.vAt 5 λ x. x, (Num.vAt 6 λ x. x, (Num.vAt 14 λ x. x, (record { pos = 8; ty = y16; ref = λ x. x }, (record { pos = 9; ty = y17; ref = λ x. x }, (record { pos = 26; ty = y11; ref = λ x. x }, (record { pos = 28; ty = y7; ref = λ x. x }, tt))))))))) (m49 record { before = record { before = c .before; if2 = c .if2 }; try-candidates-arg = record { given = g } } g') g'' })))
 
         lay7 :
             (c : After-nothing) →
@@ -2934,7 +2937,7 @@ module _ (claims· : Claims) where
             .before .before .before .before .κs)
             (c .before .before .before .before .before .before .before .before .before .before
             .before .before .before .before .args)) (m27 (c .before) (After-scan-backward·gave c))
-        lay5 = λ c. (Path'.refl, λ g. λ g'. (Path'.refl, λ g''. λ g'3. (Path'.refl, (none-ends-requires record { before = record { before = record { before = record { before = record { before = c .before; scan-backward = c .scan-backward }; scan-counts2 = record { given = g } }; slice-known3 = record { given = g' } }; candidates = record { given = g'' } }; none-ends-arg = record { given = g'3 } }, λ g'4. lay6 record { before = record { before = record { before = record { before = record { before = record { before = c .before; scan-backward = c .scan-backward }; scan-counts2 = record { given = g } }; slice-known3 = record { given = g' } }; candidates = record { given = g'' } }; none-ends-arg = record { given = g'3 } }; none-ends = Called.called ps·2 r·2 (claims· .5) T44 (record { pos = 1; st = List.[]; d = 0; at = λ x. x }, (record { pos = 13; st = List.[]; d = 0; at = λ x. x }, (record { pos = 4; ty = y13; ref = λ x. x }, (Num.vAt 5 λ x. x, (Num.vAt 6 λ x. x, (record { pos = 8; ty = y15; ref = λ x. x }, (record { pos = 9; ty = y16; ref = λ x. x }, (record { pos = 24; ty = y6; ref = λ x. x }, tt)))))))) (m32 record { before = record { before = record { before = record { before = c .before; scan-backward = c .scan-backward }; scan-counts2 = record { given = g } }; slice-known3 = record { given = g' } }; candidates = record { given = g'' } } g'3) g'4 }))))
+        lay5 = λ c. (Path'.refl, λ g. λ g'. (Path'.refl, λ g''. λ g'3. (Path'.refl, (none-ends-requires record { before = record { before = record { before = record { before = record { before = c .before; scan-backward = c .scan-backward }; scan-counts2 = record { given = g } }; slice-known3 = record { given = g' } }; candidates = record { given = g'' } }; none-ends-arg = record { given = g'3 } }, λ g'4. lay6 record { before = record { before = record { before = record { before = record { before = record { before = c .before; scan-backward = c .scan-backward }; scan-counts2 = record { given = g } }; slice-known3 = record { given = g' } }; candidates = record { given = g'' } }; none-ends-arg = record { given = g'3 } }; none-ends = Called.called ps·2 r·2 (claims· .5) T44 (record { pos = 1; st = List.[]; d = 0; at = λ x. x }, (record { pos = 13; st = List.[]; d = 0; at = λ x. x }, (record { pos = 4; ty = y14; ref = λ x. x }, (Num.vAt 5 λ x. x, (Num.vAt 6 λ x. x, (record { pos = 8; ty = y16; ref = λ x. x }, (record { pos = 9; ty = y17; ref = λ x. x }, (record { pos = 24; ty = y7; ref = λ x. x }, tt)))))))) (m32 record { before = record { before = record { before = record { before = c .before; scan-backward = c .scan-backward }; scan-counts2 = record { given = g } }; slice-known3 = record { given = g' } }; candidates = record { given = g'' } } g'3) g'4 }))))
 
         lay4 :
             (c : Else1) → at68 (W0
@@ -2942,7 +2945,7 @@ module _ (claims· : Claims) where
             .before .κs)
             (c .before .before .before .before .before .before .before .before .before .before
             .before .args)) (m22 (c .before))
-        lay4 = λ c. λ g. (Path'.refl, λ g'. (Path'.refl, (scan-backward-requires record { before = record { before = record { before = c .before; if1 = c .if1 }; scan-backward-arg = record { given = g } }; scan-backward-arg2 = record { given = g' } }, λ g''. lay5 record { before = record { before = record { before = record { before = c .before; if1 = c .if1 }; scan-backward-arg = record { given = g } }; scan-backward-arg2 = record { given = g' } }; scan-backward = Called.called ps·1 r·1 (claims· .3) T33 (record { pos = 1; st = List.[]; d = 0; at = λ x. x }, (record { pos = 4; ty = y13; ref = λ x. x }, (Num.vAt 5 λ x. x, (Num.vAt 6 λ x. x, (record { pos = 7; ty = y14; ref = λ x. x }, (record { pos = 8; ty = y15; ref = λ x. x }, (record { pos = 9; ty = y16; ref = λ x. x }, (record { pos = 19; ty = y6; ref = λ x. x }, (record { pos = 21; ty = y8; ref = λ x. x }, tt))))))))) (m26 record { before = record { before = c .before; if1 = c .if1 }; scan-backward-arg = record { given = g } } g') g'' })))
+        lay4 = λ c. λ g. (Path'.refl, λ g'. (Path'.refl, (scan-backward-requires record { before = record { before = record { before = c .before; if1 = c .if1 }; scan-backward-arg = record { given = g } }; scan-backward-arg2 = record { given = g' } }, λ g''. lay5 record { before = record { before = record { before = record { before = c .before; if1 = c .if1 }; scan-backward-arg = record { given = g } }; scan-backward-arg2 = record { given = g' } }; scan-backward = Called.called ps·1 r·1 (claims· .3) T33 (record { pos = 1; st = List.[]; d = 0; at = λ x. x }, (record { pos = 4; ty = y14; ref = λ x. x }, (Num.vAt 5 λ x. x, (Num.vAt 6 λ x. x, (record { pos = 7; ty = y15; ref = λ x. x }, (record { pos = 8; ty = y16; ref = λ x. x }, (record { pos = 9; ty = y17; ref = λ x. x }, (record { pos = 19; ty = y7; ref = λ x. x }, (record { pos = 21; ty = y9; ref = λ x. x }, tt))))))))) (m26 record { before = record { before = c .before; if1 = c .if1 }; scan-backward-arg = record { given = g } } g') g'' })))
 
         lay3 :
             (c : Else1) →
@@ -2968,7 +2971,7 @@ module _ (claims· : Claims) where
         lay1 = λ c. (Path'.refl, λ g. λ g'. λ g''. (tt, (λ taken. lay2 record { before = record { before = record { before = record { before = record { before = c .before; find-quickly = c .find-quickly }; scan-counts = record { given = g } }; slice-known2 = record { given = g' } }; struct-known = record { given = g'' } }; if1 = record { taken = Tests.eqb-false (Scanned.struct .as-values (Row.get 12 (T16 .locals) (m12 record { before = record { before = record { before = c .before; find-quickly = c .find-quickly }; scan-counts = record { given = g } }; slice-known2 = record { given = g' } } g'')) .0) 0 (Tests.not-true (Dec'.eqb (Scanned.struct .as-values (Row.get 12 (T16 .locals) (m12 record { before = record { before = record { before = c .before; find-quickly = c .find-quickly }; scan-counts = record { given = g } }; slice-known2 = record { given = g' } } g'')) .0) 0) taken) } }, λ left. lay3 record { before = record { before = record { before = record { before = record { before = c .before; find-quickly = c .find-quickly }; scan-counts = record { given = g } }; slice-known2 = record { given = g' } }; struct-known = record { given = g'' } }; if1 = record { left = Tests.eqb-true (Scanned.struct .as-values (Row.get 12 (T16 .locals) (m12 record { before = record { before = record { before = c .before; find-quickly = c .find-quickly }; scan-counts = record { given = g } }; slice-known2 = record { given = g' } } g'')) .0) 0 (Tests.not-false (Dec'.eqb (Scanned.struct .as-values (Row.get 12 (T16 .locals) (m12 record { before = record { before = record { before = c .before; find-quickly = c .find-quickly }; scan-counts = record { given = g } }; slice-known2 = record { given = g' } } g'')) .0) 0) left) } })))
 
         pub laid : (c : Start) → at85 (W0 (c .κs) (c .args)) (m0 (c .κs) (c .args))
-        laid = λ c. λ g. λ g'. λ g''. λ g'3. λ g'4. λ g'5. (Path'.refl, (find-quickly-requires record { before = record { before = record { before = record { before = record { before = record { before = c; shared-slice-known = record { given = g } }; shared-slice-known2 = record { given = g' } }; shared-slice-known3 = record { given = g'' } }; shared-slice-known4 = record { given = g'3 } }; slice-known = record { given = g'4 } }; find-quickly-arg = record { given = g'5 } }, λ g'6. lay1 record { before = record { before = record { before = record { before = record { before = record { before = record { before = c; shared-slice-known = record { given = g } }; shared-slice-known2 = record { given = g' } }; shared-slice-known3 = record { given = g'' } }; shared-slice-known4 = record { given = g'3 } }; slice-known = record { given = g'4 } }; find-quickly-arg = record { given = g'5 } }; find-quickly = Called.called ps·0 r·0 (claims· .1) T9 (record { pos = 1; st = List.[]; d = 0; at = λ x. x }, (record { pos = 2; st = List.[]; d = 0; at = λ x. x }, (Num.vAt 3 λ x. x, (record { pos = 4; ty = y13; ref = λ x. x }, (Num.vAt 5 λ x. x, (Num.vAt 6 λ x. x, (record { pos = 7; ty = y14; ref = λ x. x }, (record { pos = 8; ty = y15; ref = λ x. x }, (record { pos = 9; ty = y16; ref = λ x. x }, (record { pos = 16; ty = y6; ref = λ x. x }, tt)))))))))) (m7 record { before = record { before = record { before = record { before = record { before = c; shared-slice-known = record { given = g } }; shared-slice-known2 = record { given = g' } }; shared-slice-known3 = record { given = g'' } }; shared-slice-known4 = record { given = g'3 } }; slice-known = record { given = g'4 } } g'5) g'6 }))
+        laid = λ c. λ g. λ g'. λ g''. λ g'3. λ g'4. λ g'5. (Path'.refl, (find-quickly-requires record { before = record { before = record { before = record { before = record { before = record { before = c; shared-slice-known = record { given = g } }; shared-slice-known2 = record { given = g' } }; shared-slice-known3 = record { given = g'' } }; shared-slice-known4 = record { given = g'3 } }; slice-known = record { given = g'4 } }; find-quickly-arg = record { given = g'5 } }, λ g'6. lay1 record { before = record { before = record { before = record { before = record { before = record { before = record { before = c; shared-slice-known = record { given = g } }; shared-slice-known2 = record { given = g' } }; shared-slice-known3 = record { given = g'' } }; shared-slice-known4 = record { given = g'3 } }; slice-known = record { given = g'4 } }; find-quickly-arg = record { given = g'5 } }; find-quickly = Called.called ps·0 r·0 (claims· .1) T9 (record { pos = 1; st = List.[]; d = 0; at = λ x. x }, (record { pos = 2; st = List.[]; d = 0; at = λ x. x }, (Num.vAt 3 λ x. x, (record { pos = 4; ty = y14; ref = λ x. x }, (Num.vAt 5 λ x. x, (Num.vAt 6 λ x. x, (record { pos = 7; ty = y15; ref = λ x. x }, (record { pos = 8; ty = y16; ref = λ x. x }, (record { pos = 9; ty = y17; ref = λ x. x }, (record { pos = 16; ty = y7; ref = λ x. x }, tt)))))))))) (m7 record { before = record { before = record { before = record { before = record { before = c; shared-slice-known = record { given = g } }; shared-slice-known2 = record { given = g' } }; shared-slice-known3 = record { given = g'' } }; shared-slice-known4 = record { given = g'3 } }; slice-known = record { given = g'4 } } g'5) g'6 }))
 
         module _ (κs : Lifetimes.Lfts 6) (qs : Lifetimes.Shares 6) where
           pub asked :
