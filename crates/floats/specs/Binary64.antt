@@ -3,7 +3,7 @@ use mathlib.Core.Bool.{Bool, _&&_}
 use Prim.Native.Nat.{ℕ, _^_}
 use lib.IntN.{ℤ, pos}
 use lib.Ieee.{Float, binary64, ofBits, ofInt, lt, neg}
-use Rattle.floats.specs.Value.{value}
+use Rattle.floats.specs.Value.{value, posPart, negPart}
 
 -- ---- units of 2 ^ -1074
 -- the number 1
@@ -12,6 +12,12 @@ one = 2 ^ 1074
 
 abbrev pub value64 : Float → ℤ
 value64 x = value binary64 x
+
+abbrev pub pos64 : Float → ℕ
+pos64 x = posPart binary64 x
+
+abbrev pub neg64 : Float → ℕ
+neg64 x = negPart binary64 x
 
 -- ---- numbers as floats
 abbrev pub number : ℕ → Float

@@ -22,6 +22,13 @@ magnitude f (fin s m e) = m * up e * 2 ^ low f / down e
 unfoldable pub value : Format → Float → ℤ
 value f x = cond (sign x) (negℤ (pos (magnitude f x))) (pos (magnitude f x))
 
+-- the same as two naturals of which one is 0: value = posPart - negPart
+unfoldable pub posPart : Format → Float → ℕ
+posPart f x = cond (sign x) 0 (magnitude f x)
+
+unfoldable pub negPart : Format → Float → ℕ
+negPart f x = cond (sign x) (magnitude f x) 0
+
 -- x is a number of the format: no NaN, no infinity
 pub record Finite (f : Format) (x : Float) : Type 0 where
   pub finite : T (finite x)

@@ -64,7 +64,7 @@ pub agree-as : {S S′ : Setup} → Agree S S′ → S′ ≡ withTables S (S′
 agree-as {S} {S′} a = rw (a .kmer, a .window-size, a .score-threshold, a .min-start-cnt, a .drop-limit, a .approx, a .max-test)
 
 -- A k-mer that stands in a window is counted there.
-count-some : (q : List Place) (i x : ℕ) → getD q i ambiguous ≡ plain x → 1 ≤ count x q
+pub count-some : (q : List Place) (i x : ℕ) → getD q i ambiguous ≡ plain x → 1 ≤ count x q
 count-some [] i x e = absurd (let z : _≡_ {A = ℕ} 0 1 = cc in omega arith)
 count-some (p ∷ q) zero x e = rw e (omega (arith, hit-self x))
 count-some (p ∷ q) (suc i) x e = omega (arith, count-some q i x e)

@@ -25,6 +25,7 @@ use Rattle.scans.specs.Setup.{Setup, lnAt, fAt, kmers}
 use Rattle.scans.specs.Counts.{count, lower}
 use Rattle.scans.specs.Scans.{dustForward}
 use Rattle.scans.specs.Terms.Window.{countedValue}
+use Rattle.scans.specs.Terms.Certain.{distance}
 use Rattle.scans.specs.Terms.Fails.{NoneEnds}
 use Rattle.scans.proofs.Counting.{count-append, count-snoc, hit-self, below-right, below-drop, below-take, Counted, lower-newest}
 use Rattle.scans.proofs.Exact.{added}
@@ -33,34 +34,30 @@ use Rattle.scans.proofs.Gain.{InRange, gain, added-ranged, gain-snoc}
 use Rattle.scans.proofs.Rising.{gain-rise}
 use Rattle.scans.proofs.Shape.{margin, margin-eps, unevenness, unevenness-eps, UsualShape, f-widens}
 
--- 2^-10, by which the floats must be apart.
-abbrev pub certain : Float
-certain = ofBits binary64 0x3f50_0000_0000_0000
+abbrev distance-units : ℕ
+distance-units = 17592186044416 * eps
 
-abbrev certain-units : ℕ
-certain-units = 17592186044416 * eps
-
-certain-sized : Sized false certain-units certain
+distance-sized : Sized false distance-units distance
 unfolding ofBits fits magnitude eps
-certain-sized = record { ok = record { finite = tt; fits = tt }; sign-is = refl; units = refl }
+distance-sized = record { ok = record { finite = tt; fits = tt }; sign-is = refl; units = refl }
 
 -- P - N written otherwise.
-after-shift : {s : Float} {i P N : ℕ} (Q R : ℕ) → After i s P N → P + R ≡ Q + N → After i s Q R
+pub after-shift : {s : Float} {i P N : ℕ} (Q R : ℕ) → After i s P N → P + R ≡ Q + N → After i s Q R
 after-shift Q R a e = record { near = near-as (a .near) e (omega arith); high = omega (arith, a .high); low = omega (arith, a .low) }
 
 -- The difference of two f entries, less 2^-10.
-less-certain : (s : Float) (P N : ℕ) → Near binary64 s P N (1048576 * eps) → P ≤ 1048576 * one → N ≤ 1048576 * one → Near binary64 (s ⊖ certain) P (N + certain-units) (3145728 * eps)
-less-certain s P N d p n =
-    let c = certain-sized in
+less-distance : (s : Float) (P N : ℕ) → Near binary64 s P N (1048576 * eps) → P ≤ 1048576 * one → N ≤ 1048576 * one → Near binary64 (s ⊖ distance) P (N + distance-units) (3145728 * eps)
+less-distance s P N d p n =
+    let c = distance-sized in
     let cp = sized-parts c in
-    let small : 1048576 * eps + certain-units ≤ one = let oe = one-eps in omega arith in
+    let small : 1048576 * eps + distance-units ≤ one = let oe = one-eps in omega arith in
     near-as (count-sub 21 (lit≤ tt) d (c .ok) (omega (arith, cp .0, cp .1)) (omega (arith, cp .0, cp .1))) (omega (arith, cp .0, cp .1)) (omega arith)
 
-between : (x y : Float) → Ranged 1048576 x → Ranged 1048576 y → Near binary64 (x ⊖ y ⊖ certain) (pos64 x) (pos64 y + certain-units) (3145728 * eps)
+between : (x y : Float) → Ranged 1048576 x → Ranged 1048576 y → Near binary64 (x ⊖ y ⊖ distance) (pos64 x) (pos64 y + distance-units) (3145728 * eps)
 between x y X Y =
     let xl = X .low in
     let yl = Y .low in
-    less-certain (x ⊖ y) (pos64 x) (pos64 y) (near-as (count-sub 20 (lit≤ tt) (near-self (X .ok)) (Y .ok) (omega (arith, X .high)) (omega (arith, Y .high))) (omega arith) (omega arith)) (X .high) (Y .high)
+    less-distance (x ⊖ y) (pos64 x) (pos64 y) (near-as (count-sub 20 (lit≤ tt) (near-self (X .ok)) (Y .ok) (omega (arith, X .high)) (omega (arith, Y .high))) (omega arith) (omega arith)) (X .high) (Y .high)
 
 -- ---- In naturals: D, U, A, W are gains, T and the f entries in units, for `size` places of which `rest` are not among the l newest.
 weighed : (D U A W t F G P Q l rest size : ℕ) → size ≡ rest + l → size ≤ 65535 → A + Q + margin ≤ W + l * t + P → D + W ≤ A + U → P + G ≤ F + Q + l * unevenness
@@ -76,7 +73,7 @@ weighed D U A W t F G P Q l rest size e k short less wide best =
     let se : size * eps ≤ 65535 * eps = mul-le-mul-right eps k in
     omega arith
 
-settled : (A Y Z W l : ℕ) → l ≤ 65535 → A + (Y + certain-units) < Z + W + (err l + 3145728 * eps) → A + Y + margin ≤ W + Z
+settled : (A Y Z W l : ℕ) → l ≤ 65535 → A + (Y + distance-units) < Z + W + (err l + 3145728 * eps) → A + Y + margin ≤ W + Z
 settled A Y Z W l k h = let m = margin-eps in let le : l * eps ≤ 65535 * eps = mul-le-mul-right eps k in omega arith
 
 -- The places of q from a on but for the l newest.
@@ -193,9 +190,9 @@ module _ (S : Setup) (R : InRange S) (shape : UsualShape S) (q : List Place) (b 
           }
 
       abbrev limit : Float
-      limit = fAt S (n - z) ⊖ fAt S (n - z - (l + 1)) ⊖ certain
+      limit = fAt S (n - z) ⊖ fAt S (n - z - (l + 1)) ⊖ distance
 
-      limit-near : Near binary64 limit (pos64 (fAt S (n - z))) (pos64 (fAt S (n - z - (l + 1))) + certain-units) (3145728 * eps)
+      limit-near : Near binary64 limit (pos64 (fAt S (n - z))) (pos64 (fAt S (n - z - (l + 1))) + distance-units) (3145728 * eps)
       limit-near =
           let x = R .f-ranged (n - z) (omega arith) (omega arith) in
           let y = R .f-ranged (n - z - (l + 1)) (omega arith) (omega arith) in

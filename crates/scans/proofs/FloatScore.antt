@@ -68,14 +68,15 @@ module _ (S : Setup) (R : InRange S) where
       (summed-all (seen ++ e ∷ []) es (s ⊕ (value S counts e ⊖ t)) (raise counts e) (b .1) (omega (arith, length-append seen (e ∷ []))) (raise-counted (kmers S) counts seen e (b .0) c)
       (summed-more seen s counts e (b .0) (omega arith) c a))
 
+  -- The whole sum.
+  pub float-sum : (es : List Place) → Below (kmers S) es → length es ≤ S .window-size → After (length es) (sumOver (value S) t zero64 (cleared S) es) (gain S es) (length es * pos64 t)
+  float-sum es b l = summed-all [] es zero64 (cleared S) b (omega arith) (cleared-counted (kmers S)) (after-as after-start refl (sym (gain-none S)) (omega arith))
+
   -- In naturals.
   pub float-near : (es : List Place) → Below (kmers S) es → length es ≤ S .window-size → 0 < length es
       → Near binary64 (floatScore S es) (gain S es) (loss S (length es)) (err (length es + 1))
   unfolding floatScore
-  float-near es b l some =
-      let a : Summed es (sumOver (value S) t zero64 (cleared S) es) =
-      summed-all [] es zero64 (cleared S) b (omega arith) (cleared-counted (kmers S)) (after-as after-start refl (sym (gain-none S)) (omega arith)) in
-      after-score a (omega (arith, R .window-small)) (R .f-ranged (length es) some l)
+  float-near es b l some = after-score (float-sum es b l) (omega (arith, R .window-small)) (R .f-ranged (length es) some l)
 
   -- In whole numbers, for places in the order read.
   pub float-within : (es : List Place) → Below (kmers S) es → length es ≤ S .window-size → 0 < length es → Close (length es + 1) (floatScore S es) (score S es)

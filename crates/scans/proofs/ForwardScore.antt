@@ -4,12 +4,13 @@ use mathlib.Core.Path.{_≡_, refl, sym, ap, _∙_, subst}
 use Prim.Native.Nat.{ℕ, zero, suc, _+_, _≤_, _<_}
 use native.Mathlib.Nat.{eq-or-lt-of-le}
 use native.Mathlib.Omega.{arith}
+use mathlib.Core.Bool.{Bool, false}
 use mathlib.Core.Logic.{⊎-elim}
 use mathlib.Core.List.{List, [], _∷_}
 use lib.ListN.{length, take, drop, length-take, length-drop}
 use lib.Seq.{take-length}
 use lib.Dec.{T}
-use lib.Ieee.{Float, binary64, add, sub, lt, le}
+use lib.Ieee.{Float, binary64, inf, add, sub, lt, le}
 use Rattle.floats.specs.Arithmetic.{_⊕_}
 use Rattle.floats.specs.Binary64.{zero64, slack}
 use Rattle.floats.proofs.Compare.{le-self}
@@ -27,6 +28,7 @@ use Rattle.scans.proofs.Counting.{below-drop, below-take}
 use Rattle.scans.proofs.Gain.{InRange, gain, loss}
 use Rattle.scans.proofs.FloatScore.{float-near}
 use Rattle.scans.proofs.Judging.{forward-judges}
+use Rattle.scans.proofs.WholeScan.{never-above}
 
 -- ---- Any float bits.
 pub forward-inside : (S : Setup) (q : List Place) (j : ℕ) (m : Float) → 0 < length q → dustForward S q j m .sums .found ≡ length q → j < length q
@@ -61,10 +63,10 @@ module _ (S : Setup) where
 -- ---- A scan from index j over the scores x that are numbers.
 module _ (x : ℕ → Float) (j : ℕ) where
   -- Before the l-th score: no score is above the best, and a best at the newest place is its score.
-  record Leads (l : ℕ) (b : Best) : Type 0 where
-    number : T (le (b .best) (b .best))
+  pub record Leads (l : ℕ) (b : Best) : Type 0 where
+    pub number : T (le (b .best) (b .best))
     before : b .found < j + l
-    top : (L : ℕ) → 0 < L → L < l → T (le (x L) (b .best))
+    pub top : (L : ℕ) → 0 < L → L < l → T (le (x L) (b .best))
     newest : (L : ℕ) → 0 < L → L + 1 ≡ l → b .found ≡ j + L → b .best ≡ x L
 
   leads-on : (l : ℕ) (b : Best) → T (le (x l) (x l)) → Leads l b → Leads (l + 1) (better b (x l) (j + l))
@@ -100,6 +102,22 @@ module _ (x : ℕ → Float) (j : ℕ) where
       (λ _ (g : b′ .found ≡ j + n). let q : l + 1 ≡ n + 1 = omega (arith, h′ .before) in subst (λ (z : ℕ). Leads z b′) q h′)
       (λ _ (g : forwardOver limit x j m (l + 1) b′ .found ≡ j + n). leads-end limit n r m (l + 1) b′ (omega arith) (omega arith) h′ g) f
 
+  leads-on-all : (n : ℕ) → ((L : ℕ) → 0 < L → L ≤ n → T (le (x L) (x L))) → (m l : ℕ) (b : Best) → 0 < l → l + m ≡ n + 1 → Leads l b → Leads (n + 1) (forwardOver (inf false) x j m l b)
+  unfolding forwardOver
+  leads-on-all n r zero l b p e h = let q : l ≡ n + 1 = omega arith in subst (λ (z : ℕ). Leads z b) q h
+  leads-on-all n r (suc m) l b p e h =
+      let b′ : Best = better b (x l) (j + l) in
+      by-test (λ (c : Best). Leads (n + 1) c) (lt (inf false) (x l)) b′ (forwardOver (inf false) x j m (l + 1) b′)
+      (λ t. absurd (subst (λ (c : Bool). T c) (never-above (x l)) t))
+      (λ _. leads-on-all n r m (l + 1) b′ (omega arith) (omega arith) (leads-on l b (r l p (omega arith)) h))
+
+  leads-start : Leads 1 (bestOf forwardStart)
+  leads-start = record { number = le-self (zero-near .ok); before = omega arith; top = λ L p k. absurd (omega arith); newest = λ L p k f. absurd (omega arith) }
+
+  -- To the n-th, if nothing stops it.
+  pub leads-all : (n : ℕ) → ((L : ℕ) → 0 < L → L ≤ n → T (le (x L) (x L))) → Leads (n + 1) (forwardOver (inf false) x j n 1 (bestOf forwardStart))
+  leads-all n r = leads-on-all n r n 1 (bestOf forwardStart) (omega arith) (omega arith) leads-start
+
 -- ---- Tables in range. A find: the scan from index j is best at the newest entry.
 module _ (S : Setup) (R : InRange S) (q : List Place) (j : ℕ) (m : Float) (b : Below (kmers S) q) (h : length q ≤ S .window-size) (some : 0 < length q)
     (e : dustForward S q j m .sums .found ≡ length q) where
@@ -122,10 +140,8 @@ module _ (S : Setup) (R : InRange S) (q : List Place) (j : ℕ) (m : Float) (b :
   leads =
       let x : ℕ → Float = λ (L : ℕ). floatScore S (take L d) in
       let same = forward-judges S q j m in
-      let starts : Leads x j 1 (bestOf forwardStart) =
-      record { number = le-self (zero-near .ok); before = omega arith; top = λ L p k. absurd (omega arith); newest = λ L p k f. absurd (omega arith) } in
       subst (λ (c : Best). Leads x j (length d + 1) c) (sym same)
-      (leads-end x j (m ⊕ slack) (length d) (λ L p k. le-self (near L p .ok)) (length d) 1 (bestOf forwardStart) (omega arith) (omega arith) starts
+      (leads-end x j (m ⊕ slack) (length d) (λ L p k. le-self (near L p .ok)) (length d) 1 (bestOf forwardStart) (omega arith) (omega arith) (leads-start x j)
       (ap (λ (c : Best). c .found) (sym same) ∙ found-newest))
 
   -- Its best is the score of the stretch from there to the newest,

@@ -14,6 +14,7 @@ use Rattle.letters.specs.Place.{Place, ambiguous, plain, BelowAt, Below}
 use Rattle.scans.specs.Setup.{Setup, lnAt, fAt, kmers}
 use Rattle.scans.specs.Counts.{count}
 use Rattle.scans.specs.Score.{lnSum, lnSums, lnValue, score}
+unfoldable pub use Rattle.scans.specs.Terms.Units.{gain, loss}
 use Rattle.scans.proofs.Counting.{count-le}
 use Rattle.scans.proofs.Exact.{adds, added, added-value, sums-snoc, sums-cons, sums-none}
 
@@ -24,14 +25,6 @@ pub record InRange (S : Setup) : Type 0 where
   pub t-ranged : Ranged 16 (S .score-threshold)
   pub ln-ranged : (c : ℕ) → 0 < c → c ≤ S .window-size → Ranged 16 (lnAt S c)
   pub f-ranged : (l : ℕ) → 0 < l → l ≤ S .window-size → Ranged 1048576 (fAt S l)
-
--- The sum over k-mers.
-unfoldable pub gain : Setup → List Place → ℕ
-gain S q = natAbs (lnSums (lnValue S) (kmers S) q)
-
--- L times T, and f entry L.
-abbrev pub loss : Setup → ℕ → ℕ
-loss S l = l * pos64 (S .score-threshold) + pos64 (fAt S l)
 
 -- ---- Numbers that are not below 0.
 abbrev NonNegative : ℤ → Type 0

@@ -2,11 +2,11 @@
 use mathlib.Core.Path.{_≡_, refl, sym, ap, ap₂, _∙_, subst}
 use Prim.Native.Nat.{ℕ, zero, suc, _+_, _≤_, _<_}
 use native.Mathlib.Omega.{arith}
-use mathlib.Core.Bool.{cond}
+use mathlib.Core.Bool.{false, cond}
 use mathlib.Core.List.{List, [], _∷_, _++_, reverse, reverse-append}
 use lib.ListN.{length, getD, take, drop, length-append}
 use lib.Seq.{append-snoc, take-append-add, take-suc, take-length}
-use lib.Ieee.{Float, le, lt}
+use lib.Ieee.{Float, inf, le, lt}
 use Rattle.floats.specs.Arithmetic.{_⊕_, _⊖_}
 use Rattle.floats.specs.Binary64.{zero64, slack}
 use Rattle.letters.specs.Place.{Place, ambiguous}
@@ -14,6 +14,7 @@ use Rattle.scans.specs.Setup.{Setup, fAt}
 use Rattle.scans.specs.Counts.{raise, cleared}
 use Rattle.scans.specs.Scans.{value, secondValue, ForwardSums, forwardStart, forwardJudged, Forward, forwardFrom, dustForward, Candidate, BackwardSums, backwardStart, noted, isDropped, backwardJudged, Backward, backwardFrom}
 use Rattle.scans.specs.Judged.{sumOver, floatScore, secondScore, Best, bestOf, better, forwardOver, Peaks, peaksOf, backwardOver}
+use Rattle.scans.specs.Terms.Carry.{wholeForward}
 use Rattle.scans.proofs.Test.{by-test, by-test-both}
 
 -- ---- The sum s and the counts after the places seen: what they come to with any places more, the whole comes to from the start.
@@ -73,6 +74,10 @@ pub forward-judges : (S : Setup) (q : List Place) (j : ℕ) (m : Float)
     → bestOf (dustForward S q j m .sums) ≡ forwardOver (m ⊕ slack) (λ (L : ℕ). floatScore S (take L (drop j q))) j (length (drop j q)) 1 (bestOf forwardStart)
 unfolding dustForward
 forward-judges S q j m = forward-from S (m ⊕ slack) j (drop j q) [] (drop j q) 1 j forwardStart (cleared S) refl refl refl (read-none S (value S))
+
+-- The one that is never stopped.
+pub whole-judges : (S : Setup) (es : List Place) → bestOf (wholeForward S es .sums) ≡ forwardOver (inf false) (λ (L : ℕ). floatScore S (take L es)) 0 (length es) 1 (bestOf forwardStart)
+whole-judges S es = forward-from S (inf false) 0 es [] es 1 0 forwardStart (cleared S) refl refl refl (read-none S (value S))
 
 -- ---- The backward scan.
 module _ (S : Setup) (q : List Place) where

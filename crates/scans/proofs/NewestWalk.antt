@@ -20,12 +20,13 @@ use Rattle.scans.specs.Terms.Shape.{Usual}
 use Rattle.scans.specs.Terms.Window.{At, ringIndex, queue, window, countedValue}
 use Rattle.scans.specs.Terms.Parts.{Queued}
 use Rattle.scans.specs.Terms.Carry.{Touched}
+use Rattle.scans.specs.Terms.Certain.{distance}
 use Rattle.scans.specs.Terms.Fails.{FallsShort}
 use Rattle.scans.proofs.Counting.{count-append, count-le}
 use Rattle.scans.proofs.Ring.{ring-index-at, queue-at, window-at, window-length}
 use Rattle.scans.proofs.Walk.{queued-below}
 use Rattle.scans.proofs.Shape.{usual-range, usual-shape}
-use Rattle.scans.proofs.FallShort.{certain, without, Back, back-start, back-next, told-short, none-ends}
+use Rattle.scans.proofs.FallShort.{without, Back, back-start, back-next, told-short, none-ends}
 
 -- Only the places from a on have counts.
 back-touched : (S : Setup) (q : List Place) (a z l : ℕ) (s : Float) (counts : List ℕ) → Back S q a z l s counts → Touched counts (drop a q)
@@ -90,14 +91,14 @@ module _ (p : Params) (ring : List ℕ) (head len : ℕ) (ln f : List Float) (u 
       walk-next counts′ is =
           rw (is, e) (back-next S (usual-range u) (usual-shape u) q (queued-below r) short a z older l s counts c (omega (arith, long)) (decode entry) newest-here)
 
-      pub walk-tells : lt s′ (fAt S (len - z) ⊖ fAt S (len - z - (l + 1)) ⊖ certain) ≡ true → FallsShort S q a z true counts
+      pub walk-tells : lt s′ (fAt S (len - z) ⊖ fAt S (len - z - (l + 1)) ⊖ distance) ≡ true → FallsShort S q a z true counts
       walk-tells t =
           let x : Float = s ⊕ (countedValue ln counts (decode entry) ⊖ p .«score_threshold») in
-          let test : T (lt x (fAt S (len - z) ⊖ fAt S (len - z - (l + 1)) ⊖ certain)) = rw (← e, t) tt in
+          let test : T (lt x (fAt S (len - z) ⊖ fAt S (len - z - (l + 1)) ⊖ distance)) = rw (← e, t) tt in
           record {
             told = λ _.
                 none-ends S (usual-range u) (usual-shape u) q (queued-below r) short a z older (l + 1) (omega arith) (omega (arith, long))
                 (told-short S (usual-range u) (usual-shape u) q (queued-below r) short a z older l s counts c (omega (arith, long)) (decode entry) newest-here
-                (subst (λ (n : ℕ). T (lt x (fAt S (n - z) ⊖ fAt S (n - z - (l + 1)) ⊖ certain))) (sym long) test));
+                (subst (λ (n : ℕ). T (lt x (fAt S (n - z) ⊖ fAt S (n - z - (l + 1)) ⊖ distance))) (sym long) test));
             touched = back-touched S q a z l s counts c;
           }

@@ -25,7 +25,7 @@ pub record Fall (cs : List Candidate) : Type 0 where
   pub falls : (i j : ℕ) → i < j → j < length cs → getD cs j noCandidate .place < getD cs i noCandidate .place
 
 -- ---- One place more.
-every : (P : ℕ → Type 0) (cs : List Candidate) (c : Candidate) → ((i : ℕ) → i < length cs → P (getD cs i noCandidate .place)) → P (c .place)
+pub every : (P : ℕ → Type 0) (cs : List Candidate) (c : Candidate) → ((i : ℕ) → i < length cs → P (getD cs i noCandidate .place)) → P (c .place)
     → (i : ℕ) → i < length (cs ++ c ∷ []) → P (getD (cs ++ c ∷ []) i noCandidate .place)
 every P [] c h p zero l = p
 every P [] c h p (suc i) l = absurd (omega arith)

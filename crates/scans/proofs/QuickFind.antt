@@ -25,4 +25,4 @@ module _ (S : Setup) (q : List Place) (below : Below (kmers S) q) (r : Rest) (k 
 
   pub quick-find : (j : ℕ) (o : Forward) → r .sums .found ≡ suc j → dustForward S q j (r .sums .best) ≡ o → o .sums .found ≡ length q → dustBackward S q ≡ record { find = at j; counts = o .counts }
   unfolding dustBackward
-  quick-find j o e p f = best-tried S q r b agrees j e (ap (λ (z : Forward). z .sums .found) p ∙ f) ∙ ap (λ (z : Forward). record { find = at j; counts = z .counts }) p
+  quick-find j o e p f = best-tried S q b r agrees j e (ap (λ (z : Forward). z .sums .found) p ∙ f) ∙ ap (λ (z : Forward). record { find = at j; counts = z .counts }) p

@@ -25,26 +25,26 @@ use Rattle.scans.proofs.Noting.{first-not-noted}
 use Rattle.scans.proofs.BackwardScan.{restAt, read-counted, definition-turn, none-counted}
 
 -- The last candidate of a list.
-abbrev last : List Candidate → Candidate
+abbrev pub last : List Candidate → Candidate
 last cs = getD cs (length cs - 1) noCandidate
 
 -- It is the best place, or newer.
-abbrev Top : ℕ → Float → List Candidate → Type 0
+abbrev pub Top : ℕ → Float → List Candidate → Type 0
 Top found best cs = (length cs ≡ 0) ⊎ ((found ≤ last cs .place) ⊎ (last cs ≡ candidate (found - 1) best))
 
 -- With i entries left to read: the last score is the best's, which was read last, or no fall from it is noted. The last candidate is newer than what is left.
-record Bare (i : ℕ) (a : BackwardSums) (cs : List Candidate) : Type 0 where
-  level : ((a .previous ≡ a .best) × (a .found ≡ i + 1)) ⊎ ((sl : Float) → T (not (isNoted a sl)))
-  passed : (length cs ≡ 0) ⊎ (i < last cs .place)
-  top : Top (a .found) (a .best) cs
+pub record Bare (i : ℕ) (a : BackwardSums) (cs : List Candidate) : Type 0 where
+  pub level : ((a .previous ≡ a .best) × (a .found ≡ i + 1)) ⊎ ((sl : Float) → T (not (isNoted a sl)))
+  pub passed : (length cs ≡ 0) ⊎ (i < last cs .place)
+  pub top : Top (a .found) (a .best) cs
 
-last-snoc : (cs : List Candidate) (c : Candidate) → last (cs ++ c ∷ []) ≡ c
+pub last-snoc : (cs : List Candidate) (c : Candidate) → last (cs ++ c ∷ []) ≡ c
 last-snoc cs c =
     let n : length (cs ++ c ∷ []) - 1 ≡ length cs = omega (arith, length-append cs (c ∷ [])) in
     ap (λ (k : ℕ). getD (cs ++ c ∷ []) k noCandidate) n ∙ getD-append-seam cs c [] noCandidate
 
 -- A score that is no near tie is not noted as a peak later.
-apart-unnoted : (a : BackwardSums) (s sw sl : Float) → T (not (lt (a .best ⊖ sl) tiny)) → (x : Float) → T (not (isNoted (record { s = s; sw = sw; previous = sl; best = a .best; found = a .found }) x))
+pub apart-unnoted : (a : BackwardSums) (s sw sl : Float) → T (not (lt (a .best ⊖ sl) tiny)) → (x : Float) → T (not (isNoted (record { s = s; sw = sw; previous = sl; best = a .best; found = a .found }) x))
 apart-unnoted a s sw sl h x =
     let d : Float = sl ⊖ a .best in
     not-T (lt x sl && (lt zero64 sl && nearZero d))
@@ -56,7 +56,7 @@ unnoted a i sl h (inl p) t = lt-nle sl (a .best) (subst (λ (z : Float). T (lt s
 unnoted a i sl h (inr f) t = T-not (isNoted a sl) (f sl) t
 
 module _ (i : ℕ) (cs : List Candidate) where
-  older : (length cs ≡ 0) ⊎ (suc i < last cs .place) → (length cs ≡ 0) ⊎ (i < last cs .place)
+  pub older : (length cs ≡ 0) ⊎ (suc i < last cs .place) → (length cs ≡ 0) ⊎ (i < last cs .place)
   older (inl e) = inl e
   older (inr h) = inr (omega arith)
 
@@ -79,7 +79,7 @@ module _ (i : ℕ) (a : BackwardSums) (cs : List Candidate) (bare : Bare (suc i)
       inr (inr (last-snoc cs (candidate (i + 1) (a .best)) ∙ ap (λ (k : ℕ). candidate k (a .best)) e))
   noted-top t (inr f) = absurd (T-not (isNoted a sl) (f sl) t)
 
-  fallen-bare : T (not (lt (a .best ⊖ sl) tiny)) → Bare i (record { s = s; sw = sw; previous = sl; best = a .best; found = a .found }) (noted a sl i cs)
+  pub fallen-bare : T (not (lt (a .best ⊖ sl) tiny)) → Bare i (record { s = s; sw = sw; previous = sl; best = a .best; found = a .found }) (noted a sl i cs)
   fallen-bare h =
       let apart = apart-unnoted a s sw sl h in
       let place : last (cs ++ candidate (i + 1) (a .best) ∷ []) .place ≡ i + 1 = ap (λ (c : Candidate). c .place) (last-snoc cs (candidate (i + 1) (a .best))) in
@@ -198,17 +198,23 @@ first-tried S q cs n j m counts e h =
     let y : eqb (dustForward S q j m .sums .found) (length q) ≡ true = eq-eqb (dustForward S q j m .sums .found) (length q) h in
     rw (e, z, y)
 
-module _ (S : Setup) (q : List Place) (r : Rest) (b : Backward) (g : Agrees r b) where
+module _ (S : Setup) (q : List Place) (b : Backward) where
   -- The best place, at index j, is tried first.
-  pub best-tried : (j : ℕ) → r .sums .found ≡ suc j → dustForward S q j (r .sums .best) .sums .found ≡ length q → tried S q b ≡ record { find = at j; counts = dustForward S q j (r .sums .best) .counts }
+  pub top-tried : Top (b .found) (b .best) (b .candidates) → (j : ℕ) → b .found ≡ suc j → dustForward S q j (b .best) .sums .found ≡ length q
+      → tried S q b ≡ record { find = at j; counts = dustForward S q j (b .best) .counts }
   unfolding tried
-  best-tried j e h =
+  top-tried top j f h =
       let cs : List Candidate = withBest (b .best) (b .found) (b .candidates) in
-      let f : b .found ≡ suc j = g .found-same ∙ e in
       let z : eqb (b .found) 0 ≡ false = ne-eqb (b .found) 0 (λ k. omega arith) in
       let p : b .found - 1 ≡ j = omega arith in
-      let ends = with-best-ends (b .best) (b .found) (b .candidates) (g .top) in
+      let ends = with-best-ends (b .best) (b .found) (b .candidates) top in
       let long : length cs ≡ suc (length cs - 1) = omega (arith, ends .0) in
       ap (λ (t : Bool). cond t (record { find = none; counts = b .counts }) (tryFrom S q cs (length cs) 0 (b .counts))) z
       ∙ ap (λ (n : ℕ). tryFrom S q cs n 0 (b .counts)) long
-      ∙ first-tried S q cs (length cs - 1) j (r .sums .best) (b .counts) (ends .1 ∙ rw (p, g .best-same)) h
+      ∙ first-tried S q cs (length cs - 1) j (b .best) (b .counts) (ends .1 ∙ ap (λ (k : ℕ). candidate k (b .best)) p) h
+
+  pub best-tried : (r : Rest) → Agrees r b → (j : ℕ) → r .sums .found ≡ suc j → dustForward S q j (r .sums .best) .sums .found ≡ length q
+      → tried S q b ≡ record { find = at j; counts = dustForward S q j (r .sums .best) .counts }
+  best-tried r g j e h =
+      top-tried (g .top) j (g .found-same ∙ e) (ap (λ (x : Float). dustForward S q j x .sums .found) (g .best-same) ∙ h)
+      ∙ ap (λ (x : Float). record { find = at j; counts = dustForward S q j x .counts }) (g .best-same)

@@ -18,7 +18,7 @@ use Rattle.scans.proofs.Gain.{InRange, gain, gain-snoc}
 use Rattle.scans.proofs.Shape.{UsualShape}
 
 module _ (S : Setup) (R : InRange S) (shape : UsualShape S) where
-  ln-more : (c d : ℕ) → 0 < c → c + d ≤ S .window-size → pos64 (lnAt S c) ≤ pos64 (lnAt S (c + d))
+  pub ln-more : (c d : ℕ) → 0 < c → c + d ≤ S .window-size → pos64 (lnAt S c) ≤ pos64 (lnAt S (c + d))
   ln-more c zero some l = let z : c ≡ c + 0 = omega arith in subst (λ (n : ℕ). pos64 (lnAt S c) ≤ pos64 (lnAt S n)) z (le-refl (pos64 (lnAt S c)))
   ln-more c (suc d) some l =
       let x = R .ln-ranged (c + d) (omega arith) (omega arith) in
@@ -27,7 +27,7 @@ module _ (S : Setup) (R : InRange S) (shape : UsualShape S) where
       subst (λ (n : ℕ). pos64 (lnAt S c) ≤ pos64 (lnAt S n)) z
       (omega (arith, ln-more c d some (omega arith), le-value (x .ok) (y .ok) .0 (shape .ln-rises (c + d) (omega arith) (omega arith)), x .low, y .low))
 
-  added-more : (u v : List Place) (e : Place) → ((x : ℕ) → count x u ≤ count x v) → length v < S .window-size → pos64 (added S u e) ≤ pos64 (added S v e)
+  pub added-more : (u v : List Place) (e : Place) → ((x : ℕ) → count x u ≤ count x v) → length v < S .window-size → pos64 (added S u e) ≤ pos64 (added S v e)
   added-more u v ambiguous f l = le-refl (pos64 zero64)
   added-more u v (plain x) f l =
       let d : ℕ = count x v - count x u in

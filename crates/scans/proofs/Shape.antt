@@ -3,7 +3,7 @@ use mathlib.Core.Path.{_≡_, refl, subst}
 use mathlib.Core.Bool.{Bool, _&&_}
 use mathlib.Core.List.{List}
 use mathlib.Core.Logic.{⊎-elim}
-use Prim.Native.Nat.{ℕ, zero, suc, _+_, _-_, _*_, _^_, _≤_, _<_}
+use Prim.Native.Nat.{ℕ, zero, suc, _+_, _-_, _*_, _≤_, _<_}
 use native.Mathlib.Nat.{eq-or-lt-of-le}
 use native.Mathlib.Omega.{arith}
 use lib.ListN.{getD}
@@ -18,21 +18,14 @@ use Rattle.floats.proofs.Tests.{le-near}
 use Rattle.floats.specs.Value.{Finite}
 use Rattle.floats.proofs.Rounded.{Near, Ranged, eps, pos64}
 use Rattle.scans.specs.Setup.{Setup, lnAt, fAt}
+unfoldable pub use Rattle.scans.specs.Terms.Certain.{margin, unevenness}
 use Rattle.scans.specs.Terms.Shape.{fStep, usualTo, Usual}
 use Rattle.scans.proofs.Gain.{InRange}
 use Rattle.scans.proofs.Range.{in-range}
 
--- 2^-12, in units of 2^-1074.
-unfoldable pub margin : ℕ
-margin = 2 ^ 1062
-
 pub margin-eps : margin ≡ 4398046511104 * eps
 unfolding margin eps
 margin-eps = refl
-
--- 2^-31, by which differences of f may fall: four times what the roundings of two differences, compared as floats, come to.
-unfoldable pub unevenness : ℕ
-unevenness = 2 ^ 1043
 
 pub unevenness-eps : unevenness ≡ 8388608 * eps
 unfolding unevenness eps
@@ -132,3 +125,21 @@ f-widens {S} shape a b (suc k) some l h =
     subst (λ (m : ℕ). pos64 (fAt S m) + pos64 (fAt S b) ≤ pos64 (fAt S (b + suc k)) + pos64 (fAt S a) + suc k * unevenness) x
     (subst (λ (m : ℕ). pos64 (fAt S (suc (a + k))) + pos64 (fAt S b) ≤ pos64 (fAt S m) + pos64 (fAt S a) + suc k * unevenness) y
     (omega (arith, f-widens shape a b k some l (omega arith), shape .f-bends (a + k) (b + k) (omega arith) (omega arith) (omega arith))))
+
+-- One place more: f does not fall.
+pub f-rises : {S : Setup} → UsualShape S → (a : ℕ) → 0 < a → a < S .window-size → pos64 (fAt S a) ≤ pos64 (fAt S (suc a)) + unevenness
+f-rises shape a some h = omega (arith, shape .f-first a some h)
+
+-- f of a sum is at least the sum of the f.
+units-add : {S : Setup} → UsualShape S → (a b : ℕ) → 0 < a → a + suc b ≤ S .window-size → pos64 (fAt S a) + pos64 (fAt S (suc b)) ≤ pos64 (fAt S (a + suc b)) + suc b * unevenness
+units-add {S} shape a zero some h =
+    let z : suc a ≡ a + 1 = omega arith in
+    subst (λ (n : ℕ). pos64 (fAt S a) + pos64 (fAt S 1) ≤ pos64 (fAt S n) + 1 * unevenness) z (omega (arith, shape .f-first a some (omega arith)))
+units-add {S} shape a (suc b) some h =
+    let z : suc (a + suc b) ≡ a + suc (suc b) = omega arith in
+    subst (λ (n : ℕ). pos64 (fAt S a) + pos64 (fAt S (suc (suc b))) ≤ pos64 (fAt S n) + suc (suc b) * unevenness) z
+    (omega (arith, units-add shape a b some (omega arith), shape .f-bends (suc b) (a + suc b) (omega arith) (omega arith) (omega arith)))
+
+pub f-adds : {S : Setup} → UsualShape S → (a b : ℕ) → 0 < a → 0 < b → a + b ≤ S .window-size → pos64 (fAt S a) + pos64 (fAt S b) ≤ pos64 (fAt S (a + b)) + b * unevenness
+f-adds shape a zero some k h = absurd (let z : ⊥ = omega arith in z)
+f-adds shape a (suc b) some k h = units-add shape a b some h

@@ -1,4 +1,4 @@
--- For any float bits: where no candidate's forward scan is best at the newest place, nothing is found (`none-found`); and all candidates lie between the last noted and the first (`candidates-between`).
+-- For any float bits: where no candidate's forward scan is best at the newest place, nothing is found (`none-ending`, `none-found`); and all candidates lie between the last noted and the first (`candidates-between`).
 use mathlib.Core.Path.{_≡_, refl, sym, subst}
 use mathlib.Core.Bool.{Bool, true, false, cond, true≢false}
 use mathlib.Core.List.{List, []}
@@ -72,15 +72,17 @@ module _ (S : Setup) (q : List Place) where
       go true cs h = refl
       go false cs h = h
 
-  -- No candidate, or none that ends at the newest place.
+  -- No candidate ends at the newest place.
+  pub none-ending : ((i : ℕ) → i < length cs → dustForward S q (getD cs i noCandidate .place) (getD cs i noCandidate .score) .sums .found ≡ length q → ⊥) → dustBackward S q .find ≡ none
+  unfolding dustBackward
+  none-ending fails = tries-none (none-tried cs fails (length cs) 0 (scanned S q .counts) (omega arith))
+
+  -- No candidate, or none that ends there.
   none-found : (oldest newest : ℕ) → (0 < length cs → (getD cs (length cs - 1) noCandidate .place ≡ oldest) × (getD cs 0 noCandidate .place ≡ newest) × NoneEnds S q oldest newest)
       → dustBackward S q .find ≡ none
-  unfolding dustBackward
   none-found oldest newest h =
-      tries-none
-      (none-tried cs
+      none-ending
       (λ i l. let k = h (omega arith) in let w = candidates-between i l in k .2 .fails (getD cs i noCandidate .place) (getD cs i noCandidate .score) (omega (arith, w .0, k .0)) (omega (arith, w .1, k .1)))
-      (length cs) 0 (scanned S q .counts) (omega arith))
 
   -- ---- What the code asks and tells, for a search that has noted candidates or none.
   module _ (r : Searched) (before : List ℕ) (a : SearchedAll S q r before) where

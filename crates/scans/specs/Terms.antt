@@ -6,3 +6,6 @@ pub mod Parts
 pub mod Carry
 pub mod Search
 pub mod Fails
+pub mod Units
+pub mod Certain
+pub mod Certificate
