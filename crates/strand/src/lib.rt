@@ -9,7 +9,7 @@
 // | its loop | `skim` over letters that are not searched from, in `until_scan` over letters without a backward scan, in `inner_process` |
 
 ghost use mathlib.Core.Path.{_≡_};
-ghost use mathlib.Core.Bool.{true};
+ghost use mathlib.Core.Bool.{true, false};
 ghost use mathlib.Core.List.{List};
 ghost use Prim.Native.Nat.{_+_, _-_, _/_, _^_, _<_, _≤_};
 ghost use lib.ListN.{length, getD, replicate};
@@ -95,7 +95,7 @@ impl Window {
         last_q as usize
     }
 
-    // The oldest entry leaves a full queue; last_q = 0 lowers its scan count, and ends a carried scan, which began there.
+    // The oldest entry leaves a full queue; last_q = 0 lowers its scan count, unless all are 0, and ends a carried scan, which began there.
     fn leave(
         mut self,
         p: scans::Params,
@@ -113,7 +113,7 @@ impl Window {
         let last_q = self.last_q;
         let entry = queue[head];
         self.sum = sum_without(self.sum, entry, ln, window_counts);
-        if last_q == 0 {
+        if self.live & is_at(last_q, 0) {
             scans::lower_entry(scan_counts, entry);
             self.carry = scans::Carry::none();
         }
@@ -585,8 +585,8 @@ impl State {
 
 // ---- The run.
 
-// Goes on to the next letter that is searched from, which enters the window, or to the end.
-fn skim(
+// Goes on to the next letter that is searched from, which enters the window, or to the end; a carried scan goes on with it.
+fn skim_live(
     p: scans::Params,
     from: State,
     codes: &[u8],
@@ -611,6 +611,57 @@ fn skim(
         st = st.passed(p, ln, f, queue, window_counts, scan_counts);
     }
     st
+}
+
+// The same where all scan counts are 0: they stay so, and no scan is carried.
+fn skim_clear(
+    p: scans::Params,
+    from: State,
+    codes: &[u8],
+    ln: &[f64],
+    f: &[f64],
+    queue: &mut [u32],
+    window_counts: &mut [u16],
+    scan_counts: &mut [u16],
+) -> State
+    requires { ⌜ (p .kmer ≤ 12) × (length (now codes) < 2147483648) × (length (now «scan_counts») ≡ 4 ^ p .kmer) ⌝ }
+    requires { ⌜ Read p (now codes) (now ln) (now f) from (now queue) (now «window_counts») (now «scan_counts») ⌝ }
+    requires { ⌜ from .window .live ≡ false ⌝ }
+    ensures { λ r. ⌜ Skimmed p (now (codes .entry)) (now (ln .entry)) (now (f .entry)) from r (now (queue .entry))
+        (now («scan_counts» .entry)) (now (queue .exit)) (now («window_counts» .exit)) (now («scan_counts» .exit)) ⌝ }
+{
+    let mut st = from;
+    while st.i < codes.len() {
+        st = st.enter(p, codes, ln, queue, window_counts, scan_counts);
+        if st.is_searched(p, window_counts) {
+            return st;
+        }
+        st.i += 1;
+    }
+    st
+}
+
+// Goes on to the next letter that is searched from, which enters the window, or to the end.
+fn skim(
+    p: scans::Params,
+    from: State,
+    codes: &[u8],
+    ln: &[f64],
+    f: &[f64],
+    queue: &mut [u32],
+    window_counts: &mut [u16],
+    scan_counts: &mut [u16],
+) -> State
+    requires { ⌜ (p .kmer ≤ 12) × (length (now codes) < 2147483648) × (p .«window_size» < length (now f))
+        × (length (now «scan_counts») ≡ 4 ^ p .kmer) ⌝ }
+    requires { ⌜ Read p (now codes) (now ln) (now f) from (now queue) (now «window_counts») (now «scan_counts») ⌝ }
+    ensures { λ r. ⌜ Skimmed p (now (codes .entry)) (now (ln .entry)) (now (f .entry)) from r (now (queue .entry))
+        (now («scan_counts» .entry)) (now (queue .exit)) (now («window_counts» .exit)) (now («scan_counts» .exit)) ⌝ }
+{
+    if from.window.live {
+        return skim_live(p, from, codes, ln, f, queue, window_counts, scan_counts);
+    }
+    skim_clear(p, from, codes, ln, f, queue, window_counts, scan_counts)
 }
 
 // No letter is read, and the counts are cleared.

@@ -10,8 +10,8 @@ use Rattle.strand.specs.Terms.Entering.{Enters}
 use Rattle.strand.specs.Terms.ReadingOn.{Read, Skims}
 use Rattle.strand.proofs.Searching.{passing}
 use Rattle.strand.proofs.ReadingOn.{skims-none, next, small, skimmed-all, skimmed-to, read-on, skims-on}
-use Rattle.strand.proofs.skim.Statement.{statement}
-use Rattle.strand.proofs.skim.Tie as tie
+use Rattle.strand.proofs.skim_live.Statement.{statement}
+use Rattle.strand.proofs.skim_live.Tie as tie
 
 -- How far the strand is read, and that every lent slice is as long as it was.
 record Around (p : Params) (codes : List ℕ) (ln f : List Float) (queue₀ window-counts₀ scan-counts₀ : List ℕ) (st₀ : State)
@@ -115,8 +115,8 @@ loop-again c =
 returns-2 : tie.Need-returns-2 Inv-loop μ-loop
 returns-2 c = skimmed-all (c .before .before .loop .inv .skims) (c .if1 .left)
 
-pub skim-spec : {M : Type 1} → statement M
-skim-spec =
+pub skim-live-spec : {M : Type 1} → statement M
+skim-live-spec =
     tie.close
     (tie.spec
     Inv-loop
