@@ -8,7 +8,7 @@
 // | `dust_forward` | forward: `dust_forward`, a `forward_part` for each straight part of the ring |
 // | `dust_backward`, its xdrop | limits: `drop_limit` |
 // | `dust_backward`, its clearing of the scan counts | queue: `clear_from`, where a scan touched them |
-// | `dust_backward`, its first loop | candidates: `scan_backward`; backward: `backward_on` from peak to peak, a `backward_part` at a time |
+// | `dust_backward`, its first loop | candidates: `scan_backward`; backward: `backward_on` from peak to peak, a part of the ring at a time, `backward_low` before the first best place, `backward_part` after it |
 // | `dust_backward`, its second loop | candidates: `try_candidates`, unless fails: `none_ends` tells that it finds nothing |
 // | `dust_backward` as a whole | dust: `dust_backward`, which first asks quick: `find_quickly`, a fast form for the letters after a find |
 //
