@@ -232,7 +232,7 @@ module _ (S : Setup) (window-counts : List ℕ) (quick : Bool) (q : List Place) 
         (part-of m (omega arith) (raisedAt b sl (m + at)) raised) (part-of m (omega arith) (fallenTo b sl) raised))
 
 -- ---- What holds where a scan rests.
-below-at : (m : ℕ) (q : List Place) (j : ℕ) → Below m q → j < length q → BelowAt m (getD q j ambiguous)
+pub below-at : (m : ℕ) (q : List Place) (j : ℕ) → Below m q → j < length q → BelowAt m (getD q j ambiguous)
 below-at m [] j h l = absurd (let b : ⊥ = omega arith in b)
 below-at m (e ∷ q) zero h l = h .0
 below-at m (e ∷ q) (suc j) h l = below-at m q j (h .1) (omega arith)
@@ -373,7 +373,7 @@ answerAfter S q r cs =
     cond (r .done) (record { best = r .sums .best; found = r .sums .found; counts = r .counts; candidates = withPeak r cs })
     (backwardFrom S q (r .low) (length q + 1 - r .low) (r .sums) (r .counts) (withPeak r cs))
 
-left-second : (S : Setup) (q : List Place) (window-counts raised : List ℕ) (e : Place) → ((x : ℕ) → getD window-counts x 0 ≡ count x q) → leftValue (S .ln) window-counts raised e ≡ secondValue S q raised e
+pub left-second : (S : Setup) (q : List Place) (window-counts raised : List ℕ) (e : Place) → ((x : ℕ) → getD window-counts x 0 ≡ count x q) → leftValue (S .ln) window-counts raised e ≡ secondValue S q raised e
 left-second S q window-counts raised ambiguous h = refl
 left-second S q window-counts raised (plain x) h = ap (λ (c : ℕ). getD (S .ln) (c - getD raised x 0 + 1) nan) (h x)
 

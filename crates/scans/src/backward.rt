@@ -46,7 +46,7 @@ impl BackwardState {
     }
 
     // Counts an entry, and adds to both sums.
-    fn add_entry(
+    pub fn add_entry(
         mut self,
         threshold: f64,
         entry: u32,
