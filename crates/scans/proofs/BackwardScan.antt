@@ -5,7 +5,7 @@ use mathlib.Core.List.{List, [], _∷_, _++_}
 use mathlib.Core.Logic.{_⊎_}
 use Prim.Native.Nat.{ℕ, zero, suc, _+_, _-_, _/_, _%_, _^_, _<_, _≤_}
 use native.Mathlib.Omega.{arith}
-use lib.ListN.{length, getD, take, drop, replicate}
+use lib.ListN.{length, getD, take, drop, replicate, length-drop}
 use lib.Seq.{drop-cons, drop-length}
 use lib.Dec.{T, ltb}
 use borrow.Author.Tests.{ltb-true, ltb-false}
@@ -24,10 +24,10 @@ use Rattle.scans.specs.Counts.{hit, count, raise, cleared}
 use Rattle.scans.specs.Terms.Counted.{Counted}
 use Rattle.scans.specs.Scans.{value, secondValue, Candidate, candidate, BackwardSums, backwardStart, isNoted, noted, isDropped, backwardJudged, Backward, backwardFrom}
 use Rattle.scans.specs.Terms.Window.{window, countedValue, Windowed}
-use Rattle.scans.specs.Terms.Parts.{backwardOf, leftValue, AddsEntry, withBestAt, withPrevious, restsAt, Fresh, pauses, tooLow, Rest, restOf, sumsWith, raisedAt, fallenTo, restOver, restFrom, restAfter, Coded, Room, Backs, GoesOn, goesOn, ScansQuick}
+use Rattle.scans.specs.Terms.Parts.{backwardOf, leftValue, AddsEntry, withBestAt, withPrevious, restsAt, Fresh, pauses, tooLow, Rest, restOf, sumsWith, raisedAt, fallenTo, restOver, restFrom, restAfter, Coded, Room, PartBefore, NoneBest, Backs, GoesOver, GoesOn, goesOn, ScansQuick}
 use Rattle.scans.proofs.Counting.{hit-self, count-snoc, count-append, count-le, raise-counted, raise-hit, raise-length, cleared-counted}
 use Rattle.scans.proofs.Values.{raised-value, decode-below}
-use Rattle.scans.proofs.Parts.{Stands, stands-at, part-length, part-stands, part-coded}
+use Rattle.scans.proofs.Parts.{Stands, stands-at, part-length, part-stands, part-coded, decoded-drop, newest-stands}
 use Rattle.scans.proofs.Windows.{long}
 use Rattle.scans.proofs.Walk.{windowed-queued, queued-below}
 
@@ -54,7 +54,7 @@ last-true true c e = e
 last-true false c e = absurd (true≢false (sym e))
 
 -- A score below the best is not above it.
-not-above : (best sl : Float) → le best sl ≡ false → lt best sl ≡ false
+pub not-above : (best sl : Float) → le best sl ≡ false → lt best sl ≡ false
 unfolding le
 not-above best sl h = go (lt best sl) (eq best sl) h
   where
@@ -232,7 +232,7 @@ module _ (S : Setup) (window-counts : List ℕ) (quick : Bool) (q : List Place) 
         (part-of m (omega arith) (raisedAt b sl (m + at)) raised) (part-of m (omega arith) (fallenTo b sl) raised))
 
 -- ---- What holds where a scan rests.
-below-at : (m : ℕ) (q : List Place) (j : ℕ) → Below m q → j < length q → BelowAt m (getD q j ambiguous)
+pub below-at : (m : ℕ) (q : List Place) (j : ℕ) → Below m q → j < length q → BelowAt m (getD q j ambiguous)
 below-at m [] j h l = absurd (let b : ⊥ = omega arith in b)
 below-at m (e ∷ q) zero h l = h .0
 below-at m (e ∷ q) (suc j) h l = below-at m q j (h .1) (omega arith)
@@ -253,7 +253,7 @@ record Backed (S : Setup) (quick : Bool) (q : List Place) (low : ℕ) (a : Backw
   peaked : quick ≡ false → r .paused ≡ true → r .sums .found ≡ 0 → ⊥
 
 -- A peak above 0 has a best place.
-some-found : (a : BackwardSums) (sl : Float) → lt (a .best) (a .previous) ≡ false → (a .found ≡ 0 → a .best ≡ zero64) → isNoted a sl ≡ true → a .found ≡ 0 → ⊥
+pub some-found : (a : BackwardSums) (sl : Float) → lt (a .best) (a .previous) ≡ false → (a .found ≡ 0 → a .best ≡ zero64) → isNoted a sl ≡ true → a .found ≡ 0 → ⊥
 some-found a sl level zero′ t e =
     let above : lt zero64 (a .previous) ≡ true = first-true (lt zero64 (a .previous)) _ (last-true (lt sl (a .previous)) _ t) in
     true≢false (sym above ∙ ap (λ (x : Float). lt x (a .previous)) (sym (zero′ e)) ∙ level)
@@ -373,7 +373,7 @@ answerAfter S q r cs =
     cond (r .done) (record { best = r .sums .best; found = r .sums .found; counts = r .counts; candidates = withPeak r cs })
     (backwardFrom S q (r .low) (length q + 1 - r .low) (r .sums) (r .counts) (withPeak r cs))
 
-left-second : (S : Setup) (q : List Place) (window-counts raised : List ℕ) (e : Place) → ((x : ℕ) → getD window-counts x 0 ≡ count x q) → leftValue (S .ln) window-counts raised e ≡ secondValue S q raised e
+pub left-second : (S : Setup) (q : List Place) (window-counts raised : List ℕ) (e : Place) → ((x : ℕ) → getD window-counts x 0 ≡ count x q) → leftValue (S .ln) window-counts raised e ≡ secondValue S q raised e
 left-second S q window-counts raised ambiguous h = refl
 left-second S q window-counts raised (plain x) h = ap (λ (c : ℕ). getD (S .ln) (c - getD raised x 0 + 1) nan) (h x)
 
@@ -487,7 +487,7 @@ backs-start q len m a counts l fresh clear =
     }
 
 -- ---- The entries before `low` in a straight part of the ring, n numbers from index k on.
-count-drop : (x j : ℕ) (q : List Place) → count x (drop j q) ≤ count x q
+pub count-drop : (x j : ℕ) (q : List Place) → count x (drop j q) ≤ count x q
 count-drop x zero q = omega arith
 count-drop x (suc j) [] = omega arith
 count-drop x (suc j) (e ∷ q) = omega (arith, count-drop x j q)
@@ -537,21 +537,36 @@ module _ {p : Params} {ring : List ℕ} {head len : ℕ} {window-counts : List �
         omega (arith, h .counted .counted x, count-drop x (a .low - n) q, w .counted x);
   }
 
-  pub part-ready : ((length part ≤ a .low) × (a .low ≤ len) × (len ≤ 65535) × (len < length ln) × (len < length f))
-      × ((Coded part (length counts) × (length window-counts ≡ length counts)) × Room len window-counts counts (decoded part))
-  part-ready = (
-    (omega (arith, part-long), low-in, omega (arith, w .len-in, w .small), omega (arith, w .len-in, w .ln-long), omega (arith, w .len-in)),
-    ((part-coded ring head len k n (a .low - n) h-in l-in in-ring (omega (arith, low-in)) (λ _. here) (windowed-queued w (h .counted .long)), omega (arith, w .counts-long, h .counted .long)), room),
-  )
+  part-before : PartBefore (a .low) len (length ln) (length f) part window-counts counts
+  part-before = record {
+    some = omega (arith, part-long);
+    inside = omega (arith, part-long);
+    low-in = low-in;
+    small = omega (arith, w .len-in, w .small);
+    ln-long = omega (arith, w .len-in, w .ln-long);
+    f-long = omega (arith, w .len-in);
+    coded = part-coded ring head len k n (a .low - n) h-in l-in in-ring (omega (arith, low-in)) (λ _. here) (windowed-queued w (h .counted .long));
+    counts-long = omega (arith, w .counts-long, h .counted .long);
+    room = room;
+  }
 
-  pub part-goes-on : (quick : Bool) (b : BackwardState) (counts′ : List ℕ)
-      → restOf b counts′ ≡ restOver (setupOf p ln f) window-counts quick len (decoded part) (a .low - length part) (length part) (backwardOf a) counts
+  pub part-ready : PartBefore (a .low) len (length ln) (length f) part window-counts counts × (a .found ≡ 0 → NoneBest (backwardOf a))
+  part-ready = (part-before, λ e. record { none = e; is-zero = h .from-zero e; level = h .level })
+
+  newer-stands : (u : ℕ) → u < length part → Stands q (decoded (drop u part)) (a .low - length (drop u part))
+  newer-stands u l =
+      let e : a .low - n + u ≡ a .low - length (drop u part) = omega (arith, length-drop u part, part-long) in
+      rw (decoded-drop u part) (subst (λ (z : ℕ). Stands q (drop u (decoded part)) z) e (newest-stands q (decoded part) (a .low - n) u stands (omega (arith, decoded-length part))))
+
+  pub part-goes-on : (quick : Bool) (b : BackwardState) (counts′ : List ℕ) → GoesOver (setupOf p ln f) window-counts quick len part (restOf a counts) (restOf b counts′)
       → GoesOn (setupOf p ln f) window-counts quick q (restOf a counts) (restOf b counts′)
-  part-goes-on quick b counts′ is =
-      let same : length part ≡ length (decoded part) = sym (decoded-length part) in
-      goes-on (setupOf p ln f) window-counts quick q (window-below w) (decoded part) (a .low - n) stands (restOf a counts) (restOf b counts′) (omega (arith, to-low)) (omega (arith, places-long)) h
-      (is ∙ ap₂ (λ (x y : ℕ). restOver (setupOf p ln f) window-counts quick x (decoded part) (a .low - y) (length part) (backwardOf a) counts) (sym (long w)) part-long
-      ∙ ap (λ (x : ℕ). restOver (setupOf p ln f) window-counts quick (length q) (decoded part) (a .low - n) x (backwardOf a) counts) same)
+  part-goes-on quick b counts′ g =
+      let newer : List ℕ = drop (g .unread) part in
+      let same : length newer ≡ length (decoded newer) = sym (decoded-length newer) in
+      let long-is : length newer ≡ length part - g .unread = length-drop (g .unread) part in
+      goes-on (setupOf p ln f) window-counts quick q (window-below w) (decoded newer) (a .low - length newer) (newer-stands (g .unread) (g .some)) (restOf a counts) (restOf b counts′)
+      (omega (arith, part-long)) (omega (arith, g .some)) h
+      (g .scanned ∙ ap₂ (λ (x y : ℕ). restOver (setupOf p ln f) window-counts quick x (decoded newer) (a .low - length newer) y (backwardOf a) counts) (sym (long w)) same)
 
 -- ---- The whole quick scan, from one rest to the next.
 pub record Going (S : Setup) (window-counts : List ℕ) (q : List Place) (counts₀ : List ℕ) (a : BackwardState) (counts : List ℕ) : Type 0 where

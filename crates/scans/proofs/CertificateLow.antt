@@ -26,8 +26,7 @@ use Rattle.scans.proofs.Counting.{below-drop}
 use Rattle.scans.proofs.Exact.{added}
 use Rattle.scans.proofs.Gain.{InRange, gain-none, gain-snoc, gain-cons}
 use Rattle.scans.proofs.Rising.{added-more}
-use Rattle.scans.proofs.Shape.{margin-eps, usual-shape}
-use Rattle.scans.proofs.CertainShape.{f-rises}
+use Rattle.scans.proofs.Shape.{margin-eps, usual-shape, f-rises}
 use Rattle.scans.proofs.CertificateNumber.{strayed-few, distance-ranged, distance-margin, far-above, kept-on, Changed, raised, stepped}
 
 -- ---- Counts and sums of fewer places.

@@ -31,8 +31,11 @@ use Rattle.scans.proofs.Walk.{windowed-queued, queued-below}
 use Rattle.scans.proofs.Exact.{added}
 use Rattle.scans.proofs.CarriedScan.{carriedOn, carried-next, carried-step}
 use Rattle.scans.proofs.Newest.{before-long, newest-place, none-counted}
-use Rattle.scans.proofs.Certifying.{was-on}
 use Rattle.scans.proofs.CertificateKept.{none-certified, window-added, kept-still, kept-fresh, kept-repeated}
+
+pub was-on : (x : Bool) → not x ≡ false → x ≡ true
+was-on true off = refl
+was-on false off = sym off
 
 module _ (p : Params) (ring : List ℕ) (head len : ℕ) (wc : List ℕ) (ln : List Float) (counts : List ℕ) (J : Joining p ring head len wc (length ln) counts) where
   abbrev q : List Place

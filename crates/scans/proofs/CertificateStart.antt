@@ -1,28 +1,25 @@
--- Tables in range and of the usual shape. The certificate of a start at index j of the window: low places, a middle between them and j, and starts older than j, as `CertainUnits` wants them.
--- A new place (`start-joined`) and a place that leaves (`start-left`) keep it; while its float bounds hold, what is left to know is that the forward scan from j is best at the newest place (`start-used`).
+-- Tables in range and of the usual shape. The certificate of a start at index j of the window: low places, a middle between them and j, and starts older than j.
+-- A new place (`start-joined`) and a place that leaves (`start-left`) keep it.
 use mathlib.Core.Path.{_≡_, refl, ap, _∙_, subst}
 use Prim.Native.Nat.{ℕ, zero, suc, _+_, _*_, _-_, _≤_, _<_}
 use native.Mathlib.Omega.{arith}
 use mathlib.Core.Logic.{_⊎_, inl, inr}
 use mathlib.Core.List.{List, [], _∷_, _++_}
-use lib.ListN.{length, take, drop, length-drop}
-use lib.Dec.{T}
-use lib.Ieee.{Float, lt, le, neg}
+use lib.ListN.{length, drop, length-drop}
+use lib.Ieee.{Float}
 use Rattle.floats.specs.Arithmetic.{_⊖_}
 use Rattle.floats.proofs.Rounded.{pos64, neg64}
 use Rattle.letters.specs.Place.{Place, BelowAt, Below}
 use Rattle.scans.specs.Setup.{Setup, fAt, kmers}
-use Rattle.scans.specs.Terms.Certified.{margin, distance, unevenness, gain, loss, lossAhead, strayed, Kept, LowUnits, StartUnits, Certifiable}
+use Rattle.scans.specs.Terms.Certified.{margin, unevenness, gain, loss, lossAhead, strayed, Kept, LowUnits, StartUnits, Certifiable}
 use Rattle.scans.proofs.Exact.{added}
 use Rattle.scans.proofs.Gain.{InRange, added-ranged}
-use Rattle.scans.proofs.Shape.{usual-shape, f-widens}
-use Rattle.scans.proofs.CertainUnits.{CertainUnits}
-use Rattle.scans.proofs.CertainFind.{uneven-few}
-use Rattle.scans.proofs.CertificateNumber.{strayed-few, far-below, far-above, lowered}
-use Rattle.scans.proofs.CertificateLow.{low-left, low-used, long, gain-joined, more-later}
+use Rattle.scans.proofs.Shape.{usual-shape}
+use Rattle.scans.proofs.CertificateNumber.{lowered}
+use Rattle.scans.proofs.CertificateLow.{low-left, long, gain-joined, more-later}
 
 -- How a scan ends, for a start at j of the window q.
-abbrev Ends : Setup → List Place → ℕ → ℕ → Float → ℕ → Type 0
+abbrev pub Ends : Setup → List Place → ℕ → ℕ → Float → ℕ → Type 0
 Ends S q j s gap oldest =
     (oldest ≡ 0)
     ⊎ ((oldest < j)
@@ -152,58 +149,3 @@ module _ (S : Setup) (R : InRange S) (C : Certifiable S) where
       start-joined =
           let c = lowered (k .gap-kept) few (added-ranged S R q e room) (added-ranged S R (drop j q) e (omega (arith, length-drop j q))) in
           start-changed k low (gap ⊖ (added S q e ⊖ added S (drop j q) e)) (c .kept) (omega (arith, c .near .upper))
-
-  -- ---- The use.
-  module _ (q : List Place) (window : length q ≤ S .window-size) {j r s low-from near-from : ℕ} {h u gap : Float} (k : StartUnits S q j r s low-from near-from h u gap) (few : s ≤ 65535)
-      (u-below : T (lt u (neg distance))) (gap-above : T (le distance gap)) where
-    -- f of r places more, back to f itself.
-    ahead-now : (m l : ℕ) → 0 < m → m ≤ l → l + r ≤ S .window-size → lossAhead S r m + loss S l ≤ lossAhead S r l + loss S m + r * unevenness
-    ahead-now m l some h fits = omega (arith, f-widens (usual-shape (C .usual)) m l r some h fits)
-
-    wide : (i l : ℕ) → i + l ≡ length q → j ≤ i → l + r ≤ S .window-size
-    wide i l at h = omega (arith, k .room)
-
-    r-few : r * unevenness * 8 ≤ margin
-    r-few = uneven-few r (omega (arith, k .room, R .window-small, k .j-before, k .low .order, k .low .within))
-
-    steady-now : (a m i l : ℕ) → a + m ≡ length q → i + l ≡ length q → j < i → i < a → a < low-from → gain S (drop a q) + margin + loss S l + neg64 D ≤ gain S (drop i q) + pos64 D + loss S m
-    steady-now a m i l at im ji ia to =
-        let some : 0 < m = omega (arith, k .low .order, k .low .within) in
-        omega (arith, k .steady a m i l at im ji ia to, ahead-now m l some (omega arith) (wide i l im (omega arith)), r-few)
-
-    above-now : (a m : ℕ) → a + m ≡ length q → j < a → a < low-from → gain S (drop a q) + margin + loss S (length q - j) ≤ gain S (drop j q) + loss S m
-    above-now a m at ja to =
-        let l : ℕ = length q - j in
-        let some : 0 < m = omega (arith, k .low .order, k .low .within) in
-        let jl : j + l ≡ length q = omega arith in
-        omega (arith, k .above a m l at jl ja to, ahead-now m l some (omega arith) (wide j l jl (omega arith)), r-few)
-
-    gap-wide : neg64 gap + margin * 4 ≤ pos64 gap
-    gap-wide = far-above (k .gap-kept .ok) gap-above
-
-    older-now : (i l : ℕ) → i + l ≡ length q → k .oldest ≤ i → i < j → gain S (drop i q) + margin + loss S (length q - j) ≤ gain S (drop j q) + loss S l
-    older-now i l at from to = omega (arith, k .older i l (length q - j) at (omega (arith, k .j-before, k .low .order, k .low .within)) from to, gap-wide, strayed-few s few)
-
-    ends-now : (oldest : ℕ) → Ends S q j s gap oldest
-        → (oldest ≡ 0) ⊎ ((oldest < j) × ((l : ℕ) → oldest + l ≡ length q → gain S (drop oldest q) + pos64 D + margin + loss S (length q - j) ≤ gain S (drop j q) + loss S l + neg64 D))
-    ends-now oldest (inl z) = inl z
-    ends-now oldest (inr p) = inr (p .0, λ l at. omega (arith, p .1 l (length q - j) at (omega (arith, k .j-before, k .low .order, k .low .within)), gap-wide, strayed-few s few))
-
-    pub start-used : ((m : ℕ) → 0 < m → m + j < length q → gain S (take m (drop j q)) + margin + loss S (length q - j) ≤ gain S (drop j q) + loss S m)
-        → margin + loss S (length q - j) ≤ gain S (drop j q) → CertainUnits S q j
-    start-used newest high =
-        record {
-          shape = usual-shape (C .usual);
-          drop-number = C .drop-number;
-          low-from = low-from;
-          oldest = k .oldest;
-          j-before = k .j-before;
-          low-within = omega (arith, k .low .order, k .low .within);
-          low = low-used S q (k .low) few (omega (arith, far-below (k .low .u-kept .ok) u-below));
-          steady = steady-now;
-          above = above-now;
-          older = older-now;
-          ends = ends-now (k .oldest) (k .ends);
-          newest = newest;
-          high = high;
-        }

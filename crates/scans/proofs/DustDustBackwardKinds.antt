@@ -1,11 +1,11 @@
 -- Made by tools/lift from the prover's `Kinds` of `dust::dust_backward` over a slice of `[u64; 2]`; not to be edited.
 use Rattle.scans.proofs.ForwardPosition as Rec·type
+use Rattle.scans.proofs.Answered
+use Rattle.scans.proofs.Answered.Laws
 use Rattle.scans.proofs.Carry
-use Rattle.scans.proofs.Carry.Laws
+use Rattle.scans.proofs.Carry.Laws as Laws'
 use Rattle.scans.proofs.Params
-use Rattle.scans.proofs.Params.Laws as Laws'
-use Rattle.scans.proofs.Scanned
-use Rattle.scans.proofs.Scanned.Laws as Laws''
+use Rattle.scans.proofs.Params.Laws as Laws''
 use borrow.Fn.Kinds
 use borrow.Kind.MutSlice
 use borrow.Kind.ShrSlice
@@ -26,31 +26,31 @@ abbrev pub ps : List.List (Kinds.PK 6)
 ps = List._∷_ (Value.pVal record {
   ty = Declared.row Params.the-type;
   one = Path'.refl;
-  val = Laws'3.val Params.the-type Laws'.the-laws;
-  tells = Laws'3.tells Params.the-type Laws'.the-laws;
-  still = Laws'3.still Params.the-type Laws'.the-copy Exit.yes;
+  val = Laws'3.val Params.the-type Laws''.the-laws;
+  tells = Laws'3.tells Params.the-type Laws''.the-laws;
+  still = Laws'3.still Params.the-type Laws''.the-copy Exit.yes;
   row = Rows.whole (Declared.row Params.the-type);
   rd = λ x. x;
   mk = λ x. x;
 } λ M 𝓤 H A W. record {
-  copies = Laws'3.copy Params.the-type Laws'.the-copy 𝓤 H A W;
-  lawful = Laws'3.lawful Params.the-type Laws'.the-laws 𝓤 H A W;
-  makes = Laws'3.makes Params.the-type Laws'.the-plain 𝓤 H A;
+  copies = Laws'3.copy Params.the-type Laws''.the-copy 𝓤 H A W;
+  lawful = Laws'3.lawful Params.the-type Laws''.the-laws 𝓤 H A W;
+  makes = Laws'3.makes Params.the-type Laws''.the-plain 𝓤 H A;
   in-mem = Local.mem-whole 𝓤 H A W (Declared.row Params.the-type);
   of-mem = Local.whole-mem 𝓤 H A W (Declared.row Params.the-type);
 }) (List._∷_ (Value.pVal record {
   ty = Declared.row Carry.the-type;
   one = Path'.refl;
-  val = Laws'3.val Carry.the-type Laws.the-laws;
-  tells = Laws'3.tells Carry.the-type Laws.the-laws;
-  still = Laws'3.still Carry.the-type Laws.the-copy Exit.yes;
+  val = Laws'3.val Carry.the-type Laws'.the-laws;
+  tells = Laws'3.tells Carry.the-type Laws'.the-laws;
+  still = Laws'3.still Carry.the-type Laws'.the-copy Exit.yes;
   row = Rows.whole (Declared.row Carry.the-type);
   rd = λ x. x;
   mk = λ x. x;
 } λ M 𝓤 H A W. record {
-  copies = Laws'3.copy Carry.the-type Laws.the-copy 𝓤 H A W;
-  lawful = Laws'3.lawful Carry.the-type Laws.the-laws 𝓤 H A W;
-  makes = Laws'3.makes Carry.the-type Laws.the-plain 𝓤 H A;
+  copies = Laws'3.copy Carry.the-type Laws'.the-copy 𝓤 H A W;
+  lawful = Laws'3.lawful Carry.the-type Laws'.the-laws 𝓤 H A W;
+  makes = Laws'3.makes Carry.the-type Laws'.the-plain 𝓤 H A;
   in-mem = Local.mem-whole 𝓤 H A W (Declared.row Carry.the-type);
   of-mem = Local.whole-mem 𝓤 H A W (Declared.row Carry.the-type);
 })
@@ -76,18 +76,18 @@ ps = List._∷_ (Value.pVal record {
 
 abbrev pub r : Kinds.RK 6
 r = Value.rVal record {
-  ty = Declared.row Scanned.the-type;
+  ty = Declared.row Answered.the-type;
   one = Path'.refl;
-  val = Laws'3.val Scanned.the-type Laws''.the-laws;
-  tells = Laws'3.tells Scanned.the-type Laws''.the-laws;
-  still = Laws'3.still Scanned.the-type Laws''.the-copy Exit.yes;
-  row = Rows.whole (Declared.row Scanned.the-type);
+  val = Laws'3.val Answered.the-type Laws.the-laws;
+  tells = Laws'3.tells Answered.the-type Laws.the-laws;
+  still = Laws'3.still Answered.the-type Laws.the-copy Exit.yes;
+  row = Rows.whole (Declared.row Answered.the-type);
   rd = λ x. x;
   mk = λ x. x;
 } λ M 𝓤 H A W. record {
-  copies = Laws'3.copy Scanned.the-type Laws''.the-copy 𝓤 H A W;
-  lawful = Laws'3.lawful Scanned.the-type Laws''.the-laws 𝓤 H A W;
-  makes = Laws'3.makes Scanned.the-type Laws''.the-plain 𝓤 H A;
-  in-mem = Local.mem-whole 𝓤 H A W (Declared.row Scanned.the-type);
-  of-mem = Local.whole-mem 𝓤 H A W (Declared.row Scanned.the-type);
+  copies = Laws'3.copy Answered.the-type Laws.the-copy 𝓤 H A W;
+  lawful = Laws'3.lawful Answered.the-type Laws.the-laws 𝓤 H A W;
+  makes = Laws'3.makes Answered.the-type Laws.the-plain 𝓤 H A;
+  in-mem = Local.mem-whole 𝓤 H A W (Declared.row Answered.the-type);
+  of-mem = Local.whole-mem 𝓤 H A W (Declared.row Answered.the-type);
 }

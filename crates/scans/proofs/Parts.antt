@@ -1,9 +1,9 @@
 -- The straight parts of a ring: entries `from` to `to - 1` of the queue stand in one part before the ring's end and one past it, and the window's places are theirs, one part after the other.
 use mathlib.Core.Path.{_≡_, refl, sym, ap, _∙_, subst}
 use mathlib.Core.Bool.{Bool, true, false, cond}
-use mathlib.Core.List.{List, _++_}
+use mathlib.Core.List.{List, [], _∷_, _++_}
 use mathlib.Core.Logic.{_⊎_, inl, inr, ⊎-elim}
-use Prim.Native.Nat.{ℕ, _+_, _-_, _/_, _<_, _≤_}
+use Prim.Native.Nat.{ℕ, zero, suc, _+_, _-_, _/_, _<_, _≤_}
 use native.Mathlib.Omega.{arith}
 use lib.ListN.{length, getD, take, drop, length-append, length-drop, length-take, List·getD-append}
 use lib.Seq.{ext-getD, getD-take, getD-drop, getD-append-add}
@@ -44,6 +44,20 @@ module _ (q es : List Place) (at : ℕ) where
   pub stands-at : Stands q es at → (j : ℕ) → j < length es → getD q (at + j) ambiguous ≡ getD es j ambiguous
   stands-at s j h =
       sym (getD-drop at q j ambiguous) ∙ ap (λ (z : List Place). getD z j ambiguous) (s .is) ∙ List·getD-append es (drop (at + length es) q) ambiguous j h
+
+-- The newest of a part's numbers are the newest of its places, and stand where they stood.
+pub decoded-drop : (u : ℕ) (part : List ℕ) → decoded (drop u part) ≡ drop u (decoded part)
+unfolding decoded
+decoded-drop zero part = refl
+decoded-drop (suc u) [] = refl
+decoded-drop (suc u) (e ∷ part) = decoded-drop u part
+
+pub newest-stands : (q es : List Place) (at u : ℕ) → Stands q es at → u ≤ length es → Stands q (drop u es) (at + u)
+newest-stands q es at u s l =
+    stands-by q (drop u es) (at + u) (omega (arith, length-drop u es, s .inside))
+    (λ j h.
+    let n : at + u + j ≡ at + (u + j) = omega arith in
+    ap (λ (z : ℕ). getD q z ambiguous) n ∙ stands-at q es at s (u + j) (omega (arith, length-drop u es)) ∙ sym (getD-drop u es j ambiguous))
 
 -- ---- n numbers of the ring from index k on, as entries from `at` on.
 module _ (ring : List ℕ) (head len k n at : ℕ) (h : head < length ring) (l : len ≤ length ring) (in-ring : k + n ≤ length ring) (in-queue : at + n ≤ len)

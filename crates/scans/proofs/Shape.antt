@@ -112,6 +112,10 @@ module _ {S : Setup} (usual : Usual S) where
           let r = le-near (step-near i (omega arith)) (step-near j h) (rises (suc i) (suc j) l h) in
           omega (arith, unevenness-eps)
 
+-- f does not fall, up to 2^-31.
+pub f-rises : {S : Setup} → UsualShape S → (a : ℕ) → 0 < a → a < S .window-size → pos64 (fAt S a) ≤ pos64 (fAt S (suc a)) + unevenness
+f-rises shape a some h = omega (arith, shape .f-first a some h)
+
 -- Of k places more, f grows the more the longer.
 pub f-widens : {S : Setup} → UsualShape S → (a b k : ℕ) → 0 < a → a ≤ b → b + k ≤ S .window-size → pos64 (fAt S (a + k)) + pos64 (fAt S b) ≤ pos64 (fAt S (b + k)) + pos64 (fAt S a) + k * unevenness
 f-widens {S} shape a b zero some l h =

@@ -7,4 +7,3 @@ pub mod Certified
 pub mod Carry
 pub mod Search
 pub mod Fails
-pub mod Made

@@ -9,7 +9,7 @@ ghost use Rattle.letters.specs.Terms.Entry.{decode, decoded};
 ghost use Rattle.scans.specs.Terms.Numbers.{setupOf};
 ghost use Rattle.scans.specs.Scans.{isNoted};
 ghost use Rattle.scans.specs.Terms.Window.{window, Windowed};
-ghost use Rattle.scans.specs.Terms.Parts.{backwardOf, AddsEntry, withBestAt, withPrevious, restsAt, Fresh, pauses, tooLow, goesOn, restOf, restOver, Coded, Room, Backs, GoesOn};
+ghost use Rattle.scans.specs.Terms.Parts.{backwardOf, AddsEntry, withBestAt, withPrevious, restsAt, Fresh, pauses, tooLow, goesOn, restOf, restOver, PartBefore, NoneBest, Backs, GoesOver, GoesOn};
 use crate::Params;
 
 // A score less than this below the best is a near tie.
@@ -46,7 +46,7 @@ impl BackwardState {
     }
 
     // Counts an entry, and adds to both sums.
-    fn add_entry(
+    pub fn add_entry(
         mut self,
         threshold: f64,
         entry: u32,
@@ -172,10 +172,7 @@ fn backward_part(
     f: &[f64],
     scan_counts: &mut [u16],
 ) -> BackwardState
-    requires { ⌜ (length (now part) ≤ state .low) × (state .low ≤ len) × (len ≤ 65535) × (len < length (now ln))
-        × (len < length (now f)) ⌝ }
-    requires { ⌜ Coded (now part) (length (now «scan_counts»)) × (length (now «window_counts») ≡ length (now «scan_counts»)) ⌝ }
-    requires { ⌜ Room len (now «window_counts») (now «scan_counts») (decoded (now part)) ⌝ }
+    requires { ⌜ PartBefore (state .low) len (length (now ln)) (length (now f)) (now part) (now «window_counts») (now «scan_counts») ⌝ }
     ensures { λ r. ⌜ restOf r (now («scan_counts» .exit))
         ≡ restOver (setupOf p (now (ln .entry)) (now (f .entry))) (now («window_counts» .entry)) quick
         len (decoded (now (part .entry))) (state .low - length (now (part .entry))) (length (now (part .entry)))
@@ -214,7 +211,95 @@ fn backward_part(
     st.resting(from, false, false)
 }
 
-// A backward scan goes on over what is left of the ring's newer part, or else of its older part.
+// The same while no place is best: nothing is noted, nothing is too low, and the scan rests at its first best place, where the score is 0 or more.
+fn backward_low(
+    p: Params,
+    quick: bool,
+    state: BackwardState,
+    part: &[u32],
+    len: usize,
+    window_counts: &[u16],
+    ln: &[f64],
+    f: &[f64],
+    scan_counts: &mut [u16],
+) -> BackwardState
+    requires { ⌜ PartBefore (state .low) len (length (now ln)) (length (now f)) (now part) (now «window_counts») (now «scan_counts») ⌝ }
+    requires { ⌜ NoneBest (backwardOf state) ⌝ }
+    ensures { λ r. ⌜ GoesOver (setupOf p (now (ln .entry)) (now (f .entry))) (now («window_counts» .entry)) quick len (now (part .entry))
+        (restOf state (now («scan_counts» .entry))) (restOf r (now («scan_counts» .exit))) ⌝ }
+{
+    let mut st = state;
+    let from = state.low - part.len();
+    let mut at = state.low;
+    while from < at {
+        at -= 1;
+        let fl = f[len - at];
+        st = st.add_entry(
+            p.score_threshold,
+            part[at - from],
+            window_counts,
+            ln,
+            scan_counts,
+        );
+        if st.sw - fl < 0.0 {
+            return st.resting(at, false, true);
+        }
+        let sl = st.s - fl;
+        if sl >= 0.0 {
+            return st.raised(sl, at).resting(at, false, false);
+        }
+        if quick & (st.best - sl < TINY) {
+            return st.fallen(sl).resting(at, true, false);
+        }
+        st = st.fallen(sl);
+    }
+    st.resting(from, false, false)
+}
+
+// A backward scan goes on over a straight part of the ring, before its first best place no further than to that place.
+fn backward_over(
+    p: Params,
+    quick: bool,
+    state: BackwardState,
+    part: &[u32],
+    len: usize,
+    window_counts: &[u16],
+    ln: &[f64],
+    f: &[f64],
+    scan_counts: &mut [u16],
+) -> BackwardState
+    requires { ⌜ PartBefore (state .low) len (length (now ln)) (length (now f)) (now part) (now «window_counts») (now «scan_counts») ⌝ }
+    requires { ⌜ (state .found ≡ 0 → NoneBest (backwardOf state)) ⌝ }
+    ensures { λ r. ⌜ GoesOver (setupOf p (now (ln .entry)) (now (f .entry))) (now («window_counts» .entry)) quick len (now (part .entry))
+        (restOf state (now («scan_counts» .entry))) (restOf r (now («scan_counts» .exit))) ⌝ }
+{
+    if state.found == 0 {
+        return backward_low(
+            p,
+            quick,
+            state,
+            part,
+            len,
+            window_counts,
+            ln,
+            f,
+            scan_counts,
+        );
+    }
+    backward_part(
+        p,
+        quick,
+        state,
+        part,
+        len,
+        window_counts,
+        ln,
+        f,
+        scan_counts,
+    )
+}
+
+// A backward scan goes on over what is left of the ring's newer part, or else of its older part; it may rest within it.
 pub fn backward_on(
     p: Params,
     quick: bool,
@@ -237,7 +322,7 @@ pub fn backward_on(
     let to = head + state.low;
     if queue.len() < to {
         let past = to - queue.len();
-        return backward_part(
+        return backward_over(
             p,
             quick,
             state,
@@ -249,7 +334,7 @@ pub fn backward_on(
             scan_counts,
         );
     }
-    backward_part(
+    backward_over(
         p,
         quick,
         state,

@@ -13,12 +13,10 @@ use crate::Params;
 use crate::candidates::Searched;
 use crate::counts::lower_entry;
 use crate::counts::window_value;
+use crate::kept::DISTANCE;
 use crate::queue::clear_from;
 use crate::queue::ring_index;
 use crate::queue::uncount;
-
-// What floats say that are this far apart holds of the exact scores too: 2^-10.
-const CERTAIN: f64 = 0.0009765625;
 
 // From the newest entry back, over entries that are newer than every candidate: what they add to a forward scan from `oldest`, less the threshold each.
 // They add no more to one from a newer candidate, and f grows by no less over them than it does in one from `newest`: where the sum falls short of that,
@@ -49,7 +47,7 @@ fn newest_fall_short(
         let at = ring_index(queue.len(), head, len - l);
         let entry = queue[at];
         sum = sum + (window_value(scan_counts, ln, entry) - p.score_threshold);
-        if sum < f[size] - f[size - l] - CERTAIN {
+        if sum < f[size] - f[size - l] - DISTANCE {
             return true;
         }
         lower_entry(scan_counts, entry);

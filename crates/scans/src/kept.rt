@@ -15,7 +15,7 @@ use crate::counts::window_value;
 use crate::queue::newest_entry;
 use crate::queue::ring_index;
 
-// 2^-10, far above all rounding errors.
+// 2^-10: what floats say that are this far apart holds of the exact scores too.
 pub const DISTANCE: f64 = 0.0009765625;
 
 // How many entries lie from the last one that equals the newest to the newest, both counted; 0 where none of the `near` before the newest does.

@@ -8,17 +8,15 @@
 // | `dust_forward` | forward: `dust_forward`, a `forward_part` for each straight part of the ring |
 // | `dust_backward`, its xdrop | limits: `drop_limit` |
 // | `dust_backward`, its clearing of the scan counts | queue: `clear_from`, where a scan touched them |
-// | `dust_backward`, its first loop | candidates: `scan_backward`; backward: `backward_on` from peak to peak, a `backward_part` at a time |
+// | `dust_backward`, its first loop | candidates: `scan_backward`; backward: `backward_on` from peak to peak, a part of the ring at a time, `backward_low` before the first best place, `backward_part` after it |
 // | `dust_backward`, its second loop | candidates: `try_candidates`, unless fails: `none_ends` tells that it finds nothing |
 // | `dust_backward` as a whole | dust: `dust_backward`, which first asks quick: `find_quickly`, a fast form for the letters after a find |
 //
-// certain: `find_certain` leaves a search out where a certificate of the last find's start tells that it would find that start again; certify makes the certificate, kept keeps it.
+// carried: the last find's forward scan, gone on with letter by letter; kept: the certificate of its start, by which crate `certificates` leaves searches out.
 
 mod backward;
 mod candidates;
 mod carried;
-mod certain;
-mod certify;
 mod counts;
 mod dust;
 mod fails;
@@ -29,16 +27,20 @@ mod queue;
 mod quick;
 mod step;
 
+pub use backward::BackwardState;
 pub use carried::nothing;
-pub use certain::find_certain;
 pub use counts::count_entry;
 pub use counts::lower_entry;
+pub use counts::raised_value;
 pub use dust::dust_backward;
+pub use kept::DISTANCE;
 pub use limits::drop_limit;
 pub use limits::is_usual;
 pub use limits::max_test;
 pub use queue::clear_from;
+pub use queue::newest_entry;
 pub use queue::ring_index;
+pub use queue::uncount;
 pub use step::extend;
 pub use step::if_backward;
 
@@ -88,6 +90,12 @@ pub struct Certificate {
 pub struct Scanned {
     pub found: usize,
     pub carry: Carry,
+}
+
+// The same, and how many entries the search has read where it noted no candidate, else 0.
+pub struct Answered {
+    pub scanned: Scanned,
+    pub read: usize,
 }
 
 // A candidate, with the Rust's names: a place from which a forward scan is tried, with the backward scan's best score when it was noted.

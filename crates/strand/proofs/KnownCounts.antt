@@ -7,6 +7,7 @@ use native.Mathlib.Omega.{arith}
 use lib.ListN.{length, getD, drop, replicate, length-set, length-append, length-replicate}
 use lib.Seq.{drop-append-le}
 use lib.IntN.{ℤ, pos, negsuc, pos-ne-negsuc}
+use lib.Dec.{eqb}
 use borrow.Author.Tests.{ne-eqb}
 use Rattle.floats.specs.Binary64.{zero64}
 use Rattle.letters.specs.Place.{Place, ambiguous, plain, Below}
@@ -26,7 +27,7 @@ use Rattle.scans.proofs.CertificateKept.{certified-left}
 use Rattle.scans.proofs.Finds.{backward-facts}
 use Rattle.strand.specs.Step.{whole, countsWithout, lastQWithout}
 use Rattle.strand.specs.declared.Window.{Window}
-use Rattle.strand.specs.Terms.KnownCounts.{KnownCounts, carryWithout, Passes, extendedOf, answeredBy}
+use Rattle.strand.specs.Terms.KnownCounts.{KnownCounts, ends, countsLess, carryLess, Passes, extendedOf, answeredBy}
 use Rattle.strand.specs.Terms.Finding.{lastQBy}
 use Rattle.strand.specs.Terms.ReadingOn.{unread}
 
@@ -98,7 +99,7 @@ known-counted {S} {q} {j} {counts = counts} l n s =
 pub known-unread : {S : Setup} → KnownCounts S [] (unread .window) (cleared S)
 known-unread = known-same (known-clear refl refl) refl refl refl
 
-known-off : {S : Setup} {q : List Place} {w : Window} {counts : List ℕ} → KnownCounts S q w counts → w .live ≡ false → w .carry .on ≡ false
+pub known-off : {S : Setup} {q : List Place} {w : Window} {counts : List ℕ} → KnownCounts S q w counts → w .live ≡ false → w .carry .on ≡ false
 known-off {w = w} k n = go (w .carry .on) refl
   where
     go : (b : Bool) → w .carry .on ≡ b → w .carry .on ≡ false
@@ -113,12 +114,16 @@ lower-cleared S (plain x) =
     touched-none (lower z (plain x)) (touched-lower z (plain x) [] (touched-cleared (kmers S) (plain x ∷ [])))
     ∙ ap (λ (n : ℕ). replicate n 0) (length-set z x (getD z x 0 - 1) ∙ length-replicate (kmers S) 0)
 
+zero-ne : (j : ℕ) → eqb 0 (suc j) ≡ false
+zero-ne j = ne-eqb 0 (suc j) (λ (h : 0 ≡ suc j). let b : ⊥ = omega arith in b)
+
 oldest : (S : Setup) (e : Place) (q : List Place) (last : ℤ) (live : Bool) (c : Carry) (counts : List ℕ) → Below (kmers S) (e ∷ q) → suc (length q) ≤ S .window-size → KnownCounts S (e ∷ q) (says last live c) counts
-    → KnownCounts S q (says (lastQWithout last) live (carryWithout last c)) (countsWithout last counts e)
-oldest S e q (pos zero) false c counts b l k = known-clear (ap (λ (z : List ℕ). lower z e) (k .clear refl) ∙ lower-cleared S e) refl
+    → KnownCounts S q (says (lastQWithout last) live (carryLess (ends live last) c)) (countsLess (ends live last) counts e)
+oldest S e q last false c counts b l k = known-clear (k .clear refl) (known-off k refl)
 oldest S e q (pos zero) true c counts b l k = known-touched (omega arith) (touched-lower counts e q (k .touched refl)) refl
-oldest S e q (pos (suc j)) live c counts b within k =
-    record {
+oldest S e q (pos (suc j)) true c counts b within k =
+    rw (zero-ne j)
+    (record {
       clear = k .clear;
       from = λ _. refl;
       inside = λ l. omega (arith, k .inside l);
@@ -126,13 +131,26 @@ oldest S e q (pos (suc j)) live c counts b within k =
       live = k .live;
       counted = k .counted;
       carried = record { sums = k .carried .sums; certified = λ on. certified-left e q b within (k .carried .certified on) };
-    }
-oldest S e q (negsuc j) false c counts b l k = known-clear (k .clear refl) (known-off k refl)
+    })
 oldest S e q (negsuc j) true c counts b l k = absurd (pos-ne-negsuc 0 j (sym (k .from refl)))
 
 pub known-oldest : {S : Setup} {e : Place} {q : List Place} {w w′ : Window} {counts : List ℕ} → Below (kmers S) (e ∷ q) → suc (length q) ≤ S .window-size → KnownCounts S (e ∷ q) w counts
-    → w′ .«last_q» ≡ lastQWithout (w .«last_q») → w′ .live ≡ w .live → w′ .carry ≡ carryWithout (w .«last_q») (w .carry) → KnownCounts S q w′ (countsWithout (w .«last_q») counts e)
+    → w′ .«last_q» ≡ lastQWithout (w .«last_q») → w′ .live ≡ w .live → w′ .carry ≡ carryLess (ends (w .live) (w .«last_q»)) (w .carry)
+    → KnownCounts S q w′ (countsLess (ends (w .live) (w .«last_q»)) counts e)
 known-oldest {S} {e} {q} {w} {counts = counts} b h k a l c = known-same (oldest S e q (w .«last_q») (w .live) (w .carry) counts b h (known-same k refl refl refl)) a l c
+
+-- The definition's counts without the oldest place.
+less : (S : Setup) (e : Place) (last : ℤ) (live : Bool) (counts : List ℕ) → (live ≡ false → counts ≡ cleared S) → countsLess (ends live last) counts e ≡ countsWithout last counts e
+less S e (pos zero) false counts clear = rw (clear refl) (sym (lower-cleared S e))
+less S e (pos zero) true counts clear = refl
+less S e (pos (suc j)) false counts clear = refl
+less S e (pos (suc j)) true counts clear = rw (zero-ne j)
+less S e (negsuc j) false counts clear = refl
+less S e (negsuc j) true counts clear = refl
+
+pub known-less : {S : Setup} {q : List Place} {w : Window} {counts : List ℕ} (e : Place) → KnownCounts S q w counts
+    → countsLess (ends (w .live) (w .«last_q»)) counts e ≡ countsWithout (w .«last_q») counts e
+known-less {S} {w = w} {counts} e k = less S e (w .«last_q») (w .live) counts (k .clear)
 
 -- ---- The newest entry joins, and is no find.
 module _ {S : Setup} {q : List Place} {w : Window} {counts : List ℕ} (k : KnownCounts S q w counts) where

@@ -187,7 +187,7 @@ module _ {p : Params} {codes : List ℕ} {ln : List Float} (f : List Float) {a a
         run-is = λ saved.
             j .run-is f (a′ .hand) counts′ saved
             ∙ ap (λ (o : Open). join S (heldBy w₁ o ring counts′ saved) (newestOf p a′)) hand-is
-            ∙ ap₂ (λ (z : Run) (e : Place). join S z e) (l .run-is f (a .hand) saved) place;
+            ∙ ap₂ (λ (z : Run) (e : Place). join S z e) (l .run-is f (a .hand) saved k) place;
         place-is = place;
         kmer-is = kmer-is;
         i-is = i-is;
@@ -199,6 +199,7 @@ module _ {p : Params} {codes : List ℕ} {ln : List Float} (f : List Float) {a a
           known = j .known f counts′ (l .known f k);
           newest = j .newest;
         };
+        live-is = j .live-is ∙ l .live-is;
       }
 
 module _ {p : Params} {codes : List ℕ} {ln f : List Float} {a a′ : State} {ring counts ring′ window-counts′ counts′ : List ℕ} (saved : List Interval) where

@@ -2,6 +2,7 @@ pub mod Finds
 pub mod Shape
 pub mod WindowSum
 pub mod Placing
+pub mod KnownLow
 pub mod Evidence
 pub mod Shorter
 pub mod Agreeing

@@ -37,6 +37,9 @@ like-start l = ap (λ (z : Run). z .start) (l .run-is)
 pub like-saved : {i : ℕ} {a b : Run} → Like i a b → a .saved ≡ b .saved
 like-saved l = ap (λ (z : Run). z .saved) (l .run-is)
 
+pub like-window : {i : ℕ} {a b : Run} → Like i a b → a .window ≡ b .window
+like-window l = ap (λ (z : Run). z .window) (l .run-is)
+
 pub like-trans : {i : ℕ} {a b c : Run} → Like i a b → Like i b c → Like i a c
 like-trans {i} {a} l m =
     record {

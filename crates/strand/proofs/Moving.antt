@@ -24,11 +24,11 @@ use Rattle.scans.proofs.Counting.{Counted, hit-self, count-le, raise-counted, l
 use Rattle.scans.proofs.Ring.{ring-index-at, queue-length, queue-join, queue-leave, window-join, window-leave, window-length}
 use Rattle.scans.proofs.Values.{decode-below, decoded-below}
 use Rattle.scans.proofs.Windows.{long}
-use Rattle.strand.specs.Step.{sumWithout, sumWith, countsWithout, lastQWithout, withoutOldest, leave, join}
+use Rattle.strand.specs.Step.{sumWithout, sumWith, lastQWithout, withoutOldest, leave, join}
 use Rattle.strand.specs.declared.Window.{Window}
-use Rattle.strand.specs.Terms.KnownCounts.{KnownCounts, carryWithout}
+use Rattle.strand.specs.Terms.KnownCounts.{KnownCounts, ends, countsLess, carryLess}
 use Rattle.strand.specs.Terms.Entering.{heldBy, sumLess, sumMore, Left, Joined}
-use Rattle.strand.proofs.KnownCounts.{known-same, known-oldest}
+use Rattle.strand.proofs.KnownCounts.{known-same, known-oldest, known-less}
 
 -- ---- The sum, by window counts that are those of the places q.
 module _ (S : Setup) (counts : List ℕ) (q : List Place) (c : (x : ℕ) → getD counts x 0 ≡ count x q) (sum : Float) where
@@ -199,9 +199,9 @@ lessOldest w sum carry = record { sum = sum; «last_q» = w .«last_q»; head = 
 
 -- b is the window whose sum and carried scan are without the entry.
 module _ {p : Params} {ln : List Float} {a b : Window} {ring counts scan-counts counts′ scan-counts′ : List ℕ} {sum : Float} {last : ℤ} {head : ℕ} where
-  pub left : Windowed p ring (a .head) (a .len) counts (length ln) → a .len ≡ p .«window_size» → b ≡ lessOldest a sum (carryWithout (a .«last_q») (a .carry))
+  pub left : Windowed p ring (a .head) (a .len) counts (length ln) → a .len ≡ p .«window_size» → b ≡ lessOldest a sum (carryLess (ends (a .live) (a .«last_q»)) (a .carry))
       → sum ≡ sumLess ln counts (a .sum) (decode (getD ring (a .head) 0)) → last ≡ lastQWithout (a .«last_q») → head ≡ ringIndex (p .«window_size») (a .head) 1
-      → counts′ ≡ lower counts (decode (getD ring (a .head) 0)) → scan-counts′ ≡ countsWithout (a .«last_q») scan-counts (decode (getD ring (a .head) 0))
+      → counts′ ≡ lower counts (decode (getD ring (a .head) 0)) → scan-counts′ ≡ countsLess (ends (a .live) (a .«last_q»)) scan-counts (decode (getD ring (a .head) 0))
       → Left p ln a (record { sum = b .sum; «last_q» = last; head = head; len = b .len - 1; live = b .live; carry = b .carry }) ring scan-counts counts′ scan-counts′
   unfolding leave
   left w full b-is sum-is last-is head-is counts-is scan-is =
@@ -211,12 +211,13 @@ module _ {p : Params} {ln : List Float} {a b : Window} {ring counts scan-counts 
         known = λ f k.
             rw (head-is, scan-is)
             (known-oldest (subst (λ (z : List Place). Below (4 ^ p .kmer) z) (left-window w full) (window-below w)) (omega (arith, ap length (left-window w full), long w, w .len-in)) (subst (λ (z : List Place). KnownCounts (setupOf p ln f) z a scan-counts) (left-window w full) k) last-is refl refl);
-        run-is = λ f o saved.
-            rw (le-leb (p .«window_size») (length q) (omega (arith, long w)), head-is, last-is, scan-is, sum-is)
+        run-is = λ f o saved k.
+            rw (le-leb (p .«window_size») (length q) (omega (arith, long w)), head-is, last-is, scan-is ∙ known-less (decode (getD ring (a .head) 0)) k, sum-is)
             (rw (less-is (setupOf p ln f) counts q (w .counted) (a .sum) (decode (getD ring (a .head) 0)))
             (ap (λ (z : List Place). withoutOldest (setupOf p ln f) (heldBy a o ring scan-counts saved) z) (sym (left-window w full))));
         windowed = rw (head-is, counts-is) (left-windowed w full);
         room = omega (arith, w .wide);
+        live-is = refl;
       })
 
 -- A queue that is not full has room.
@@ -226,9 +227,10 @@ unfolding leave
 left-none {p} {a = a} {ring} w h =
     record {
       known = λ f k. k;
-      run-is = λ f o saved. rw (lt-leb (p .«window_size») (length (window ring (a .head) (a .len))) (omega (arith, long w, w .len-in)));
+      run-is = λ f o saved k. rw (lt-leb (p .«window_size») (length (window ring (a .head) (a .len))) (omega (arith, long w, w .len-in)));
       windowed = w;
       room = omega (arith, w .len-in);
+      live-is = refl;
     }
 
 -- ---- A new entry joins.
@@ -249,4 +251,5 @@ module _ {p : Params} {ln : List Float} {a : Window} {ring counts counts′ : Li
         newest = rw i-is (joined-window w room e below ∙ ap (λ (z : List Place). z ++ decode e ∷ []) (sym (joined-before w room e below)));
         windowed = rw (i-is, counts-is) (joined-windowed w room e below);
         some = omega arith;
+        live-is = refl;
       }

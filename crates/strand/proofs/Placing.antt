@@ -1,10 +1,10 @@
 -- Where the window of a run stands in the strand, for any float bits: it is the last of the places read, at most w of them.
 use mathlib.Core.Path.{_≡_, refl, sym, ap, _∙_, subst}
-use Prim.Native.Nat.{ℕ, suc, _+_, _≤_, _<_}
+use Prim.Native.Nat.{ℕ, zero, suc, _+_, _-_, _≤_, _<_}
 use native.Mathlib.Omega.{arith}
 use mathlib.Core.List.{List, [], _∷_, _++_}
-use lib.ListN.{length, take, drop, length-append}
-use lib.Seq.{append-snoc, drop-append-add, drop-append-le, take-at}
+use lib.ListN.{length, getD, take, drop, length-append, length-drop}
+use lib.Seq.{append-snoc, length-take-le, take-suc, drop-append-add, drop-append-le, drop-drop, drop-nil, take-at}
 use lib.Dec.{leb, leb→le, nleb→lt}
 use Rattle.letters.specs.Place.{Place, ambiguous, plain, Below}
 use Rattle.scans.specs.Setup.{Setup}
@@ -98,6 +98,44 @@ module _ (S : Setup) (some : 0 < S .window-size) (ps : List Place) where
   unfolding run begin
   run-placed es rest q = subst (λ (n : ℕ). Placed ps (suc w) n (run S es .window) rest) (omega arith) (from-placed 0 (begin S) es rest (record { past = []; parts = q; placed = refl; short = omega arith }))
 
+-- ---- The window by indices.
+-- The newest of the first i places, at most w of them.
+abbrev pub newest : ℕ → ℕ → List Place → List Place
+newest w i ps = drop (i - w) (take i ps)
+
+pub newest-length : (w i : ℕ) (ps : List Place) → i ≤ length ps → length (newest w i ps) ≡ i - (i - w)
+newest-length w i ps h = length-drop (i - w) (take i ps) ∙ ap (λ (n : ℕ). n - (i - w)) (length-take-le i ps h)
+
+module _ (S : Setup) (some : 0 < S .window-size) (ps : List Place) where
+  without-newest : (a : Run) (q : List Place) → 0 < length q → withoutOldest S a q .window ≡ drop 1 q
+  without-newest a [] h = absurd (let b : ⊥ = omega arith in b)
+  without-newest a (x ∷ q) h = refl
+
+  leave-newest : (i : ℕ) (a : Run) → i ≤ length ps → a .window ≡ newest (S .window-size) i ps → leave S a .window ≡ drop (i + 1 - S .window-size) (take i ps)
+  unfolding leave
+  leave-newest i a h e =
+      let w = S .window-size in
+      let n : length (a .window) ≡ i - (i - w) = ap length e ∙ newest-length w i ps h in
+      by-test (λ (b : Run). b .window ≡ drop (i + 1 - w) (take i ps)) (leb w (length (a .window))) (withoutOldest S a (a .window)) a
+      (λ t.
+      let full = leb→le w (length (a .window)) t in
+      without-newest a (a .window) (omega arith)
+      ∙ ap (λ (q : List Place). drop 1 q) e
+      ∙ drop-drop 1 (i - w) (take i ps)
+      ∙ ap (λ (m : ℕ). drop m (take i ps)) (let m : i - w + 1 ≡ i + 1 - w = omega arith in m))
+      (λ t.
+      let room = nleb→lt w (length (a .window)) t in
+      e ∙ ap (λ (m : ℕ). drop m (take i ps)) (let m : i - w ≡ i + 1 - w = omega arith in m))
+
+  pub enters-newest : (i : ℕ) (a : Run) (e : Place) → take (i + 1) ps ≡ take i ps ++ e ∷ [] → i ≤ length ps → a .window ≡ newest (S .window-size) i ps
+      → join S (leave S a) e .window ≡ newest (S .window-size) (i + 1) ps
+  unfolding join
+  enters-newest i a e more h q =
+      let m = i + 1 - S .window-size in
+      ap (λ (z : List Place). z ++ e ∷ []) (leave-newest i a h q)
+      ∙ sym (drop-append-le m (take i ps) (e ∷ []) (omega (arith, length-take-le i ps h, some)))
+      ∙ ap (λ (z : List Place). drop m z) (sym more)
+
 -- ---- What a run looks from at a letter is `lookedFrom` of the places before.
 from-cut : (S : Setup) (i : ℕ) (a : Run) (es rest : List Place) → runFrom S i a (es ++ rest) ≡ runFrom S (i + length es) (runFrom S i a es) rest
 unfolding runFrom
@@ -108,3 +146,23 @@ pub run-looks : (S : Setup) (before : List Place) (e : Place) (after : List Plac
     → run S (before ++ e ∷ after) ≡ runFrom S (length before + 1) (look S (length before) (lookedFrom S before e) e) after
 unfolding run runFrom step lookedFrom
 run-looks S before e after = from-cut S 0 (begin S) before (e ∷ after) ∙ ap (λ (n : ℕ). runFrom S n (runFrom S 0 (begin S) before) (e ∷ after)) (let z : 0 + length before ≡ length before = omega arith in z)
+
+-- The next letter is a step.
+pub run-next : (S : Setup) (before : List Place) (e : Place) {i : ℕ} → length before ≡ i → run S (before ++ e ∷ []) ≡ step S i (run S before) e
+unfolding runFrom step lookedFrom
+run-next S before e n = run-looks S before e [] ∙ ap (λ (i : ℕ). step S i (run S before) e) n
+
+-- The window after i places is the newest of them.
+module _ (S : Setup) (some : 0 < S .window-size) (ps : List Place) where
+  pub window-newest : (i : ℕ) → i ≤ length ps → run S (take i ps) .window ≡ newest (S .window-size) i ps
+  unfolding run runFrom begin step
+  window-newest zero h = sym (drop-nil (0 - S .window-size))
+  window-newest (suc i) h =
+      let e = getD ps i ambiguous in
+      let more = take-suc ps i ambiguous (omega arith) in
+      let a = run S (take i ps) in
+      ap (λ (z : List Place). run S z .window) more
+      ∙ ap (λ (z : Run). z .window) (run-next S (take i ps) e (length-take-le i ps (omega arith)))
+      ∙ look-window S some ps i (join S (leave S a) e) e
+      ∙ subst (λ (n : ℕ). take n ps ≡ take i ps ++ e ∷ [] → join S (leave S a) e .window ≡ newest (S .window-size) n ps) (let n : i + 1 ≡ suc i = omega arith in n)
+      (λ more. enters-newest S some ps i a e more (omega arith) (window-newest i (omega arith))) more

@@ -1,37 +1,45 @@
 -- Reading on over letters that are not searched from: each leaves the interval in hand as it is, and is one step of the definition's run.
 use mathlib.Core.Path.{_≡_, refl, sym, ap, _∙_, subst}
 use mathlib.Core.Bool.{true, false}
-use mathlib.Core.List.{List, []}
+use mathlib.Core.List.{List, [], _∷_, _++_}
 use Prim.Native.Nat.{ℕ, _+_, _^_, _≤_, _<_}
+use native.Mathlib.Numerals.{add-one}
 use native.Mathlib.Omega.{arith}
-use lib.ListN.{length, drop}
+use lib.ListN.{length, take}
+use lib.Seq.{take-suc, length-take-le}
 use lib.Ieee.{Float}
-use Rattle.letters.specs.Place.{Place, placeAt, places}
+use Rattle.letters.specs.Place.{Place, ambiguous, placeAt, places}
 use Rattle.letters.specs.Terms.Rolling.{kmerAfter, entryOf}
-use Rattle.letters.proofs.Places.{places-drop}
+use Rattle.letters.proofs.Places.{places-length, places-at}
 use Rattle.letters.proofs.Rolling.{value-small}
 use Rattle.intervals.specs.Interval.{Interval}
 use Rattle.scans.specs.declared.Params.{Params}
 use Rattle.scans.specs.Setup.{Setup}
 use Rattle.scans.specs.Terms.Numbers.{setupOf}
-use Rattle.strand.specs.Step.{Run, isAt, whole, step, runFrom}
+use Rattle.strand.specs.Step.{isAt, whole, step, run}
 use Rattle.strand.specs.declared.Open.{Open}
 use Rattle.strand.specs.declared.State.{State}
 use Rattle.strand.specs.Terms.KnownCounts.{sought}
 use Rattle.strand.specs.Terms.Entering.{held, newestOf, Entered, Next, Enters}
 use Rattle.strand.specs.Terms.Searching.{isSearched}
 use Rattle.strand.specs.Terms.Finding.{PassedOn}
-use Rattle.strand.specs.Terms.ReadingOn.{Read, Skims, Skimmed}
+use Rattle.strand.specs.Terms.ReadingOn.{runTo, Read, Skims, Skimmed}
 use Rattle.strand.proofs.Moving.{window-below}
 use Rattle.strand.proofs.Searching.{look-unsearched, seeks-passed}
 use Rattle.strand.proofs.Like.{ended}
+use Rattle.strand.proofs.Placing.{run-next}
 use Rattle.strand.proofs.Letter.{Settled, SeeksAt, looked-windowed, looked-known, settles, passed-find, stepped}
 
+-- The places of one more letter.
+pub places-take : (k : ℕ) (codes : List ℕ) (i : ℕ) → i < length codes → take (i + 1) (places k codes) ≡ take i (places k codes) ++ placeAt k codes i ∷ []
+places-take k codes i l =
+    let ps = places k codes in
+    rw (add-one i) (take-suc ps i ambiguous (omega (arith, places-length k codes)))
+    ∙ ap (λ (e : Place). take i ps ++ e ∷ []) (places-at k codes i l)
+
 -- The definition's run takes letter i.
-pub run-turn : (S : Setup) (codes : List ℕ) (i : ℕ) (a : Run) → i < length codes
-    → runFrom S i a (drop i (places (S .kmer) codes)) ≡ runFrom S (i + 1) (step S i a (placeAt (S .kmer) codes i)) (drop (i + 1) (places (S .kmer) codes))
-unfolding runFrom
-run-turn S codes i a l = ap (λ (z : List Place). runFrom S i a z) (places-drop (S .kmer) codes i l)
+pub run-turn : (S : Setup) (codes : List ℕ) (i : ℕ) → i < length codes → runTo S codes (i + 1) ≡ step S i (runTo S codes i) (placeAt (S .kmer) codes i)
+run-turn S codes i l = ap (λ (ps : List Place). run S ps) (places-take (S .kmer) codes i l) ∙ run-next S (take i (places (S .kmer) codes)) (placeAt (S .kmer) codes i) (length-take-le i (places (S .kmer) codes) (omega (arith, places-length (S .kmer) codes)))
 
 -- A letter that is not searched from is no find.
 module _ {p : Params} {ln f : List Float} {a a′ : State} {ring window-counts counts counts′ : List ℕ} (n : Entered p ln f (a .window) (entryOf (p .kmer) (a .kmer)) ring window-counts counts)
@@ -46,7 +54,7 @@ module _ {p : Params} {ln f : List Float} {a a′ : State} {ring window-counts c
 
 -- No letter yet, letter i, and all letters.
 pub skims-none : {p : Params} {codes : List ℕ} {ln f : List Float} {a : State} {ring counts : List ℕ} → Skims p codes ln f a a ring counts ring counts
-skims-none = record { further = omega arith; hand-is = refl; onward = λ saved real h l. record { real′ = real; like = l; rest = refl } }
+skims-none = record { further = omega arith; hand-is = refl; onward = λ saved h l. l }
 
 pub next : {p : Params} {codes : List ℕ} {ln f : List Float} {n-counts : ℕ} {a : State} {ring window-counts counts : List ℕ} → Read p codes ln f a ring window-counts counts
     → p .kmer ≤ 12 → length codes < 2147483648 → n-counts ≡ 4 ^ p .kmer → a .i < length codes → Next p codes (length ln) a ring window-counts n-counts
@@ -89,15 +97,9 @@ module _ {p : Params} {codes : List ℕ} {ln f : List Float} {a a₁ : State} (l
         record {
           further = omega (arith, s .further, i-after);
           hand-is = t .hand-is ∙ n .hand-is ∙ s .hand-is;
-          onward = λ saved real before like.
-              let x = s .onward saved real before like in
+          onward = λ saved before like.
               let past : isAt (a .hand .end) (a .i + 1) ≡ false =
               ended {i = a .i} (a .hand .end) (omega (arith, s .further, before, ap (λ (o : Open). whole (o .end)) (s .hand-is))) in
               let past₁ = subst (λ (i : ℕ). isAt (a₁ .hand .end) (i + 1) ≡ false) (sym (n .i-is)) (subst (λ (o : Open). isAt (o .end) (a .i + 1) ≡ false) (sym (n .hand-is)) past) in
-              rw i-after
-              (record {
-                real′ = step (setupOf p ln f) (a .i) (x .real′) (placeAt (p .kmer) codes (a .i));
-                like = stepped saved n past (passes-by (n .entered) h t past₁ saved .like) (x .like);
-                rest = x .rest ∙ run-turn (setupOf p ln f) codes (a .i) (x .real′) l;
-              });
+              rw (i-after, run-turn (setupOf p ln f) codes (a .i) l) (stepped saved n past (passes-by (n .entered) h t past₁ saved .like) (s .onward saved before like));
         }

@@ -4,11 +4,11 @@ use mathlib.Core.Bool.{false}
 use mathlib.Core.List.{List, []}
 use Prim.Native.Nat.{ℕ, _+_, _/_, _^_, _≤_, _<_}
 use native.Mathlib.Omega.{arith}
-use lib.ListN.{length, take, drop, replicate, length-replicate, drop-of-length-le}
-use lib.Seq.{length-take-le}
+use lib.ListN.{length, take, replicate, length-replicate}
+use lib.Seq.{take-all, length-take-le}
 use lib.IntN.{ℤ, pos, negsuc}
 use lib.Ieee.{Float}
-use Rattle.letters.specs.Place.{placeAt, places}
+use Rattle.letters.specs.Place.{Place, placeAt, places}
 use Rattle.letters.specs.Terms.Entry.{decoded}
 use Rattle.letters.specs.Terms.Rolling.{kmerAfter, entryOf}
 use Rattle.letters.proofs.Places.{places-length, place-read}
@@ -23,7 +23,7 @@ use Rattle.scans.specs.Counts.{cleared}
 use Rattle.scans.specs.Terms.Window.{queue, window}
 use Rattle.scans.proofs.Counting.{cleared-counted}
 use Rattle.scans.proofs.Windows.{long}
-use Rattle.strand.specs.Step.{Run, begin, isAt, whole, saveFrom, look, step, runFrom, run, intervalsOfPlaces, intervalsOf}
+use Rattle.strand.specs.Step.{Run, begin, isAt, whole, saveFrom, look, runFrom, run, intervalsOfPlaces, intervalsOf}
 use Rattle.strand.specs.declared.Open.{Open}
 use Rattle.strand.specs.declared.State.{State}
 use Rattle.strand.specs.declared.Look.{Look}
@@ -33,15 +33,16 @@ use Rattle.strand.specs.Terms.Like.{Like}
 use Rattle.strand.specs.Terms.Entering.{held, newestOf, Entered}
 use Rattle.strand.specs.Terms.Searching.{Looks}
 use Rattle.strand.specs.Terms.Finding.{Closing, savedIn, Saving, TakesFind, PassedOn}
-use Rattle.strand.specs.Terms.ReadingOn.{unread, Skims, Stops}
+use Rattle.strand.specs.Terms.ReadingOn.{unread, runTo, Skims, Stops}
 use Rattle.strand.specs.Terms.Running.{PartLent, StrandLent, Finished, StartOk, Shaped, Before, ScanAnswer, Asking, Due, StrandList}
 use Rattle.strand.proofs.Shape.{ShapedAt, shaped-more, saved-room, begin-shaped, step-shaped}
 use Rattle.strand.proofs.KnownCounts.{known-unread}
-use Rattle.strand.proofs.Like.{ended, like-refl, like-start, like-end, like-saved}
+use Rattle.strand.proofs.Like.{ended, like-refl, like-window, like-start, like-end, like-saved}
+use Rattle.strand.proofs.Placing.{window-newest, enters-newest}
 use Rattle.strand.proofs.Moving.{window-below}
 use Rattle.strand.proofs.Searching.{passing, seeks-answered, looked-counts, seeks-passed, seeks-extended, seeks-scanned}
 use Rattle.strand.proofs.Letter.{Settled, SeeksAt, found-within, settles, passed-find, stepped}
-use Rattle.strand.proofs.ReadingOn.{run-turn}
+use Rattle.strand.proofs.ReadingOn.{places-take, run-turn}
 
 -- ---- Room to save.
 closing-of : (k i : ℕ) (start end : ℤ) → 0 < k → i < 2147483648 → whole end ≤ i → StartOk k start (whole end) → Closing start end
@@ -83,7 +84,7 @@ module _ {p : Params} {codes : List ℕ} {ln f : List Float} {ring window-counts
       → StrandLent p (length codes) (length ln) n-f (length ring) n-window-counts n-counts n-candidates n-list
       → (a ≡ unread) × (window-counts ≡ replicate n-window-counts 0) × (counts ≡ replicate n-counts 0)
       → Before p codes ln f a ring window-counts counts list
-  unfolding run queue decoded
+  unfolding run runFrom queue decoded
   inv-start l (e, hw, hc) =
       let S = setupOf p ln f in
       let window-clear = cleared-is (l .window-counts-are) hw in
@@ -109,16 +110,11 @@ module _ {p : Params} {codes : List ℕ} {ln f : List Float} {ring window-counts
         };
         shaped = subst (λ (z : Run). ShapedAt S 0 z) (sym b) (begin-shaped S);
         count-in = omega arith;
-        real = begin S;
         like = subst (λ (z : Run). Like 0 (held unread ring counts (savedIn 0 list)) z) b like-refl;
-        rest = refl;
       })
 
-run-end : (S : Setup) (codes : List ℕ) (i : ℕ) (a : Run) → length codes ≤ i → runFrom S i a (drop i (places (S .kmer) codes)) ≡ a
-unfolding runFrom
-run-end S codes i a h =
-    let ps = places (S .kmer) codes in
-    rw (drop-of-length-le ps {i = i} (let l : length ps ≤ i = omega (arith, places-length (S .kmer) codes) in l))
+run-end : (S : Setup) (codes : List ℕ) (i : ℕ) → length codes ≤ i → runTo S codes i ≡ run S (places (S .kmer) codes)
+run-end S codes i h = ap (λ (ps : List Place). run S ps) (take-all i (places (S .kmer) codes) (omega (arith, places-length (S .kmer) codes)))
 
 module _ {p : Params} {codes : List ℕ} {ln f : List Float} {a : State} {ring window-counts counts : List ℕ} {list : List (List ℕ)}
     (v : Before p codes ln f a ring window-counts counts list) where
@@ -148,7 +144,7 @@ module _ {p : Params} {codes : List ℕ} {ln f : List Float} {a : State} {ring w
         let saved = savedIn (a .hand .count) list in
         let saved′ = savedIn (a′ .hand .count) list′ in
         let b = held (s .before) (s .ring₀) (s .counts₀) saved in
-        let x = s .skims .onward saved (v .real) (v .shaped .end-in) (v .like) in
+        let x = s .skims .onward saved (v .shaped .end-in) (v .like) in
         let at-end = not-ended (s .before .hand) (s .skims .hand-is) (s .skims .further) in
         let now : Like (r .i + 1) (held a′ ring′ counts′ saved′) (look S (r .i) (held r ring′ counts₁ saved) (newestOf p r)) =
         subst (λ (o : Open). Like (r .i + 1) (held a′ ring′ counts′ saved′) (look S (r .i) (held r ring′ counts₁ (savedIn (o .count) list)) (newestOf p r))) stopped-hand (t .like) in
@@ -161,21 +157,35 @@ module _ {p : Params} {codes : List ℕ} {ln f : List Float} {a : State} {ring w
               (subst (λ (z : Run). ShapedAt S (i + 1) z) (sym (code .run-is))
               (step-shaped S i b e (place-read (p .kmer) codes i) (shaped-more (p .kmer) (a .i) i (s .before .hand .start) (s .before .hand .end) saved (s .skims .further) shaped)));
           count-in = count-in;
-          real = step S i (x .real′) e;
-          like = rw i-after (stepped saved (s .enters) at-end now (x .like));
-          rest = rw i-after (v .rest ∙ x .rest ∙ run-turn S codes i (x .real′) (omega (arith, s .enters .i-is, l)));
+          like = rw (i-after, run-turn S codes i (omega (arith, s .enters .i-is, l))) (stepped saved (s .enters) at-end now x);
         }
+
+    -- The letter has entered the definition's window too.
+    pub entered-window : window ring′ (r .window .head) (r .window .len) ≡ runTo (setupOf p ln f) codes (r .i + 1) .window
+    entered-window =
+        let S = setupOf p ln f in
+        let i = s .before .i in
+        let ps = places (p .kmer) codes in
+        let some : 0 < p .«window_size» = omega (arith, v .read .windowed .wide) in
+        let n = places-length (p .kmer) codes in
+        let in-strand : i < length codes = omega (arith, s .enters .i-is, l) in
+        let saved = savedIn (a .hand .count) list in
+        let before = like-window (s .skims .onward saved (v .shaped .end-in) (v .like)) ∙ window-newest S some ps i (omega arith) in
+        ap (λ (z : Run). z .window) (s .enters .run-is saved)
+        ∙ enters-newest S some ps i (held (s .before) (s .ring₀) (s .counts₀) saved) (placeAt (p .kmer) codes i) (places-take (p .kmer) codes i in-strand) (omega arith) before
+        ∙ sym (window-newest S some ps (i + 1) (omega arith))
+        ∙ ap (λ (j : ℕ). runTo S codes (j + 1) .window) (sym (s .enters .i-is))
 
   -- ---- All letters.
   pub inv-end : {a′ : State} {ring′ counts′ : List ℕ} → Skims p codes ln f a a′ ring counts ring′ counts′ → length codes ≤ a′ .i
       → Saving (a .hand) list → Finished p codes ln f (a′ .hand) list
   inv-end {a′} s h c =
-      let x = s .onward (savedIn (a .hand .count) list) (v .real) (v .shaped .end-in) (v .like) in
-      let all = sym (v .rest ∙ x .rest ∙ run-end (setupOf p ln f) codes (a′ .i) (x .real′) h) in
+      let x = s .onward (savedIn (a .hand .count) list) (v .shaped .end-in) (v .like) in
+      let all = run-end (setupOf p ln f) codes (a′ .i) h in
       record {
-        start-is = like-start (x .like) ∙ ap (λ (z : Run). z .start) all;
-        end-is = like-end (x .like) ∙ ap (λ (z : Run). z .end) all;
-        saved-is = ap (λ (o : Open). savedIn (o .count) list) (s .hand-is) ∙ like-saved (x .like) ∙ ap (λ (z : Run). z .saved) all;
+        start-is = like-start x ∙ ap (λ (z : Run). z .start) all;
+        end-is = like-end x ∙ ap (λ (z : Run). z .end) all;
+        saved-is = ap (λ (o : Open). savedIn (o .count) list) (s .hand-is) ∙ like-saved x ∙ ap (λ (z : Run). z .saved) all;
         saving = subst (λ (o : Open). Saving o list) (sym (s .hand-is)) c;
       }
 
@@ -239,13 +249,13 @@ module _ {p : Params} {codes : List ℕ} {ln f : List Float} {a : State} {ring�
         → a′ .hand .count ≤ length list′ → Before p codes ln f a′ ring window-counts counts′ list′
     before-answered {b} h = before-next {q = answeredBy (r .window) (b .found) (b .carry)} (answer-seeks h)
 
-    pub due-scan : {counts₂ : List ℕ} {n : ℕ} → counts₂ ≡ replicate n 0 → n ≡ 4 ^ p .kmer
-        → Saving (r .hand) list → Due p codes ln f r ring window-counts counts₂ list
-    due-scan y c can-save =
+    pub due-scan : {counts₂ : List ℕ} → counts₂ ≡ replicate (4 ^ p .kmer) 0 → Saving (r .hand) list → Due p codes ln f r ring window-counts counts₂ list
+    due-scan clear can-save =
         record {
           some = entered .some;
           windowed = entered .windowed;
-          clear = cleared-is c y;
+          window-is = entered-window v s l;
+          clear = clear;
           carried = entered-still .known .carried;
           saving = can-save;
           within = λ b counts′ h. answer-within h;

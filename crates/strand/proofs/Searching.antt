@@ -27,10 +27,11 @@ use Rattle.scans.specs.Counts.{count, raise}
 use Rattle.scans.specs.Scans.{Find, none, at, Outcome, extends, ifBackward, dustBackward}
 use Rattle.scans.specs.Terms.Counted.{Counted}
 use Rattle.scans.specs.Terms.Window.{queue, window, findOf, Windowed, Extends}
-use Rattle.scans.specs.Terms.Carry.{Carried, Touched, countsLeft, Answers, CarriesOn, FindsCertain}
+use Rattle.scans.specs.Terms.Carry.{Carried, Touched, countsLeft, Answers, CarriesOn}
 use Rattle.scans.proofs.Counting.{count-le}
 use Rattle.scans.proofs.Windows.{long}
 use Rattle.scans.proofs.Touched.{touched-more}
+use Rattle.certificates.specs.Terms.Certain.{FindsCertain}
 use Rattle.strand.specs.Step.{Run, whole, isAt, windowScore, extendTried, search}
 use Rattle.strand.specs.declared.Window.{Window}
 use Rattle.strand.specs.declared.State.{State}

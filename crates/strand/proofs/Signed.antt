@@ -16,9 +16,7 @@ use Rattle.floats.proofs.Whole.{Is, is-as, is-sub}
 use Rattle.letters.specs.Place.{Place}
 use Rattle.scans.specs.declared.Carry.{Carry}
 use Rattle.scans.specs.Counts.{lower}
-use Rattle.scans.specs.Terms.Carry.{noCarry}
 use Rattle.strand.specs.Step.{whole, countsWithout, lastQWithout, isAt, firstLetter}
-use Rattle.strand.specs.Terms.KnownCounts.{carryWithout}
 use Rattle.strand.proofs.Shape.{first-is}
 
 -- ---- What is read back.
@@ -83,28 +81,6 @@ pub last-q-stays : (z : ℤ) → ltZ (pos 0) z ≡ false → z ≡ lastQWithout 
 last-q-stays (pos zero) h = refl
 last-q-stays (pos (suc n)) h = absurd (let l : suc n ≤ 0 = ltb-false 0 (suc n) h in let b : ⊥ = omega arith in b)
 last-q-stays (negsuc n) h = refl
-
--- ---- The scan counts and the carried scan without the oldest entry.
-module _ (counts : List ℕ) (e : Place) where
-  pub counts-fall : (z : ℤ) → SFits w64 z → ofZ w64 z ≡ 0 → lower counts e ≡ countsWithout z counts e
-  counts-fall (pos zero) f h = refl
-  counts-fall (pos (suc n)) f h = absurd (let b : ⊥ = omega arith in b)
-  counts-fall (negsuc n) f h = absurd (let b : ⊥ = omega (arith, f .sfits) in b)
-
-  pub counts-stay : (z : ℤ) → (ofZ w64 z ≡ 0 → ⊥) → counts ≡ countsWithout z counts e
-  counts-stay (pos zero) h = absurd (h refl)
-  counts-stay (pos (suc n)) h = refl
-  counts-stay (negsuc n) h = refl
-
-pub carry-ends : (z : ℤ) (c : Carry) → SFits w64 z → ofZ w64 z ≡ 0 → noCarry ≡ carryWithout z c
-carry-ends (pos zero) c f h = refl
-carry-ends (pos (suc n)) c f h = absurd (let b : ⊥ = omega arith in b)
-carry-ends (negsuc n) c f h = absurd (let b : ⊥ = omega (arith, f .sfits) in b)
-
-pub carry-stays : (z : ℤ) (c : Carry) → (ofZ w64 z ≡ 0 → ⊥) → c ≡ carryWithout z c
-carry-stays (pos zero) c h = absurd (h refl)
-carry-stays (pos (suc n)) c h = refl
-carry-stays (negsuc n) c h = refl
 
 -- ---- last_q as an index.
 pub whole-none : (z : ℤ) → ltZ z (pos 0) ≡ true → 0 ≡ whole z

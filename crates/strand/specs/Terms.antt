@@ -4,4 +4,5 @@ pub mod Entering
 pub mod Searching
 pub mod Finding
 pub mod ReadingOn
+pub mod LowStarts
 pub mod Running

@@ -5,11 +5,11 @@
 // | its locals, the window's ends | `State`: the rolling k-mer, the next letter, `Window` and `Open` |
 // | a turn of its loop up to the new entry | `State::enter`, with `Window::make_room` and `Window::join` |
 // | the tests before a search | `State::is_searched`, `State::look` |
-// | what follows a search | `State::passed`, `State::extended`, `State::answered`; `Window::certain` leaves backward scans out |
+// | what follows a search | `State::passed`, `State::extended`, `State::answered`; `Window::certain` and `Low::tells` leave backward scans out |
 // | its loop | `skim` over letters that are not searched from, in `until_scan` over letters without a backward scan, in `inner_process` |
 
 ghost use mathlib.Core.Path.{_≡_};
-ghost use mathlib.Core.Bool.{true};
+ghost use mathlib.Core.Bool.{true, false};
 ghost use mathlib.Core.List.{List};
 ghost use Prim.Native.Nat.{_+_, _-_, _/_, _^_, _<_, _≤_};
 ghost use lib.ListN.{length, getD, replicate};
@@ -25,12 +25,14 @@ ghost use Rattle.scans.specs.Counts.{raise, lower};
 ghost use Rattle.scans.specs.Terms.Shape.{Shaped};
 ghost use Rattle.scans.specs.Terms.Window.{findOf, window, Windowed};
 ghost use Rattle.scans.specs.Terms.Parts.{Queued};
+ghost use Rattle.scans.specs.Terms.Fails.{TellsNone};
 ghost use Rattle.strand.specs.Step.{whole, lastQWithout, isAt, firstLetter, startAfter, saveFrom, savedAfter};
 ghost use Rattle.strand.specs.Terms.KnownCounts.{KnownCounts, Passing, Passes, Clearing, sought, extendedOf, answeredBy};
 ghost use Rattle.strand.specs.Terms.Entering.{held, newestOf, sumLess, sumMore, Left, Joined, Next, Enters};
 ghost use Rattle.strand.specs.Terms.Searching.{triedBy, Extended, isSearched, Looks};
 ghost use Rattle.strand.specs.Terms.Finding.{lastQBy, savedIn, Found, Saving, TakesFind, PassedOn};
 ghost use Rattle.strand.specs.Terms.ReadingOn.{unread, Read, Skimmed};
+ghost use Rattle.strand.specs.Terms.LowStarts.{noLow, KnownLow, Renewed, AsksLow};
 ghost use Rattle.strand.specs.Terms.Running.{PartLent, StrandLent, Asking, Told, Before, Reached, StrandList};
 
 // ---- The window.
@@ -95,7 +97,7 @@ impl Window {
         last_q as usize
     }
 
-    // The oldest entry leaves a full queue; last_q = 0 lowers its scan count, and ends a carried scan, which began there.
+    // The oldest entry leaves a full queue; last_q = 0 lowers its scan count, unless all are 0, and ends a carried scan, which began there.
     fn leave(
         mut self,
         p: scans::Params,
@@ -113,7 +115,7 @@ impl Window {
         let last_q = self.last_q;
         let entry = queue[head];
         self.sum = sum_without(self.sum, entry, ln, window_counts);
-        if last_q == 0 {
+        if self.live & is_at(last_q, 0) {
             scans::lower_entry(scan_counts, entry);
             self.carry = scans::Carry::none();
         }
@@ -212,7 +214,7 @@ impl Window {
     {
         if self.carry.on {
             let from = self.last_q_index();
-            return scans::find_certain(
+            return certificates::find_certain(
                 p,
                 self.carry,
                 from,
@@ -583,10 +585,100 @@ impl State {
     }
 }
 
+// ---- Low starts.
+
+// Low starts, found when `made` letters were read.
+struct Low {
+    starts: certificates::LowStarts,
+    made: usize,
+}
+
+impl Low {
+    // Nothing is known.
+    fn none() -> Self
+        ensures { λ r. ⌜ r ≡ noLow ⌝ }
+    {
+        Low {
+            starts: certificates::LowStarts::none(),
+            made: 0,
+        }
+    }
+
+    // Low starts after the search at letter i: those of the window where it found nothing, from cleared counts; `read` is how many entries it has read.
+    fn renewed(
+        self,
+        p: scans::Params,
+        st: State,
+        found: usize,
+        read: usize,
+        queue: &[u32],
+        window_counts: &[u16],
+        ln: &[f64],
+        f: &[f64],
+        scan_counts: &mut [u16],
+    ) -> Self
+        requires { ⌜ (st .i < 2147483648) × (p .«window_size» < length (now f)) × (found ≡ 0 → now «scan_counts» ≡ replicate (4 ^ p .kmer) 0) ⌝ }
+        requires { ⌜ Windowed p (now queue) (st .window .head) (st .window .len) (now «window_counts») (length (now ln)) ⌝ }
+        requires { ⌜ Shaped p (now ln) (now f) ⌝ }
+        ensures { λ r. ⌜ Renewed (setupOf p (now (ln .entry)) (now (f .entry))) (window (now (queue .entry)) (st .window .head) (st .window .len))
+            (st .i) self r (now («scan_counts» .entry)) (now («scan_counts» .exit)) ⌝ }
+    {
+        if found != 0 {
+            return self;
+        }
+        let starts = certificates::find_low(
+            p,
+            read,
+            queue,
+            st.window.head,
+            st.window.len,
+            window_counts,
+            ln,
+            f,
+            scan_counts,
+        );
+        Low {
+            starts: starts,
+            made: st.i + 1,
+        }
+    }
+
+    // Whether they tell that the search at letter i finds nothing, from cleared counts, which are cleared again.
+    fn tells(
+        self,
+        p: scans::Params,
+        st: State,
+        queue: &[u32],
+        window_counts: &[u16],
+        ln: &[f64],
+        f: &[f64],
+        scan_counts: &mut [u16],
+    ) -> bool
+        requires { ⌜ (st .i < 2147483648) × (p .«window_size» < length (now f)) × (now «scan_counts» ≡ replicate (4 ^ p .kmer) 0) ⌝ }
+        requires { ⌜ Windowed p (now queue) (st .window .head) (st .window .len) (now «window_counts») (length (now ln)) ⌝ }
+        requires { ⌜ AsksLow (setupOf p (now ln) (now f)) (window (now queue) (st .window .head) (st .window .len)) (st .window .len) (st .i) self ⌝ }
+        ensures { λ r. ⌜ TellsNone (setupOf p (now (ln .entry)) (now (f .entry))) (window (now (queue .entry)) (st .window .head) (st .window .len)) r
+            (now («scan_counts» .exit)) ⌝ }
+    {
+        certificates::low_tells(
+            p,
+            self.starts,
+            st.i + 1 - self.made,
+            queue,
+            st.window.head,
+            st.window.len,
+            window_counts,
+            ln,
+            f,
+            scan_counts,
+        )
+    }
+}
+
 // ---- The run.
 
-// Goes on to the next letter that is searched from, which enters the window, or to the end.
-fn skim(
+// Goes on to the next letter that is searched from, which enters the window, or to the end; a carried scan goes on with it.
+fn skim_live(
     p: scans::Params,
     from: State,
     codes: &[u8],
@@ -613,6 +705,57 @@ fn skim(
     st
 }
 
+// The same where all scan counts are 0: they stay so, and no scan is carried.
+fn skim_clear(
+    p: scans::Params,
+    from: State,
+    codes: &[u8],
+    ln: &[f64],
+    f: &[f64],
+    queue: &mut [u32],
+    window_counts: &mut [u16],
+    scan_counts: &mut [u16],
+) -> State
+    requires { ⌜ (p .kmer ≤ 12) × (length (now codes) < 2147483648) × (length (now «scan_counts») ≡ 4 ^ p .kmer) ⌝ }
+    requires { ⌜ Read p (now codes) (now ln) (now f) from (now queue) (now «window_counts») (now «scan_counts») ⌝ }
+    requires { ⌜ from .window .live ≡ false ⌝ }
+    ensures { λ r. ⌜ Skimmed p (now (codes .entry)) (now (ln .entry)) (now (f .entry)) from r (now (queue .entry))
+        (now («scan_counts» .entry)) (now (queue .exit)) (now («window_counts» .exit)) (now («scan_counts» .exit)) ⌝ }
+{
+    let mut st = from;
+    while st.i < codes.len() {
+        st = st.enter(p, codes, ln, queue, window_counts, scan_counts);
+        if st.is_searched(p, window_counts) {
+            return st;
+        }
+        st.i += 1;
+    }
+    st
+}
+
+// Goes on to the next letter that is searched from, which enters the window, or to the end.
+fn skim(
+    p: scans::Params,
+    from: State,
+    codes: &[u8],
+    ln: &[f64],
+    f: &[f64],
+    queue: &mut [u32],
+    window_counts: &mut [u16],
+    scan_counts: &mut [u16],
+) -> State
+    requires { ⌜ (p .kmer ≤ 12) × (length (now codes) < 2147483648) × (p .«window_size» < length (now f))
+        × (length (now «scan_counts») ≡ 4 ^ p .kmer) ⌝ }
+    requires { ⌜ Read p (now codes) (now ln) (now f) from (now queue) (now «window_counts») (now «scan_counts») ⌝ }
+    ensures { λ r. ⌜ Skimmed p (now (codes .entry)) (now (ln .entry)) (now (f .entry)) from r (now (queue .entry))
+        (now («scan_counts» .entry)) (now (queue .exit)) (now («window_counts» .exit)) (now («scan_counts» .exit)) ⌝ }
+{
+    if from.window.live {
+        return skim_live(p, from, codes, ln, f, queue, window_counts, scan_counts);
+    }
+    skim_clear(p, from, codes, ln, f, queue, window_counts, scan_counts)
+}
+
 // No letter is read, and the counts are cleared.
 fn begin(window_counts: &mut [u16], scan_counts: &mut [u16]) -> State
     ensures { λ r. ⌜ (r ≡ unread) × (now («window_counts» .exit) ≡ replicate (length (now («window_counts» .entry))) 0)
@@ -627,6 +770,7 @@ fn begin(window_counts: &mut [u16], scan_counts: &mut [u16]) -> State
 fn until_scan(
     p: scans::Params,
     from: State,
+    low: Low,
     codes: &[u8],
     ln: &[f64],
     f: &[f64],
@@ -638,6 +782,7 @@ fn until_scan(
     requires { ⌜ PartLent p (length (now codes)) (length (now f)) (length (now «scan_counts»)) (length (now list)) ⌝ }
     requires { ⌜ Before p (now codes) (now ln) (now f) from (now queue) (now «window_counts») (now «scan_counts») (now list) ⌝ }
     requires { ⌜ Shaped p (now ln) (now f) ⌝ }
+    requires { ⌜ KnownLow (setupOf p (now ln) (now f)) (now codes) (from .i) low ⌝ }
     ensures { λ r. ⌜ Reached p (now (codes .entry)) (now (ln .entry)) (now (f .entry)) (from .i) r
         (now (queue .exit)) (now («window_counts» .exit)) (now («scan_counts» .exit)) (now (list .exit)) ⌝ }
 {
@@ -657,6 +802,10 @@ fn until_scan(
                     continue;
                 }
                 window.clear(queue, scan_counts);
+                if low.tells(p, st, queue, window_counts, ln, f, scan_counts) {
+                    st = st.answered(p, scans::nothing(), list);
+                    continue;
+                }
                 return st;
             }
             Look::Extension => {
@@ -690,8 +839,20 @@ pub fn inner_process(
     ensures { λ r. ⌜ StrandList (setupOf p (now (ln .entry)) (now (f .entry))) (now (codes .entry)) (now (list .exit)) r ⌝ }
 {
     let mut st = begin(window_counts, scan_counts);
+    let mut low = Low::none();
     loop {
-        st = until_scan(p, st, codes, ln, f, queue, window_counts, scan_counts, list);
+        st = until_scan(
+            p,
+            st,
+            low,
+            codes,
+            ln,
+            f,
+            queue,
+            window_counts,
+            scan_counts,
+            list,
+        );
         if st.i >= codes.len() {
             return st.hand.close(list);
         }
@@ -709,6 +870,18 @@ pub fn inner_process(
             scan_counts,
             candidates,
         );
-        st = st.answered(p, r, list);
+        let found = r.scanned.found;
+        low = low.renewed(
+            p,
+            st,
+            found,
+            r.read,
+            queue,
+            window_counts,
+            ln,
+            f,
+            scan_counts,
+        );
+        st = st.answered(p, r.scanned, list);
     }
 }

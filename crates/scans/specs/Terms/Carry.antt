@@ -86,8 +86,3 @@ pub record CarriesAhead (S : Setup) (q : List Place) (b : BackwardState) (r : Ca
 pub record FindsQuickly (S : Setup) (q : List Place) (r : Scanned) (counts : List ℕ) : Type 0 where
   pub tells : (r .found ≡ 0 → ⊥) → Answers S q (dustBackward S q) r counts
   pub clears : r .found ≡ 0 → counts ≡ cleared S
-
--- A find that the certificate of the start at index j tells is the definition's; where it tells none, only places from j on have touched the counts.
-pub record FindsCertain (S : Setup) (q : List Place) (j : ℕ) (r : Scanned) (counts : List ℕ) : Type 0 where
-  pub tells : (r .found ≡ 0 → ⊥) → Answers S q (dustBackward S q) r counts
-  pub touched : r .found ≡ 0 → Touched counts (drop j q)

@@ -16,7 +16,6 @@ use Rattle.floats.proofs.Rounded.{pos64, neg64}
 use Rattle.letters.specs.Place.{Place}
 use Rattle.scans.specs.declared.Certificate.{Certificate}
 use Rattle.scans.specs.Setup.{Setup, lnAt, fAt, kmers}
-use Rattle.scans.specs.Counts.{cleared}
 use Rattle.scans.specs.Score.{lnSums, lnValue}
 use Rattle.scans.specs.Terms.Counted.{Counted}
 use Rattle.scans.specs.Terms.Shape.{Usual}
@@ -109,11 +108,6 @@ pub record Bounds (S : Setup) (q : List Place) (j : ℕ) (c : Certificate) : Typ
 -- While it is on.
 pub record Certified (S : Setup) (q : List Place) (j : ℕ) (c : Certificate) : Type 0 where
   pub bounds : c .on ≡ true → Bounds S q j c
-
--- A certificate that is made leaves the counts of the places from the start on; else they are cleared.
-pub record Certifies (S : Setup) (q : List Place) (j : ℕ) (c : Certificate) (counts : List ℕ) : Type 0 where
-  pub made : c .on ≡ true → Certified S q j c × Counted (kmers S) counts (drop j q)
-  pub none : c .on ≡ false → counts ≡ cleared S
 
 -- The newest place has the ln entries v, by the counts from the start on, and w, by those of the window; h is the new bound of the near sum.
 abbrev pub certificateStep : (t h v w : Float) → Certificate → Certificate

@@ -9,6 +9,7 @@ use lib.Ieee.{Float, nan, lt, le}
 use Rattle.floats.specs.Arithmetic.{_⊕_, _⊖_}
 use Rattle.floats.specs.Binary64.{zero64, tiny}
 use Rattle.letters.specs.Place.{Place, ambiguous, plain}
+use Rattle.letters.specs.Terms.Entry.{decoded}
 use Rattle.scans.specs.declared.forward.ForwardState.{ForwardState}
 use Rattle.scans.specs.declared.backward.BackwardState.{BackwardState}
 use Rattle.scans.specs.Setup.{Setup, fAt, kmers}
@@ -160,6 +161,24 @@ pub record Room (len : ℕ) (window-counts counts : List ℕ) (es : List Place) 
   pub at-most : (x : ℕ) → getD window-counts x 0 ≤ len
   pub left : (x : ℕ) → getD counts x 0 + count x es ≤ getD window-counts x 0
 
+-- A part whose entries are those before entry `low` of a window of `len`: the tables are long enough, and the counts have room for them.
+pub record PartBefore (low len ln-length f-length : ℕ) (part window-counts counts : List ℕ) : Type 0 where
+  pub some : 0 < length part
+  pub inside : length part ≤ low
+  pub low-in : low ≤ len
+  pub small : len ≤ 65535
+  pub ln-long : len < ln-length
+  pub f-long : len < f-length
+  pub coded : Coded part (length counts)
+  pub counts-long : length window-counts ≡ length counts
+  pub room : Room len window-counts counts (decoded part)
+
+-- A scan that has no best place yet: its best is 0, and the score before is not above it.
+pub record NoneBest (a : BackwardSums) : Type 0 where
+  pub none : a .found ≡ 0
+  pub is-zero : a .best ≡ zero64
+  pub level : lt (a .best) (a .previous) ≡ false
+
 -- A scan that rests: the counts are those of the entries from the oldest read on. The best place is one of them, without one the best is 0, and the score before is not above the best.
 pub record Backs (m : ℕ) (q : List Place) (r : Rest) : Type 0 where
   pub low-in : r .low ≤ length q
@@ -168,6 +187,12 @@ pub record Backs (m : ℕ) (q : List Place) (r : Rest) : Type 0 where
   pub best-read : 0 < r .sums .found → r .low < r .sums .found
   pub level : lt (r .sums .best) (r .sums .previous) ≡ false
   pub from-zero : r .sums .found ≡ 0 → r .sums .best ≡ zero64
+
+-- A scan goes on from a over a part, or over the newest of its entries, and rests at b; the oldest are left unread.
+pub record GoesOver (S : Setup) (window-counts : List ℕ) (quick : Bool) (len : ℕ) (part : List ℕ) (a b : Rest) : Type 0 where
+  pub unread : ℕ
+  pub some : unread < length part
+  pub scanned : b ≡ restOver S window-counts quick len (decoded (drop unread part)) (a .low - length (drop unread part)) (length (drop unread part)) (a .sums) (a .counts)
 
 -- A scan goes on from a, and rests at b.
 pub record GoesOn (S : Setup) (window-counts : List ℕ) (quick : Bool) (q : List Place) (a b : Rest) : Type 0 where

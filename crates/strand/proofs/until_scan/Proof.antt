@@ -7,13 +7,16 @@ use lib.Ieee.{Float}
 use borrow.Author.Needs.{needs}
 use Rattle.scans.specs.declared.Params.{Params}
 use Rattle.scans.proofs.Walk.{windowed-queued}
+use Rattle.scans.proofs.Windows.{long}
+use Rattle.scans.proofs.Trying.{answers-none}
 use Rattle.strand.specs.declared.Open.{Open}
 use Rattle.strand.specs.declared.State.{State}
 use Rattle.strand.specs.Terms.Finding.{Saving}
 use Rattle.strand.specs.Terms.ReadingOn.{Stops}
-use Rattle.strand.specs.Terms.Running.{Before}
+use Rattle.strand.specs.Terms.Running.{Before, ScanAnswer}
 use Rattle.strand.proofs.ReadingOn.{small}
-use Rattle.strand.proofs.Running.{saving, stopped-hand, stopped-further, inv-end, look-passing, scan-asking, answer-within, before-answered, before-passed, before-extended, due-scan}
+use Rattle.strand.proofs.KnownLow.{known-on, asks-low}
+use Rattle.strand.proofs.Running.{saving, cleared-is, stopped-hand, stopped-further, entered-window, inv-end, look-passing, scan-asking, answer-within, before-answered, before-passed, before-extended, due-scan}
 use Rattle.strand.proofs.until_scan.Statement.{statement}
 use Rattle.strand.proofs.until_scan.Tie as tie
 
@@ -28,11 +31,11 @@ record Around (p : Params) (codes : List ℕ) (ln f : List Float) (queue₀ wind
   same-list : length list ≡ length list₀
 
 abbrev Inv-loop : tie.InvT-loop
-Inv-loop p codes ln f queue₀ window-counts₀ scan-counts₀ list₀ st₀ queue window-counts scan-counts list st =
+Inv-loop p low codes ln f queue₀ window-counts₀ scan-counts₀ list₀ st₀ queue window-counts scan-counts list st =
     Around p codes ln f queue₀ window-counts₀ scan-counts₀ list₀ st₀ queue window-counts scan-counts list st
 
 abbrev μ-loop : tie.MeasureT-loop
-μ-loop p codes ln f queue₀ window-counts₀ scan-counts₀ list₀ st₀ queue window-counts scan-counts list st =
+μ-loop p low codes ln f queue₀ window-counts₀ scan-counts₀ list₀ st₀ queue window-counts scan-counts list st =
     length codes - st .i
 
 abbrev start : tie.At-loop Inv-loop μ-loop → tie.Start Inv-loop μ-loop
@@ -150,7 +153,7 @@ certain-requires c κs =
     let x = stopped l in
     let g = looped (skimmed x) in
     let b = start g .pre in
-    (scan-asking (g .loop .inv .inv) (stops x) (x .if1 .left) (l .look .ensures) (t .enum-told .given .1) (all-counts l) (b .0 .f-long), b .1 .1)
+    (scan-asking (g .loop .inv .inv) (stops x) (x .if1 .left) (l .look .ensures) (t .enum-told .given .1) (all-counts l) (b .0 .f-long), b .1 .1 .0)
 
 -- The carried scan leaves the number of scan counts too.
 same-certain : (c : tie.After-certain Inv-loop μ-loop) → length (c .certain .last .1 .1 .1 .1 .1 .1 .0) ≡ length (start (looped (skimmed (stopped (scanning (due-at c))))) .args .scan-counts .now)
@@ -216,10 +219,91 @@ cleared c = c .before .before
 abbrev missed : tie.After-clear Inv-loop μ-loop → tie.After-certain Inv-loop μ-loop
 missed c = untold (c .before .before .before)
 
+tells-requires : tie.Need-tells-requires Inv-loop μ-loop
+tells-requires c κs =
+    let d = cleared (c .before .before .before) in
+    let k = missed d in
+    let x = stopped (scanning (due-at k)) in
+    let g = looped (skimmed x) in
+    let b = start g .pre in
+    let w = stops x .enters .entered .windowed in (
+      (omega (arith, letter-small x), b .0 .f-long, cleared-is (certain-counts k) (d .clear .ensures)),
+      (
+        w,
+        asks-low (known-on (b .1 .1 .1) (omega (arith, g .loop .inv .further, further x))) (omega (arith, w .wide)) (x .if1 .left) (long w)
+            (entered-window (g .loop .inv .inv) (stops x) (x .if1 .left)),
+      ),
+    )
+
+abbrev asked : tie.After-tells Inv-loop μ-loop → tie.After-certain Inv-loop μ-loop
+asked c = missed (cleared (c .before .before .before .before))
+
+abbrev told-none : tie.After-nothing Inv-loop μ-loop → tie.After-tells Inv-loop μ-loop
+told-none c = c .before .before .before .before
+
+abbrev untold-none : tie.Else3 Inv-loop μ-loop → tie.After-tells Inv-loop μ-loop
+untold-none c = c .before .before .before
+
+-- Low starts leave the number of scan counts too.
+same-tells : (c : tie.After-tells Inv-loop μ-loop) → length (c .tells .last .1 .1 .1 .1 .1 .1 .1 .0) ≡ length (start (looped (skimmed (stopped (scanning (due-at (asked c)))))) .args .scan-counts .now)
+same-tells c = c .tells .kept .1 .1 .1 .1 .1 .1 .1 .0 ∙ cleared (c .before .before .before .before) .clear .kept .1 .1 .0 ∙ same-certain (asked c)
+
+-- The search finds nothing.
+answer-none : (c : tie.After-nothing Inv-loop μ-loop) → let t = told-none c in let s = skimmed (stopped (scanning (due-at (asked t)))) in let a = start (looped s) .args in
+    ScanAnswer (a .p) (a .ln .now) (a .f .now) (s .skim .result .window) (s .skim .last .1 .1 .1 .1 .1 .0) (c .nothing .result) (t .tells .last .1 .1 .1 .1 .1 .1 .1 .0)
+answer-none c =
+    let t = told-none c .tells .ensures in
+    answers-none _ _ _ _ _ (t .told (c .before .if3 .taken)) (c .nothing .ensures) (t .clear)
+
+answered-requires-2 : tie.Need-answered-requires-2 Inv-loop μ-loop
+answered-requires-2 c κs =
+    let n = c .before in
+    let t = due-at (asked (told-none n)) in
+    let l = scanning t in
+    let x = stopped l in
+    let g = looped (skimmed x) in
+    let w = stops x .enters .entered .windowed in (
+      (
+        omega (arith, letter-small x),
+        omega (arith, w .len-in, w .small),
+        answer-within (g .loop .inv .inv) (stops x) (x .if1 .left) (l .look .ensures) (t .enum-told .given .1) (answer-none n),
+        start g .pre .0 .kmer-small,
+      ),
+      can-save-there x,
+    )
+
+abbrev none-there : tie.After-answered2 Inv-loop μ-loop → tie.After-nothing Inv-loop μ-loop
+none-there c = c .before .before
+
+loop-less-2 : tie.Need-loop-less-2 Inv-loop μ-loop
+loop-less-2 c =
+    let y = c .before in
+    let x = stopped (scanning (due-at (asked (told-none (none-there y))))) in
+    omega (arith, x .if1 .left, further x, y .answered2 .ensures .0 .i-is)
+
+loop-again-2 : tie.Need-loop-again-2 Inv-loop μ-loop
+loop-again-2 c =
+    let y = c .before in
+    let n = none-there y in
+    let t = due-at (asked (told-none n)) in
+    let l = scanning t in
+    let x = stopped l in
+    let h = looped (skimmed x) .loop .inv in
+    record {
+      inv = before-answered (h .inv) (stops x) (x .if1 .left) (l .look .ensures) (t .enum-told .given .1) (answer-none n) (y .answered2 .ensures .0) (y .answered2 .ensures .1);
+      further = omega (arith, h .further, further x, y .answered2 .ensures .0 .i-is);
+      same-queue = same-ring (skimmed x);
+      same-window-counts = same-window (skimmed x);
+      same-scan-counts = same-tells (told-none n);
+      same-list = y .answered2 .kept .1 .1 .1 .0 ∙ h .same-list;
+    }
+
+abbrev left : tie.Else3 Inv-loop μ-loop → tie.Else1 Inv-loop μ-loop
+left c = stopped (scanning (due-at (asked (untold-none c))))
+
 returns-2 : tie.Need-returns-2 Inv-loop μ-loop
 returns-2 c =
-    let d = cleared c in
-    let k = missed d in
+    let k = asked (untold-none c) in
     let t = due-at k in
     let l = scanning t in
     let x = stopped l in
@@ -227,7 +311,7 @@ returns-2 c =
     record {
       further = omega (arith, g .loop .inv .further, further x);
       ended = λ h. absurd (let b : ⊥ = omega (arith, h, x .if1 .left) in b);
-      due = λ _. due-scan (g .loop .inv .inv) (stops x) (x .if1 .left) (l .look .ensures) (t .enum-told .given .1) (d .clear .ensures) (certain-counts k) (can-save-there x);
+      due = λ _. due-scan (g .loop .inv .inv) (stops x) (x .if1 .left) (l .look .ensures) (t .enum-told .given .1) (untold-none c .tells .ensures .clear) (can-save-there x);
     }
 
 extended-requires : tie.Need-extended-requires Inv-loop μ-loop
@@ -238,20 +322,20 @@ extended-requires c κs =
     let w = n .windowed in
     ((omega (arith, letter-small x), omega (arith, w .len-in, w .small), omega (arith, n .some), b .kmer-small), can-save-there x)
 
-abbrev extended : tie.After-list2 Inv-loop μ-loop → tie.After-extended Inv-loop μ-loop
+abbrev extended : tie.After-list3 Inv-loop μ-loop → tie.After-extended Inv-loop μ-loop
 extended c = c .before
 
 abbrev extension : tie.After-extended Inv-loop μ-loop → tie.After-enum-told2 Inv-loop μ-loop
 extension c = c .before .before
 
-loop-less-2 : tie.Need-loop-less-2 Inv-loop μ-loop
-loop-less-2 c =
+loop-less-3 : tie.Need-loop-less-3 Inv-loop μ-loop
+loop-less-3 c =
     let y = extended c in
     let x = stopped (extending (extension y)) in
     omega (arith, x .if1 .left, further x, y .extended .ensures .0 .i-is)
 
-loop-again-2 : tie.Need-loop-again-2 Inv-loop μ-loop
-loop-again-2 c =
+loop-again-3 : tie.Need-loop-again-3 Inv-loop μ-loop
+loop-again-3 c =
     let y = extended c in
     let t = extension y in
     let l = extending t in
@@ -278,20 +362,20 @@ passed-requires c κs =
       look-passing (g .loop .inv .inv) (stops x) (x .if1 .left) (l .look .ensures) (t .enum-told3 .given .1) (all-counts l) (b .f-long),
     )
 
-abbrev passed : tie.After-slice-known10 Inv-loop μ-loop → tie.After-passed Inv-loop μ-loop
+abbrev passed : tie.After-slice-known11 Inv-loop μ-loop → tie.After-passed Inv-loop μ-loop
 passed c = c .before .before
 
 abbrev no-find : tie.After-passed Inv-loop μ-loop → tie.After-enum-told3 Inv-loop μ-loop
 no-find c = c .before .before .before .before
 
-loop-less-3 : tie.Need-loop-less-3 Inv-loop μ-loop
-loop-less-3 c =
+loop-less-4 : tie.Need-loop-less-4 Inv-loop μ-loop
+loop-less-4 c =
     let y = passed c in
     let x = stopped (passing (no-find y)) in
     omega (arith, x .if1 .left, further x, y .passed .ensures .i-is)
 
-loop-again-3 : tie.Need-loop-again-3 Inv-loop μ-loop
-loop-again-3 c =
+loop-again-4 : tie.Need-loop-again-4 Inv-loop μ-loop
+loop-again-4 c =
     let y = passed c in
     let t = no-find y in
     let l = passing t in
@@ -327,16 +411,21 @@ until-scan-spec =
     loop-less
     loop-again
     clear-requires
-    (λ c. same-ring (skimmed (stopped (scanning (due-at (missed (cleared c)))))))
-    (λ c. same-window (skimmed (stopped (scanning (due-at (missed (cleared c)))))))
-    (λ c. cleared c .clear .kept .1 .1 .0 ∙ same-certain (missed (cleared c)))
-    (λ c. looped (skimmed (stopped (scanning (due-at (missed (cleared c)))))) .loop .inv .same-list)
+    tells-requires
+    (λ c κs. tt)
+    answered-requires-2
+    loop-less-2
+    loop-again-2
+    (λ c. same-ring (skimmed (left c)))
+    (λ c. same-window (skimmed (left c)))
+    (λ c. same-tells (untold-none c))
+    (λ c. looped (skimmed (left c)) .loop .inv .same-list)
     returns-2
     (λ c. search needs)
     extended-requires
-    loop-less-2
-    loop-again-2
+    loop-less-3
+    loop-again-3
     (λ c. search needs)
     passed-requires
-    loop-less-3
-    loop-again-3)
+    loop-less-4
+    loop-again-4)

@@ -52,10 +52,11 @@ sumMore ln counts sum (plain x) = sum ⊕ getD ln (getD counts x 0) nan
 pub record Left (p : Params) (ln : List Float) (w w′ : Window) (ring counts window-counts′ counts′ : List ℕ) : Type 0 where
   pub known : (f : List Float) → KnownCounts (setupOf p ln f) (window ring (w .head) (w .len)) w counts
       → KnownCounts (setupOf p ln f) (window ring (w′ .head) (w′ .len)) w′ counts′
-  pub run-is : (f : List Float) (o : Open) (saved : List Interval)
+  pub run-is : (f : List Float) (o : Open) (saved : List Interval) → KnownCounts (setupOf p ln f) (window ring (w .head) (w .len)) w counts
       → heldBy w′ o ring counts′ saved ≡ leave (setupOf p ln f) (heldBy w o ring counts saved)
   pub windowed : Windowed p ring (w′ .head) (w′ .len) window-counts′ (length ln)
   pub room : w′ .len < p .«window_size»
+  pub live-is : w′ .live ≡ w .live
 
 -- The entry e has joined, whatever the others are.
 pub record Joined (p : Params) (ln : List Float) (w w′ : Window) (e : ℕ) (ring ring′ window-counts′ : List ℕ) : Type 0 where
@@ -66,6 +67,7 @@ pub record Joined (p : Params) (ln : List Float) (w w′ : Window) (e : ℕ) (ri
   pub newest : window ring′ (w′ .head) (w′ .len) ≡ window ring′ (w′ .head) (w′ .len - 1) ++ decode e ∷ []
   pub windowed : Windowed p ring′ (w′ .head) (w′ .len) window-counts′ (length ln)
   pub some : 0 < w′ .len
+  pub live-is : w′ .live ≡ w .live
 
 -- The entry e stands last in the window, and the scan counts are those before it.
 pub record Entered (p : Params) (ln f : List Float) (w : Window) (e : ℕ) (ring window-counts counts : List ℕ) : Type 0 where
@@ -93,3 +95,4 @@ pub record Enters (p : Params) (codes : List ℕ) (ln f : List Float) (a a′ : 
   pub i-is : a′ .i ≡ a .i
   pub hand-is : a′ .hand ≡ a .hand
   pub entered : Entered p ln f (a′ .window) (entryOf (p .kmer) (a′ .kmer)) ring′ window-counts′ counts′
+  pub live-is : a′ .window .live ≡ a .window .live

@@ -1,7 +1,7 @@
 -- Terms of contracts: what the scan counts hold between scans, by what the window says of them: the fast form of the paper's scan counts, which are read only where the last letter was a find.
 use mathlib.Core.Path.{_≡_}
 use Prim.Native.Nat.{ℕ, _<_, _≤_, zero, suc}
-use mathlib.Core.Bool.{Bool, true, false, not}
+use mathlib.Core.Bool.{Bool, true, false, not, cond, _&&_}
 use mathlib.Core.List.{List, [], _∷_, _++_}
 use lib.ListN.{length, drop, replicate}
 use lib.Dec.{eqb}
@@ -9,11 +9,11 @@ use lib.IntN.{ℤ, pos, negsuc}
 use Rattle.letters.specs.Place.{Place}
 use Rattle.scans.specs.declared.Params.{Params}
 use Rattle.scans.specs.Setup.{Setup, kmers}
-use Rattle.scans.specs.Counts.{cleared}
+use Rattle.scans.specs.Counts.{lower, cleared}
 use Rattle.scans.specs.Terms.Counted.{Counted}
 use Rattle.scans.specs.Terms.Window.{Joining}
 use Rattle.scans.specs.Terms.Carry.{noCarry, Carried, Touched, CarriesOn}
-use Rattle.strand.specs.Step.{whole}
+use Rattle.strand.specs.Step.{whole, isAt}
 use Rattle.strand.specs.declared.Window.{Window}
 use Rattle.scans.specs.declared.Carry.{Carry}
 
@@ -27,11 +27,15 @@ pub record KnownCounts (S : Setup) (q : List Place) (w : Window) (counts : List 
   pub counted : w .carry .on ≡ true → Counted (kmers S) counts (drop (whole (w .«last_q»)) q)
   pub carried : Carried S q (whole (w .«last_q»)) (w .carry)
 
--- A carried scan that began at the oldest place ends when that leaves.
-abbrev pub carryWithout : ℤ → Carry → Carry
-carryWithout (pos zero) c = noCarry
-carryWithout (pos (suc j)) c = c
-carryWithout (negsuc j) c = c
+-- Where the oldest place that leaves has its scan count lowered, and a carried scan, which began there, ends: where last_q = 0, unless all counts are 0.
+abbrev pub ends : Bool → ℤ → Bool
+ends live last = live && isAt last 0
+
+abbrev pub countsLess : Bool → List ℕ → Place → List ℕ
+countsLess b counts e = cond b (lower counts e) counts
+
+abbrev pub carryLess : Bool → Carry → Carry
+carryLess b c = cond b noCarry c
 
 -- The window with other scan counts.
 abbrev pub rescanned : Window → Bool → Carry → Window

@@ -3,11 +3,11 @@ use mathlib.Core.Path.{_≡_}
 use Prim.Native.Nat.{ℕ, _<_, _≤_}
 use mathlib.Core.Bool.{true, false}
 use mathlib.Core.List.{List}
-use lib.ListN.{length, drop}
+use lib.ListN.{length, take}
 use lib.IntN.{negsuc}
 use lib.Ieee.{Float}
 use Rattle.floats.specs.Binary64.{zero64}
-use Rattle.letters.specs.Place.{Place, places}
+use Rattle.letters.specs.Place.{places}
 use Rattle.letters.specs.Terms.Rolling.{noLetter, kmerAfter}
 use Rattle.intervals.specs.Interval.{Interval}
 use Rattle.scans.specs.declared.Params.{Params}
@@ -16,7 +16,7 @@ use Rattle.scans.specs.Terms.Numbers.{setupOf}
 use Rattle.scans.specs.Counts.{count}
 use Rattle.scans.specs.Terms.Window.{window, Windowed}
 use Rattle.scans.specs.Terms.Carry.{noCarry}
-use Rattle.strand.specs.Step.{Run, whole, runFrom}
+use Rattle.strand.specs.Step.{Run, whole, run}
 use Rattle.strand.specs.declared.State.{State}
 use Rattle.strand.specs.Terms.Like.{Like}
 use Rattle.strand.specs.Terms.KnownCounts.{KnownCounts}
@@ -40,18 +40,16 @@ pub record Read (p : Params) (codes : List ℕ) (ln f : List Float) (a : State) 
   pub windowed : Windowed p ring (a .window .head) (a .window .len) window-counts (length ln)
   pub known : KnownCounts (setupOf p ln f) (window ring (a .window .head) (a .window .len)) (a .window) counts
 
--- The definition's run from letter i on is that from letter i′ on, with a state there that a′ is like.
-pub record Onward (S : Setup) (ps : List Place) (i : ℕ) (real : Run) (i′ : ℕ) (a′ : Run) : Type 0 where
-  pub real′ : Run
-  pub like : Like i′ a′ real′
-  pub rest : runFrom S i real (drop i ps) ≡ runFrom S i′ real′ (drop i′ ps)
+-- The definition's run over the letters before letter i.
+abbrev pub runTo : Setup → List ℕ → ℕ → Run
+runTo S codes i = run S (take i (places (S .kmer) codes))
 
 -- No letter from a .i to a′ .i - 1 is searched from, so the interval in hand, which ends before a .i, stays the same.
 pub record Skims (p : Params) (codes : List ℕ) (ln f : List Float) (a a′ : State) (ring counts ring′ counts′ : List ℕ) : Type 0 where
   pub further : a .i ≤ a′ .i
   pub hand-is : a′ .hand ≡ a .hand
-  pub onward : (saved : List Interval) (real : Run) → whole (a .hand .end) ≤ a .i → Like (a .i) (held a ring counts saved) real
-      → Onward (setupOf p ln f) (places (p .kmer) codes) (a .i) real (a′ .i) (held a′ ring′ counts′ saved)
+  pub onward : (saved : List Interval) → whole (a .hand .end) ≤ a .i → Like (a .i) (held a ring counts saved) (runTo (setupOf p ln f) codes (a .i))
+      → Like (a′ .i) (held a′ ring′ counts′ saved) (runTo (setupOf p ln f) codes (a′ .i))
 
 -- Then the next letter, which is searched from, has entered the window.
 pub record Stops (p : Params) (codes : List ℕ) (ln f : List Float) (from r : State) (ring counts ring′ window-counts′ counts′ : List ℕ) : Type 0 where

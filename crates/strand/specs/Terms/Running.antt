@@ -2,7 +2,7 @@
 use mathlib.Core.Path.{_≡_}
 use Prim.Native.Nat.{ℕ, _+_, _-_, _/_, _^_, _<_, _≤_}
 use mathlib.Core.List.{List}
-use lib.ListN.{length, take, drop, replicate}
+use lib.ListN.{length, take, replicate}
 use lib.IntN.{ℤ, pos, negsuc}
 use lib.Ieee.{Float}
 use Rattle.letters.specs.Place.{places}
@@ -14,7 +14,7 @@ use Rattle.scans.specs.Terms.Numbers.{setupOf}
 use Rattle.scans.specs.Scans.{dustBackward}
 use Rattle.scans.specs.Terms.Window.{window, Windowed}
 use Rattle.scans.specs.Terms.Carry.{Carried, Answers}
-use Rattle.strand.specs.Step.{Run, whole, runFrom, run, intervalsOf}
+use Rattle.strand.specs.Step.{whole, run, intervalsOf}
 use Rattle.strand.specs.declared.Window.{Window}
 use Rattle.strand.specs.declared.Open.{Open}
 use Rattle.strand.specs.declared.State.{State}
@@ -23,7 +23,7 @@ use Rattle.strand.specs.Terms.Like.{Like}
 use Rattle.strand.specs.Terms.KnownCounts.{KnownCounts, Clearing, answeredBy}
 use Rattle.strand.specs.Terms.Entering.{held}
 use Rattle.strand.specs.Terms.Finding.{savedIn, Saving, TakesFind}
-use Rattle.strand.specs.Terms.ReadingOn.{Read}
+use Rattle.strand.specs.Terms.ReadingOn.{Read, runTo}
 
 -- ---- What is lent.
 -- What a part of the run asks: the numbers lie in their ranges, and the slices that it is lent have the sizes that the paper lists.
@@ -61,9 +61,7 @@ pub record Before (p : Params) (codes : List ℕ) (ln f : List Float) (a : State
   pub read : Read p codes ln f a ring window-counts counts
   pub shaped : Shaped (p .kmer) (a .i) (a .hand .start) (a .hand .end) (savedIn (a .hand .count) list)
   pub count-in : a .hand .count ≤ length list
-  pub real : Run  -- the definition's run
-  pub like : Like (a .i) (held a ring counts (savedIn (a .hand .count) list)) real
-  pub rest : run (setupOf p ln f) (places (p .kmer) codes) ≡ runFrom (setupOf p ln f) (a .i) real (drop (a .i) (places (p .kmer) codes))
+  pub like : Like (a .i) (held a ring counts (savedIn (a .hand .count) list)) (runTo (setupOf p ln f) codes (a .i))
 
 -- ---- At a letter whose backward scan is due, from cleared counts.
 -- What is known of the answer r to such a scan, which leaves the scan counts counts′.
@@ -87,6 +85,7 @@ pub record Told (p : Params) (ln f : List Float) (w : Window) (ring : List ℕ) 
 pub record Due (p : Params) (codes : List ℕ) (ln f : List Float) (a : State) (ring window-counts counts : List ℕ) (list : List (List ℕ)) : Type 0 where
   pub some : 0 < a .window .len
   pub windowed : Windowed p ring (a .window .head) (a .window .len) window-counts (length ln)
+  pub window-is : window ring (a .window .head) (a .window .len) ≡ runTo (setupOf p ln f) codes (a .i + 1) .window
   pub clear : counts ≡ replicate (4 ^ p .kmer) 0
   pub carried : Carried (setupOf p ln f) (window ring (a .window .head) (a .window .len - 1)) (whole (a .window .«last_q»)) (a .window .carry)
   pub saving : Saving (a .hand) list

@@ -32,22 +32,22 @@ abbrev going : tie.Else2 Inv-loop μ-loop → tie.Else1 Inv-loop μ-loop
 going c = c .before .before .before
 
 loop-holds : tie.Need-loop-holds Inv-loop μ-loop
-loop-holds c = let s = c .before .before .before .before .before .before .pre in (omega arith, scanning-start _ _ _ _ _ _ _ _ _ (omega (arith, s .0)) (s .1 .1))
+loop-holds c = let s = c .before .before .before .before .before .before .pre in (omega arith, scanning-start _ _ _ _ _ _ _ _ _ (omega (arith, s .inside)) (s .room))
 
 sub-fl : tie.Need-sub-fl Inv-loop μ-loop
-sub-fl c = let a = c .before in omega (arith, c .loop-test .taken, a .loop .inv .1 .inside, start a .pre .0)
+sub-fl c = let a = c .before in omega (arith, c .loop-test .taken, a .loop .inv .1 .inside, start a .pre .inside, start a .pre .low-in)
 
 mul-fl : tie.Need-mul-fl Inv-loop μ-loop
-mul-fl c = omega (arith, start (c .before) .pre .0)
+mul-fl c = omega (arith, start (c .before) .pre .small)
 
 shared-slice-read-fl : tie.Need-shared-slice-read-fl Inv-loop μ-loop
-shared-slice-read-fl c = omega (arith, c .before .loop-test .taken, start (c .before .before) .pre .0)
+shared-slice-read-fl c = omega (arith, c .before .loop-test .taken, start (c .before .before) .pre .f-long)
 
 sub-add-entry : tie.Need-sub-add-entry Inv-loop μ-loop
 sub-add-entry c = omega (arith, c .before .loop-test .taken)
 
 mul-add-entry : tie.Need-mul-add-entry Inv-loop μ-loop
-mul-add-entry c = let a = c .before .before in omega (arith, c .before .loop-test .taken, a .loop .inv .1 .inside, start a .pre .0)
+mul-add-entry c = let a = c .before .before in omega (arith, c .before .loop-test .taken, a .loop .inv .1 .inside, start a .pre .inside, start a .pre .low-in, start a .pre .small)
 
 shared-slice-read-add-entry : tie.Need-shared-slice-read-add-entry Inv-loop μ-loop
 shared-slice-read-add-entry c = let d = c .before .before in omega (arith, d .loop-test .taken, d .before .loop .inv .1 .inside)
@@ -57,15 +57,15 @@ add-entry-requires c κs =
     let d = c .before .before .before in
     let a = d .before in
     let s = start a .pre in
-    add-ready _ _ _ _ _ _ _ _ _ _ _ (a .loop .inv .1) (s .1 .0 .0) _ (a .loop .at - 1) (omega (arith, d .loop-test .taken)) (omega (arith, d .loop-test .taken)) _ (s .0 .2) (s .0 .3) (s .1 .0 .1) (s .1 .1 .at-most)
+    add-ready _ _ _ _ _ _ _ _ _ _ _ (a .loop .inv .1) (s .coded) _ (a .loop .at - 1) (omega (arith, d .loop-test .taken)) (omega (arith, d .loop-test .taken)) _ (s .small) (s .ln-long) (s .counts-long) (s .room .at-most)
 
 returns : tie.Need-returns Inv-loop μ-loop
 returns c =
     let k = c .before .before .before .before .before in
-    scanning-ended _ _ _ _ _ _ _ _ _ _ _ (at-loop k .loop .inv .1) (begun k .pre .1 .0 .0) _ (at-loop k .loop .at - 1) (omega (arith, looping k .loop-test .taken)) (omega (arith, looping k .loop-test .taken)) _ _ (k .add-entry .ensures) _ (c .resting .ensures) (c .before .if1 .taken)
+    scanning-ended _ _ _ _ _ _ _ _ _ _ _ (at-loop k .loop .inv .1) (begun k .pre .coded) _ (at-loop k .loop .at - 1) (omega (arith, looping k .loop-test .taken)) (omega (arith, looping k .loop-test .taken)) _ _ (k .add-entry .ensures) _ (c .resting .ensures) (c .before .if1 .taken)
 
 raised-requires : tie.Need-raised-requires Inv-loop μ-loop
-raised-requires c κs = let k = added (c .before .before .before) in omega (arith, looping k .loop-test .taken, at-loop k .loop .inv .1 .inside, begun k .pre .0)
+raised-requires c κs = let k = added (c .before .before .before) in omega (arith, looping k .loop-test .taken, at-loop k .loop .inv .1 .inside, begun k .pre .inside, begun k .pre .low-in, begun k .pre .small)
 
 loop-less : tie.Need-loop-less Inv-loop μ-loop
 loop-less c = omega (arith, looping (added (c .before .before .before .before)) .loop-test .taken)
@@ -74,7 +74,7 @@ loop-again : tie.Need-loop-again Inv-loop μ-loop
 loop-again c =
     let o = c .before .before .before .before in
     let k = added o in
-    (omega (arith, looping k .loop-test .taken), scanning-raised _ _ _ _ _ _ _ _ _ _ _ (at-loop k .loop .inv .1) (begun k .pre .1 .0 .0) _ (at-loop k .loop .at - 1) (omega (arith, looping k .loop-test .taken)) (omega (arith, looping k .loop-test .taken)) _ _ (k .add-entry .ensures) (o .if1 .left) (c .before .if2 .taken) _ (c .raised .ensures))
+    (omega (arith, looping k .loop-test .taken), scanning-raised _ _ _ _ _ _ _ _ _ _ _ (at-loop k .loop .inv .1) (begun k .pre .coded) _ (at-loop k .loop .at - 1) (omega (arith, looping k .loop-test .taken)) (omega (arith, looping k .loop-test .taken)) _ _ (k .add-entry .ensures) (o .if1 .left) (c .before .if2 .taken) _ (c .raised .ensures))
 
 same-length-2 : tie.Need-same-length-2 Inv-loop μ-loop
 same-length-2 c =
@@ -88,7 +88,7 @@ returns-2 c =
     let b = t .before .before in
     let o = going b in
     let k = added o in
-    scanning-paused _ _ _ _ _ _ _ _ _ _ _ (at-loop k .loop .inv .1) (begun k .pre .1 .0 .0) _ (at-loop k .loop .at - 1) (omega (arith, looping k .loop-test .taken)) (omega (arith, looping k .loop-test .taken)) _ _ (k .add-entry .ensures) (o .if1 .left) (b .if2 .left) _ (c .before .fallen .ensures)
+    scanning-paused _ _ _ _ _ _ _ _ _ _ _ (at-loop k .loop .inv .1) (begun k .pre .coded) _ (at-loop k .loop .at - 1) (omega (arith, looping k .loop-test .taken)) (omega (arith, looping k .loop-test .taken)) _ _ (k .add-entry .ensures) (o .if1 .left) (b .if2 .left) _ (c .before .fallen .ensures)
     (sym (t .before .pauses .ensures) ∙ t .if3 .taken) _ (d .too-low .ensures) _ (c .resting2 .ensures)
 
 same-length-3 : tie.Need-same-length-3 Inv-loop μ-loop
@@ -103,7 +103,7 @@ returns-3 c =
     let b = e .before .before in
     let o = going b in
     let k = added o in
-    scanning-stopped _ _ _ _ _ _ _ _ _ _ _ (at-loop k .loop .inv .1) (begun k .pre .1 .0 .0) _ (at-loop k .loop .at - 1) (omega (arith, looping k .loop-test .taken)) (omega (arith, looping k .loop-test .taken)) _ _ (k .add-entry .ensures) (o .if1 .left) (b .if2 .left) _ (c .before .fallen2 .ensures)
+    scanning-stopped _ _ _ _ _ _ _ _ _ _ _ (at-loop k .loop .inv .1) (begun k .pre .coded) _ (at-loop k .loop .at - 1) (omega (arith, looping k .loop-test .taken)) (omega (arith, looping k .loop-test .taken)) _ _ (k .add-entry .ensures) (o .if1 .left) (b .if2 .left) _ (c .before .fallen2 .ensures)
     (sym (e .before .pauses .ensures) ∙ e .if3 .left) (sym (t .before .too-low2 .ensures) ∙ t .if4 .taken) _ (c .resting3 .ensures)
 
 loop-less-2 : tie.Need-loop-less-2 Inv-loop μ-loop
@@ -117,7 +117,7 @@ loop-again-2 c =
     let o = going b in
     let k = added o in (
       omega (arith, looping k .loop-test .taken),
-      scanning-fallen _ _ _ _ _ _ _ _ _ _ _ (at-loop k .loop .inv .1) (begun k .pre .1 .0 .0) _ (at-loop k .loop .at - 1) (omega (arith, looping k .loop-test .taken)) (omega (arith, looping k .loop-test .taken)) _ _ (k .add-entry .ensures) (o .if1 .left) (b .if2 .left) _ (c .fallen3 .ensures)
+      scanning-fallen _ _ _ _ _ _ _ _ _ _ _ (at-loop k .loop .inv .1) (begun k .pre .coded) _ (at-loop k .loop .at - 1) (omega (arith, looping k .loop-test .taken)) (omega (arith, looping k .loop-test .taken)) _ _ (k .add-entry .ensures) (o .if1 .left) (b .if2 .left) _ (c .fallen3 .ensures)
           (sym (e .before .pauses .ensures) ∙ e .if3 .left) (sym (t .before .too-low2 .ensures) ∙ t .if4 .left),
     )
 

@@ -56,9 +56,10 @@ none-ends-requires c κs =
 
 returns-2 : tie.Need-returns-2
 returns-2 c =
-    let t = c .before in
+    let n = c .before in
+    let t = n .before in
     let e = told (t .before) .none-ends .ensures in
-    answers-none _ _ _ _ _ (e .told (t .if2 .taken)) (c .nothing .ensures) (e .clear)
+    answers-none _ _ _ _ _ (e .told (t .if2 .taken)) (n .nothing .ensures) (e .clear)
 
 try-candidates-requires : tie.Need-try-candidates-requires
 try-candidates-requires c κs =
@@ -90,6 +91,7 @@ dust-backward-spec =
     returns
     scan-backward-requires
     none-ends-requires
+    (λ c κs. search needs)
     (λ c κs. search needs)
     (λ c. search needs)
     (λ c. search needs)

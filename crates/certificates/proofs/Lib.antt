@@ -1,0 +1,13 @@
+pub mod CertainSecond
+pub mod CertainShape
+pub mod CertainScan
+pub mod CertainUnits
+pub mod CertainFind
+pub mod CertificateUsed
+pub mod CertificateCarried
+pub mod CertainRing
+pub mod Making
+pub mod Certifying
+pub mod NewestSums
+pub mod LowScan
+pub mod LowReading
