@@ -11,19 +11,19 @@ use lib.Dec.{eqb}
 use borrow.Author.Tests.{ne-eqb}
 use Rattle.floats.specs.Binary64.{zero64}
 use Rattle.letters.specs.Place.{Place, ambiguous, plain, Below}
-use Rattle.scans.specs.declared.Carry.{Carry}
-use Rattle.scans.specs.declared.Scanned.{Scanned}
+use Rattle.search.specs.declared.Carry.{Carry}
+use Rattle.search.specs.declared.Scanned.{Scanned}
 use Rattle.scans.specs.Setup.{Setup, kmers}
 use Rattle.scans.specs.Counts.{raise, lower, cleared}
-use Rattle.scans.specs.Terms.Counted.{Counted}
+use Rattle.scans.specs.Terms.Counted.{Counted, Touched}
 use Rattle.scans.specs.Scans.{Find, none, at, Outcome, dustBackward}
 use Rattle.scans.specs.Terms.Window.{findOf}
-use Rattle.scans.specs.Terms.Carry.{Carried, Touched, countsLeft, Answers, CarriesOn}
+use Rattle.search.specs.Terms.Carry.{Carried, countsLeft, Answers, CarriesOn}
 use Rattle.scans.proofs.Counting.{below-right, raise-counted}
 use Rattle.scans.proofs.Touched.{touched-cleared, touched-none, counted-touched, touched-more, touched-raise, touched-lower, touched-part}
 use Rattle.scans.proofs.ForwardScore.{forward-inside}
-use Rattle.scans.proofs.CarriedScan.{found-counted}
-use Rattle.scans.proofs.CertificateKept.{certified-left}
+use Rattle.search.proofs.CarriedScan.{found-counted}
+use Rattle.search.proofs.CertificateKept.{certified-left}
 use Rattle.scans.proofs.Finds.{backward-facts}
 use Rattle.strand.specs.Step.{whole, countsWithout, lastQWithout}
 use Rattle.strand.specs.declared.Window.{Window}

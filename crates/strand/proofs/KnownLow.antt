@@ -14,9 +14,9 @@ use Rattle.scans.specs.Setup.{Setup, kmers}
 use Rattle.scans.specs.Counts.{cleared}
 use Rattle.scans.specs.Scans.{Find, Outcome}
 use Rattle.certificates.specs.declared.LowStarts.{LowStarts}
-use Rattle.scans.specs.declared.Scanned.{Scanned}
+use Rattle.search.specs.declared.Scanned.{Scanned}
 use Rattle.scans.specs.Terms.Window.{findOf}
-use Rattle.scans.specs.Terms.Carry.{countsLeft, Answers}
+use Rattle.search.specs.Terms.Carry.{countsLeft, Answers}
 use Rattle.certificates.specs.Terms.Low as certificates
 use Rattle.scans.proofs.Counting.{below-take, below-drop}
 use Rattle.certificates.proofs.LowScan.{low-drop}

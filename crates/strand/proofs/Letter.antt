@@ -19,7 +19,7 @@ use Rattle.scans.specs.Setup.{Setup}
 use Rattle.scans.specs.Terms.Numbers.{setupOf}
 use Rattle.scans.specs.Counts.{count}
 use Rattle.scans.specs.Scans.{Find, none, at, Outcome}
-use Rattle.scans.specs.declared.Carry.{Carry}
+use Rattle.search.specs.declared.Carry.{Carry}
 use Rattle.scans.specs.Terms.Window.{window, findOf, Windowed}
 use Rattle.scans.proofs.Test.{by-test}
 use Rattle.scans.proofs.Windows.{long}

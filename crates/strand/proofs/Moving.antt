@@ -15,7 +15,7 @@ use Rattle.floats.specs.Arithmetic.{_⊕_, _⊖_}
 use Rattle.letters.specs.Place.{Place, ambiguous, plain, Below}
 use Rattle.letters.specs.Terms.Entry.{decode, decoded}
 use Rattle.scans.specs.declared.Params.{Params}
-use Rattle.scans.specs.declared.Carry.{Carry}
+use Rattle.search.specs.declared.Carry.{Carry}
 use Rattle.scans.specs.Setup.{Setup}
 use Rattle.scans.specs.Terms.Numbers.{setupOf}
 use Rattle.scans.specs.Counts.{count, raise, lower}

@@ -18,7 +18,7 @@ use Rattle.intervals.proofs.Slice.{length-list}
 use Rattle.scans.specs.declared.Params.{Params}
 use Rattle.scans.specs.Setup.{Setup}
 use Rattle.scans.specs.Terms.Numbers.{setupOf}
-use Rattle.scans.specs.declared.Scanned.{Scanned}
+use Rattle.search.specs.declared.Scanned.{Scanned}
 use Rattle.scans.specs.Counts.{cleared}
 use Rattle.scans.specs.Terms.Window.{queue, window}
 use Rattle.scans.proofs.Counting.{cleared-counted}

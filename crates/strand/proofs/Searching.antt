@@ -19,15 +19,15 @@ use Rattle.letters.specs.Terms.Entry.{decode, decoded}
 use Rattle.letters.proofs.Entries.{decode-plain, decode-ambiguous}
 use Rattle.intervals.specs.Interval.{Interval}
 use Rattle.scans.specs.declared.Params.{Params}
-use Rattle.scans.specs.declared.Carry.{Carry}
-use Rattle.scans.specs.declared.Scanned.{Scanned}
+use Rattle.search.specs.declared.Carry.{Carry}
+use Rattle.search.specs.declared.Scanned.{Scanned}
 use Rattle.scans.specs.Setup.{Setup, kmers}
 use Rattle.scans.specs.Terms.Numbers.{setupOf}
 use Rattle.scans.specs.Counts.{count, raise}
 use Rattle.scans.specs.Scans.{Find, none, at, Outcome, extends, ifBackward, dustBackward}
-use Rattle.scans.specs.Terms.Counted.{Counted}
+use Rattle.scans.specs.Terms.Counted.{Counted, Touched}
 use Rattle.scans.specs.Terms.Window.{queue, window, findOf, Windowed, Extends}
-use Rattle.scans.specs.Terms.Carry.{Carried, Touched, countsLeft, Answers, CarriesOn}
+use Rattle.search.specs.Terms.Carry.{Carried, countsLeft, Answers, CarriesOn}
 use Rattle.scans.proofs.Counting.{count-le}
 use Rattle.scans.proofs.Windows.{long}
 use Rattle.scans.proofs.Touched.{touched-more}

@@ -14,7 +14,7 @@ use mir.Val.{toZ, ofZ, SFits, Fits}
 use mir.Facts.{toZ-ofZ, sfits-lit}
 use Rattle.floats.proofs.Whole.{Is, is-as, is-sub}
 use Rattle.letters.specs.Place.{Place}
-use Rattle.scans.specs.declared.Carry.{Carry}
+use Rattle.search.specs.declared.Carry.{Carry}
 use Rattle.scans.specs.Counts.{lower}
 use Rattle.strand.specs.Step.{whole, countsWithout, lastQWithout, isAt, firstLetter}
 use Rattle.strand.proofs.Shape.{first-is}

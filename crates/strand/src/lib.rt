@@ -25,7 +25,7 @@ ghost use Rattle.scans.specs.Counts.{raise, lower};
 ghost use Rattle.scans.specs.Terms.Shape.{Shaped};
 ghost use Rattle.scans.specs.Terms.Window.{findOf, window, Windowed};
 ghost use Rattle.scans.specs.Terms.Parts.{Queued};
-ghost use Rattle.scans.specs.Terms.Fails.{TellsNone};
+ghost use Rattle.search.specs.Terms.Fails.{TellsNone};
 ghost use Rattle.strand.specs.Step.{whole, lastQWithout, isAt, firstLetter, startAfter, saveFrom, savedAfter};
 ghost use Rattle.strand.specs.Terms.KnownCounts.{KnownCounts, Passing, Passes, Clearing, sought, extendedOf, answeredBy};
 ghost use Rattle.strand.specs.Terms.Entering.{held, newestOf, sumLess, sumMore, Left, Joined, Next, Enters};
@@ -45,7 +45,7 @@ struct Window {
     head: usize,
     len: usize,
     live: bool,
-    carry: scans::Carry,
+    carry: search::Carry,
 }
 
 // The sum without an entry that leaves: if plain, the ln entry of its count leaves the sum, and the count falls.
@@ -117,7 +117,7 @@ impl Window {
         self.sum = sum_without(self.sum, entry, ln, window_counts);
         if self.live & is_at(last_q, 0) {
             scans::lower_entry(scan_counts, entry);
-            self.carry = scans::Carry::none();
+            self.carry = search::Carry::none();
         }
         self.last_q = last_q_without(last_q);
         self.head = scans::ring_index(p.window_size, head, 1);
@@ -207,7 +207,7 @@ impl Window {
         queue: &[u32],
         window_counts: &[u16],
         scan_counts: &mut [u16],
-    ) -> scans::Scanned
+    ) -> search::Scanned
         requires { ⌜ Asking p (now ln) (now f) self (now queue) (now «window_counts») (now «scan_counts») ⌝ }
         requires { ⌜ Shaped p (now ln) (now f) ⌝ }
         ensures { λ r. ⌜ Told p (now (ln .entry)) (now (f .entry)) self (now (queue .entry)) r (now («scan_counts» .exit)) ⌝ }
@@ -227,7 +227,7 @@ impl Window {
                 scan_counts,
             );
         }
-        scans::nothing()
+        search::nothing()
     }
 
     // The window with the scan counts that a find by extension leaves.
@@ -235,12 +235,12 @@ impl Window {
         ensures { λ r. ⌜ r ≡ extendedOf self .window ⌝ }
     {
         self.live = true;
-        self.carry = scans::Carry::none();
+        self.carry = search::Carry::none();
         self
     }
 
     // The window with the scan counts that a backward scan leaves: `found` is one past the index that it found, 0 for none.
-    fn answered(mut self, found: usize, carry: scans::Carry) -> Self
+    fn answered(mut self, found: usize, carry: search::Carry) -> Self
         ensures { λ r. ⌜ r ≡ answeredBy self found carry .window ⌝ }
     {
         self.live = found != 0;
@@ -404,7 +404,7 @@ impl State {
                 head: 0,
                 len: 0,
                 live: false,
-                carry: scans::Carry::none(),
+                carry: search::Carry::none(),
             },
             hand: Open {
                 start: -1,
@@ -505,7 +505,7 @@ impl State {
     }
 
     // The backward scan from letter i is answered.
-    fn answered(self, p: scans::Params, r: scans::Scanned, list: &mut [[u32; 2]]) -> Self
+    fn answered(self, p: scans::Params, r: search::Scanned, list: &mut [[u32; 2]]) -> Self
         requires { ⌜ (self .i < 2147483648) × (self .window .len < 65536) × (r .found ≤ self .window .len) × (p .kmer ≤ 12) ⌝ }
         requires { ⌜ Saving (self .hand) (now list) ⌝ }
         ensures { λ a. ⌜ TakesFind (p .kmer) self (answeredBy (self .window) (r .found) (r .carry)) a
@@ -803,7 +803,7 @@ fn until_scan(
                 }
                 window.clear(queue, scan_counts);
                 if low.tells(p, st, queue, window_counts, ln, f, scan_counts) {
-                    st = st.answered(p, scans::nothing(), list);
+                    st = st.answered(p, search::nothing(), list);
                     continue;
                 }
                 return st;
@@ -857,7 +857,7 @@ pub fn inner_process(
             return st.hand.close(list);
         }
         let from = st.window.last_q_index();
-        let r = scans::dust_backward(
+        let r = search::dust_backward(
             p,
             st.window.carry,
             from,

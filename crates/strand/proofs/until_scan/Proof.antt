@@ -8,7 +8,7 @@ use borrow.Author.Needs.{needs}
 use Rattle.scans.specs.declared.Params.{Params}
 use Rattle.scans.proofs.Walk.{windowed-queued}
 use Rattle.scans.proofs.Windows.{long}
-use Rattle.scans.proofs.Trying.{answers-none}
+use Rattle.search.proofs.Trying.{answers-none}
 use Rattle.strand.specs.declared.Open.{Open}
 use Rattle.strand.specs.declared.State.{State}
 use Rattle.strand.specs.Terms.Finding.{Saving}

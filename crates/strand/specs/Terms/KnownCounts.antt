@@ -10,12 +10,12 @@ use Rattle.letters.specs.Place.{Place}
 use Rattle.scans.specs.declared.Params.{Params}
 use Rattle.scans.specs.Setup.{Setup, kmers}
 use Rattle.scans.specs.Counts.{lower, cleared}
-use Rattle.scans.specs.Terms.Counted.{Counted}
+use Rattle.scans.specs.Terms.Counted.{Counted, Touched}
 use Rattle.scans.specs.Terms.Window.{Joining}
-use Rattle.scans.specs.Terms.Carry.{noCarry, Carried, Touched, CarriesOn}
+use Rattle.search.specs.Terms.Carry.{noCarry, Carried, CarriesOn}
 use Rattle.strand.specs.Step.{whole, isAt}
 use Rattle.strand.specs.declared.Window.{Window}
-use Rattle.scans.specs.declared.Carry.{Carry}
+use Rattle.search.specs.declared.Carry.{Carry}
 
 -- Not live: all are 0. Live: only places from last_q on have raised them. A carried scan: they are the counts of the places from last_q on, and the sums are those of the scan over them.
 pub record KnownCounts (S : Setup) (q : List Place) (w : Window) (counts : List ℕ) : Type 0 where

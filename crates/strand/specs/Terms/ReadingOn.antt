@@ -15,7 +15,7 @@ use Rattle.scans.specs.Setup.{Setup}
 use Rattle.scans.specs.Terms.Numbers.{setupOf}
 use Rattle.scans.specs.Counts.{count}
 use Rattle.scans.specs.Terms.Window.{window, Windowed}
-use Rattle.scans.specs.Terms.Carry.{noCarry}
+use Rattle.search.specs.Terms.Carry.{noCarry}
 use Rattle.strand.specs.Step.{Run, whole, run}
 use Rattle.strand.specs.declared.State.{State}
 use Rattle.strand.specs.Terms.Like.{Like}

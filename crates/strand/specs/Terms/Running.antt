@@ -13,12 +13,12 @@ use Rattle.scans.specs.Setup.{Setup}
 use Rattle.scans.specs.Terms.Numbers.{setupOf}
 use Rattle.scans.specs.Scans.{dustBackward}
 use Rattle.scans.specs.Terms.Window.{window, Windowed}
-use Rattle.scans.specs.Terms.Carry.{Carried, Answers}
+use Rattle.search.specs.Terms.Carry.{Carried, Answers}
 use Rattle.strand.specs.Step.{whole, run, intervalsOf}
 use Rattle.strand.specs.declared.Window.{Window}
 use Rattle.strand.specs.declared.Open.{Open}
 use Rattle.strand.specs.declared.State.{State}
-use Rattle.scans.specs.declared.Scanned.{Scanned}
+use Rattle.search.specs.declared.Scanned.{Scanned}
 use Rattle.strand.specs.Terms.Like.{Like}
 use Rattle.strand.specs.Terms.KnownCounts.{KnownCounts, Clearing, answeredBy}
 use Rattle.strand.specs.Terms.Entering.{held}

@@ -3,7 +3,7 @@ use Prim.Native.Nat.{ℕ, _≤_}
 use lib.ListN.{drop}
 use borrow.Author.Needs.{needs}
 use Rattle.scans.specs.Terms.Window.{window}
-use Rattle.scans.specs.Terms.Carry.{Touched}
+use Rattle.scans.specs.Terms.Counted.{Touched}
 use Rattle.strand.proofs.Window.clear.Statement.{statement}
 use Rattle.strand.proofs.Window.clear.Tie as tie
 

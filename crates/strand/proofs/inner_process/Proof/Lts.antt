@@ -3,14 +3,14 @@ use Rattle.scans.proofs.ForwardPosition as Rec·type
 use Rattle.scans.proofs.ForwardPosition.Laws as Rec·laws
 use denote.Memory as Rec·memory
 use Prim.Native.Nat
-use Rattle.scans.proofs.Answered
-use Rattle.scans.proofs.Answered.Laws
-use Rattle.scans.proofs.Carry
-use Rattle.scans.proofs.Carry.Laws as Laws'
+use Rattle.search.proofs.Answered
+use Rattle.search.proofs.Answered.Laws
+use Rattle.search.proofs.Carry
+use Rattle.search.proofs.Carry.Laws as Laws'
 use Rattle.scans.proofs.Params
 use Rattle.scans.proofs.Params.Laws as Laws''
-use Rattle.scans.proofs.Scanned
-use Rattle.scans.proofs.Scanned.Laws as Laws'3
+use Rattle.search.proofs.Scanned
+use Rattle.search.proofs.Scanned.Laws as Laws'3
 use Rattle.strand.proofs.Low
 use Rattle.strand.proofs.Low.Laws as Laws'4
 use Rattle.strand.proofs.Open

@@ -1,7 +1,7 @@
 -- Made by tools/lift from the prover's `Tie` of `inner_process` over a slice of `[u64; 2]`; not to be edited.
-use Rattle.scans.proofs.dust_backward.Met
-use Rattle.scans.proofs.DustDustBackwardReads as Reads
-use Rattle.scans.proofs.dust_backward.Symbol
+use Rattle.search.proofs.dust_backward.Met
+use Rattle.search.proofs.DustDustBackwardReads as Reads
+use Rattle.search.proofs.dust_backward.Symbol
 use Rattle.strand.proofs.Low.none.Met as Met'
 use Rattle.strand.proofs.Low.none.Reads as Reads'
 use Rattle.strand.proofs.Low.none.Symbol as Symbol'
