@@ -1585,7 +1585,7 @@ module _ {M : Type 1} where
       Code.env
       Symbol.name
       Symbol.routine
-      Code.calls-scans·dust-backward
+      Code.calls-search·dust-backward
       (Met.met 𝓤 H 𝓜 𝓖 𝓡))
       (Reads''.known
       record { M = M; 𝓤 = 𝓤; H = H; 𝓜 = 𝓜; 𝓖 = 𝓖; 𝓡 = 𝓡 }
