@@ -15,7 +15,8 @@ use Rattle.scans.specs.Range.{inRange}
 use Rattle.strand.specs.Step.{intervalsOf}
 use Rattle.strand.proofs.Agreeing.{inRange-agree, intervals-agree}
 use Rattle.longdust.specs.declared.LongdustOptions.{LongdustOptions}
-use Rattle.longdust.specs.Mask.{setup, maskOf, mask, markedMaskOf, markedMask}
+use Rattle.longdust.specs.Mask.{setup, mask, markedMask}
+use Rattle.mask.specs.Mask.{maskOf, markedMaskOf}
 
 -- Equal tables agree, and so do the fronts of tables that agree, of more than m entries.
 pub agree-equal : {m : ℕ} {table table′ : List Float} → table ≡ table′ → AgreeTo m table table′

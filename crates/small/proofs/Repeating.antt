@@ -25,7 +25,8 @@ use Rattle.strand.proofs.Quiet.{quiet-intervals}
 use Rattle.intervals.specs.Interval.{Interval}
 use Rattle.intervals.specs.Merge.{interleave, nonempty, join, merge, backwards}
 use Rattle.longdust.specs.declared.LongdustOptions.{LongdustOptions}
-use Rattle.longdust.specs.Mask.{setup, maskOf, mask}
+use Rattle.longdust.specs.Mask.{setup, mask}
+use Rattle.mask.specs.Mask.{maskOf}
 use Rattle.small.specs.Bytes.{bytesOf}
 use Rattle.small.specs.Call.{filledMask}
 use Rattle.small.specs.Terms.Run.{Asked}

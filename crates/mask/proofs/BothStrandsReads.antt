@@ -1,6 +1,6 @@
--- Made by tools/lift from the prover's `Reads` of `run::reverse_strand` over a slice of `[u64; 2]`; not to be edited.
-use Rattle.longdust.proofs.run.reverse_strand
-use Rattle.longdust.proofs.RunReverseStrandKinds as Kinds
+-- Made by tools/lift from the prover's `Reads` of `both_strands` over a slice of `[u64; 2]`; not to be edited.
+use Rattle.mask.proofs.both_strands
+use Rattle.mask.proofs.BothStrandsKinds as Kinds
 use base.Logic
 use borrow.Fn.Kinds as Kinds'
 use borrow.Fn.Learn
@@ -16,27 +16,27 @@ use mathlib.Core.Path as Path'
 abbrev pub Ghost : Type 0
 Ghost = Unit {0}
 
-module _ (κs : Lifetimes.Lfts 9) where
-  abbrev pub Pinned : (a : World.ArgsD reverse_strand.signature κs) → (w : World.World) → Type 1
-  Pinned = Learn.no-pin reverse_strand.signature κs
+module _ (κs : Lifetimes.Lfts 12) where
+  abbrev pub Pinned : (a : World.ArgsD both_strands.signature κs) → (w : World.World) → Type 1
+  Pinned = Learn.no-pin both_strands.signature κs
 
   abbrev pub Owned :
-      (r : World.ResD reverse_strand.signature κs) →
-      (s : Clauses.AtExit (Kinds'.endedOf 9 Kinds.ps Kinds.r) κs) →
+      (r : World.ResD both_strands.signature κs) →
+      (s : Clauses.AtExit (Kinds'.endedOf 12 Kinds.ps Kinds.r) κs) →
       (w : World.World) →
       Type 1
-  Owned = Learn.no-own (Kinds'.endedOf 9 Kinds.ps Kinds.r) κs
+  Owned = Learn.no-own (Kinds'.endedOf 12 Kinds.ps Kinds.r) κs
 
-  abbrev pub Base : (a : World.ArgsD reverse_strand.signature κs) → (w : World.World) → World.Pr w
-  Base = Written.Base 9 Kinds.ps Kinds.r (λ κs. Pinned) κs
+  abbrev pub Base : (a : World.ArgsD both_strands.signature κs) → (w : World.World) → World.Pr w
+  Base = Written.Base 12 Kinds.ps Kinds.r (λ κs. Pinned) κs
 
-  abbrev pub pins : (w : World.World) → Learn.PinOf reverse_strand.signature κs w λ a. Pinned a w
-  pins = λ w. Learn.no-pins reverse_strand.signature κs w
+  abbrev pub pins : (w : World.World) → Learn.PinOf both_strands.signature κs w λ a. Pinned a w
+  pins = λ w. Learn.no-pins both_strands.signature κs w
 
   abbrev pub owns :
       (w : World.World) →
       Learn.OwnOf
-      (Kinds'.endedOf 9 Kinds.ps Kinds.r)
+      (Kinds'.endedOf 12 Kinds.ps Kinds.r)
       (Kinds'.stays Kinds.ps)
       κs
       w
@@ -44,12 +44,12 @@ module _ (κs : Lifetimes.Lfts 9) where
       r
       s
       w
-  owns = λ w. Learn.no-owns (Kinds'.endedOf 9 Kinds.ps Kinds.r) (Kinds'.stays Kinds.ps) κs w
+  owns = λ w. Learn.no-owns (Kinds'.endedOf 12 Kinds.ps Kinds.r) (Kinds'.stays Kinds.ps) κs w
 
   abbrev pub requires :
-      (a : World.ArgsD reverse_strand.signature κs) → (g : Ghost) → (w : World.World) → World.Pr w
+      (a : World.ArgsD both_strands.signature κs) → (g : Ghost) → (w : World.World) → World.Pr w
   requires =
-      λ a g w. reverse_strand.clauses
+      λ a g w. both_strands.clauses
       (w .𝓤)
       (w .H)
       (w .𝓖 .A)
@@ -60,14 +60,14 @@ module _ (κs : Lifetimes.Lfts 9) where
       g
 
   abbrev pub ensures :
-      (a : World.ArgsD reverse_strand.signature κs) →
+      (a : World.ArgsD both_strands.signature κs) →
       (g : Ghost) →
-      (r : World.ResD reverse_strand.signature κs) →
-      (s : Clauses.AtExit (Kinds'.endedOf 9 Kinds.ps Kinds.r) κs) →
+      (r : World.ResD both_strands.signature κs) →
+      (s : Clauses.AtExit (Kinds'.endedOf 12 Kinds.ps Kinds.r) κs) →
       (w : World.World) →
       World.Pr w
   ensures =
-      λ a g r s w. reverse_strand.clauses
+      λ a g r s w. both_strands.clauses
       (w .𝓤)
       (w .H)
       (w .𝓖 .A)
@@ -80,12 +80,12 @@ module _ (κs : Lifetimes.Lfts 9) where
       s
 
   abbrev pub requires-1·read :
-      (a : World.ArgsD reverse_strand.signature κs) →
+      (a : World.ArgsD both_strands.signature κs) →
       (g : Ghost) →
       Read.Read
-      (World.In reverse_strand.signature κs a)
+      (World.In both_strands.signature κs a)
       Read.no-know
-      λ w. reverse_strand.requires-1
+      λ w. both_strands.requires-1
       (w .𝓤)
       (w .H)
       κs
@@ -103,9 +103,12 @@ module _ (κs : Lifetimes.Lfts 9) where
       (a .1 .1 .1 .1 .1 .1 .1 .1 .0)
       (a .1 .1 .1 .1 .1 .1 .1 .1 .1 .0)
       (a .1 .1 .1 .1 .1 .1 .1 .1 .1 .1 .0)
+      (a .1 .1 .1 .1 .1 .1 .1 .1 .1 .1 .1 .0)
+      (a .1 .1 .1 .1 .1 .1 .1 .1 .1 .1 .1 .1 .0)
+      (a .1 .1 .1 .1 .1 .1 .1 .1 .1 .1 .1 .1 .1 .0)
   requires-1·read =
       λ a g. Read.all-models
-      (λ w. reverse_strand.requires-1
+      (λ w. both_strands.requires-1
       (w .𝓤)
       (w .H)
       κs
@@ -122,19 +125,22 @@ module _ (κs : Lifetimes.Lfts 9) where
       (a .1 .1 .1 .1 .1 .1 .1 .0)
       (a .1 .1 .1 .1 .1 .1 .1 .1 .0)
       (a .1 .1 .1 .1 .1 .1 .1 .1 .1 .0)
-      (a .1 .1 .1 .1 .1 .1 .1 .1 .1 .1 .0))
+      (a .1 .1 .1 .1 .1 .1 .1 .1 .1 .1 .0)
+      (a .1 .1 .1 .1 .1 .1 .1 .1 .1 .1 .1 .0)
+      (a .1 .1 .1 .1 .1 .1 .1 .1 .1 .1 .1 .1 .0)
+      (a .1 .1 .1 .1 .1 .1 .1 .1 .1 .1 .1 .1 .1 .0))
       (λ w. Read.r-last _)
       (λ w. Path'.refl)
       (λ w. Path'.refl)
       λ w. Path'.refl
 
   abbrev pub requires-2·read :
-      (a : World.ArgsD reverse_strand.signature κs) →
+      (a : World.ArgsD both_strands.signature κs) →
       (g : Ghost) →
       Read.Read
-      (World.In reverse_strand.signature κs a)
+      (World.In both_strands.signature κs a)
       Read.no-know
-      λ w. reverse_strand.requires-2
+      λ w. both_strands.requires-2
       (w .𝓤)
       (w .H)
       κs
@@ -152,9 +158,12 @@ module _ (κs : Lifetimes.Lfts 9) where
       (a .1 .1 .1 .1 .1 .1 .1 .1 .0)
       (a .1 .1 .1 .1 .1 .1 .1 .1 .1 .0)
       (a .1 .1 .1 .1 .1 .1 .1 .1 .1 .1 .0)
+      (a .1 .1 .1 .1 .1 .1 .1 .1 .1 .1 .1 .0)
+      (a .1 .1 .1 .1 .1 .1 .1 .1 .1 .1 .1 .1 .0)
+      (a .1 .1 .1 .1 .1 .1 .1 .1 .1 .1 .1 .1 .1 .0)
   requires-2·read =
       λ a g. Read.all-models
-      (λ w. reverse_strand.requires-2
+      (λ w. both_strands.requires-2
       (w .𝓤)
       (w .H)
       κs
@@ -171,66 +180,22 @@ module _ (κs : Lifetimes.Lfts 9) where
       (a .1 .1 .1 .1 .1 .1 .1 .0)
       (a .1 .1 .1 .1 .1 .1 .1 .1 .0)
       (a .1 .1 .1 .1 .1 .1 .1 .1 .1 .0)
-      (a .1 .1 .1 .1 .1 .1 .1 .1 .1 .1 .0))
+      (a .1 .1 .1 .1 .1 .1 .1 .1 .1 .1 .0)
+      (a .1 .1 .1 .1 .1 .1 .1 .1 .1 .1 .1 .0)
+      (a .1 .1 .1 .1 .1 .1 .1 .1 .1 .1 .1 .1 .0)
+      (a .1 .1 .1 .1 .1 .1 .1 .1 .1 .1 .1 .1 .1 .0))
       (λ w. Read.r-last _)
       (λ w. Path'.refl)
       (λ w. Path'.refl)
       λ w. Path'.refl
 
   abbrev pub pre-read :
-      (a : World.ArgsD reverse_strand.signature κs) →
+      (a : World.ArgsD both_strands.signature κs) →
       (g : Ghost) →
-      Read.Read (World.In reverse_strand.signature κs a) Read.no-know (requires a g)
+      Read.Read (World.In both_strands.signature κs a) Read.no-know (requires a g)
   pre-read =
       λ a g. Read.read-join
-      (λ w. reverse_strand.requires-1
-      (w .𝓤)
-      (w .H)
-      κs
-      (w .𝓖 .A)
-      (w .𝓜 .mem)
-      (w .𝓡 .run)
-      (a .0)
-      (a .1 .0)
-      (a .1 .1 .0)
-      (a .1 .1 .1 .0)
-      (a .1 .1 .1 .1 .0)
-      (a .1 .1 .1 .1 .1 .0)
-      (a .1 .1 .1 .1 .1 .1 .0)
-      (a .1 .1 .1 .1 .1 .1 .1 .0)
-      (a .1 .1 .1 .1 .1 .1 .1 .1 .0)
-      (a .1 .1 .1 .1 .1 .1 .1 .1 .1 .0)
-      (a .1 .1 .1 .1 .1 .1 .1 .1 .1 .1 .0))
-      (λ w. reverse_strand.requires-2
-      (w .𝓤)
-      (w .H)
-      κs
-      (w .𝓖 .A)
-      (w .𝓜 .mem)
-      (w .𝓡 .run)
-      (a .0)
-      (a .1 .0)
-      (a .1 .1 .0)
-      (a .1 .1 .1 .0)
-      (a .1 .1 .1 .1 .0)
-      (a .1 .1 .1 .1 .1 .0)
-      (a .1 .1 .1 .1 .1 .1 .0)
-      (a .1 .1 .1 .1 .1 .1 .1 .0)
-      (a .1 .1 .1 .1 .1 .1 .1 .1 .0)
-      (a .1 .1 .1 .1 .1 .1 .1 .1 .1 .0)
-      (a .1 .1 .1 .1 .1 .1 .1 .1 .1 .1 .0))
-      (requires-1·read a g)
-      (requires-2·read a g)
-
-  abbrev pub ensures-1·read :
-      (a : World.ArgsD reverse_strand.signature κs) →
-      (g : Ghost) →
-      (r : World.ResD reverse_strand.signature κs) →
-      (s : Clauses.AtExit (Kinds'.endedOf 9 Kinds.ps Kinds.r) κs) →
-      Read.Read
-      (Base a)
-      (Owned r s)
-      λ w. reverse_strand.ensures-1
+      (λ w. both_strands.requires-1
       (w .𝓤)
       (w .H)
       κs
@@ -248,6 +213,62 @@ module _ (κs : Lifetimes.Lfts 9) where
       (a .1 .1 .1 .1 .1 .1 .1 .1 .0)
       (a .1 .1 .1 .1 .1 .1 .1 .1 .1 .0)
       (a .1 .1 .1 .1 .1 .1 .1 .1 .1 .1 .0)
+      (a .1 .1 .1 .1 .1 .1 .1 .1 .1 .1 .1 .0)
+      (a .1 .1 .1 .1 .1 .1 .1 .1 .1 .1 .1 .1 .0)
+      (a .1 .1 .1 .1 .1 .1 .1 .1 .1 .1 .1 .1 .1 .0))
+      (λ w. both_strands.requires-2
+      (w .𝓤)
+      (w .H)
+      κs
+      (w .𝓖 .A)
+      (w .𝓜 .mem)
+      (w .𝓡 .run)
+      (a .0)
+      (a .1 .0)
+      (a .1 .1 .0)
+      (a .1 .1 .1 .0)
+      (a .1 .1 .1 .1 .0)
+      (a .1 .1 .1 .1 .1 .0)
+      (a .1 .1 .1 .1 .1 .1 .0)
+      (a .1 .1 .1 .1 .1 .1 .1 .0)
+      (a .1 .1 .1 .1 .1 .1 .1 .1 .0)
+      (a .1 .1 .1 .1 .1 .1 .1 .1 .1 .0)
+      (a .1 .1 .1 .1 .1 .1 .1 .1 .1 .1 .0)
+      (a .1 .1 .1 .1 .1 .1 .1 .1 .1 .1 .1 .0)
+      (a .1 .1 .1 .1 .1 .1 .1 .1 .1 .1 .1 .1 .0)
+      (a .1 .1 .1 .1 .1 .1 .1 .1 .1 .1 .1 .1 .1 .0))
+      (requires-1·read a g)
+      (requires-2·read a g)
+
+  abbrev pub ensures-1·read :
+      (a : World.ArgsD both_strands.signature κs) →
+      (g : Ghost) →
+      (r : World.ResD both_strands.signature κs) →
+      (s : Clauses.AtExit (Kinds'.endedOf 12 Kinds.ps Kinds.r) κs) →
+      Read.Read
+      (Base a)
+      (Owned r s)
+      λ w. both_strands.ensures-1
+      (w .𝓤)
+      (w .H)
+      κs
+      (w .𝓖 .A)
+      (w .𝓜 .mem)
+      (w .𝓡 .run)
+      (a .0)
+      (a .1 .0)
+      (a .1 .1 .0)
+      (a .1 .1 .1 .0)
+      (a .1 .1 .1 .1 .0)
+      (a .1 .1 .1 .1 .1 .0)
+      (a .1 .1 .1 .1 .1 .1 .0)
+      (a .1 .1 .1 .1 .1 .1 .1 .0)
+      (a .1 .1 .1 .1 .1 .1 .1 .1 .0)
+      (a .1 .1 .1 .1 .1 .1 .1 .1 .1 .0)
+      (a .1 .1 .1 .1 .1 .1 .1 .1 .1 .1 .0)
+      (a .1 .1 .1 .1 .1 .1 .1 .1 .1 .1 .1 .0)
+      (a .1 .1 .1 .1 .1 .1 .1 .1 .1 .1 .1 .1 .0)
+      (a .1 .1 .1 .1 .1 .1 .1 .1 .1 .1 .1 .1 .1 .0)
       record { entry = a .0; exit = s .0 }
       record { entry = a .1 .0; exit = s .1 .0 }
       record { entry = a .1 .1 .0; exit = s .1 .1 .0 }
@@ -262,10 +283,22 @@ module _ (κs : Lifetimes.Lfts 9) where
         entry = a .1 .1 .1 .1 .1 .1 .1 .1 .1 .1 .0;
         exit = s .1 .1 .1 .1 .1 .1 .1 .1 .1 .1 .0;
       }
+      record {
+        entry = a .1 .1 .1 .1 .1 .1 .1 .1 .1 .1 .1 .0;
+        exit = s .1 .1 .1 .1 .1 .1 .1 .1 .1 .1 .1 .0;
+      }
+      record {
+        entry = a .1 .1 .1 .1 .1 .1 .1 .1 .1 .1 .1 .1 .0;
+        exit = s .1 .1 .1 .1 .1 .1 .1 .1 .1 .1 .1 .1 .0;
+      }
+      record {
+        entry = a .1 .1 .1 .1 .1 .1 .1 .1 .1 .1 .1 .1 .1 .0;
+        exit = s .1 .1 .1 .1 .1 .1 .1 .1 .1 .1 .1 .1 .1 .0;
+      }
       r
   ensures-1·read =
       λ a g r s. Read.all-models
-      (λ w. reverse_strand.ensures-1
+      (λ w. both_strands.ensures-1
       (w .𝓤)
       (w .H)
       κs
@@ -283,6 +316,9 @@ module _ (κs : Lifetimes.Lfts 9) where
       (a .1 .1 .1 .1 .1 .1 .1 .1 .0)
       (a .1 .1 .1 .1 .1 .1 .1 .1 .1 .0)
       (a .1 .1 .1 .1 .1 .1 .1 .1 .1 .1 .0)
+      (a .1 .1 .1 .1 .1 .1 .1 .1 .1 .1 .1 .0)
+      (a .1 .1 .1 .1 .1 .1 .1 .1 .1 .1 .1 .1 .0)
+      (a .1 .1 .1 .1 .1 .1 .1 .1 .1 .1 .1 .1 .1 .0)
       record { entry = a .0; exit = s .0 }
       record { entry = a .1 .0; exit = s .1 .0 }
       record { entry = a .1 .1 .0; exit = s .1 .1 .0 }
@@ -296,6 +332,18 @@ module _ (κs : Lifetimes.Lfts 9) where
       record {
         entry = a .1 .1 .1 .1 .1 .1 .1 .1 .1 .1 .0;
         exit = s .1 .1 .1 .1 .1 .1 .1 .1 .1 .1 .0;
+      }
+      record {
+        entry = a .1 .1 .1 .1 .1 .1 .1 .1 .1 .1 .1 .0;
+        exit = s .1 .1 .1 .1 .1 .1 .1 .1 .1 .1 .1 .0;
+      }
+      record {
+        entry = a .1 .1 .1 .1 .1 .1 .1 .1 .1 .1 .1 .1 .0;
+        exit = s .1 .1 .1 .1 .1 .1 .1 .1 .1 .1 .1 .1 .0;
+      }
+      record {
+        entry = a .1 .1 .1 .1 .1 .1 .1 .1 .1 .1 .1 .1 .1 .0;
+        exit = s .1 .1 .1 .1 .1 .1 .1 .1 .1 .1 .1 .1 .1 .0;
       }
       r)
       (λ w. Read.r-last _)
@@ -304,42 +352,42 @@ module _ (κs : Lifetimes.Lfts 9) where
       λ w. Path'.refl
 
   abbrev pub post-read :
-      (a : World.ArgsD reverse_strand.signature κs) →
+      (a : World.ArgsD both_strands.signature κs) →
       (g : Ghost) →
-      (r : World.ResD reverse_strand.signature κs) →
-      (s : Clauses.AtExit (Kinds'.endedOf 9 Kinds.ps Kinds.r) κs) →
+      (r : World.ResD both_strands.signature κs) →
+      (s : Clauses.AtExit (Kinds'.endedOf 12 Kinds.ps Kinds.r) κs) →
       Read.Read (Base a) (Owned r s) (ensures a g r s)
   post-read = λ a g r s. ensures-1·read a g r s
 
-abbrev pub Pre : Kinds'.In 9 Kinds.ps
-Pre = Written.Pre 9 Kinds.ps Kinds.r Ghost requires ensures pre-read Pinned Owned post-read tt
+abbrev pub Pre : Kinds'.In 12 Kinds.ps
+Pre = Written.Pre 12 Kinds.ps Kinds.r Ghost requires ensures pre-read Pinned Owned post-read tt
 
-abbrev pub Post : Kinds'.Out 9 Kinds.ps Kinds.r
-Post = Written.Post 9 Kinds.ps Kinds.r Ghost requires ensures pre-read Pinned Owned post-read tt
+abbrev pub Post : Kinds'.Out 12 Kinds.ps Kinds.r
+Post = Written.Post 12 Kinds.ps Kinds.r Ghost requires ensures pre-read Pinned Owned post-read tt
 
-abbrev pub Asked : Kinds'.In 9 Kinds.ps
-Asked = Written.Asked 9 Kinds.ps Kinds.r Ghost requires ensures pre-read Pinned Owned post-read tt
+abbrev pub Asked : Kinds'.In 12 Kinds.ps
+Asked = Written.Asked 12 Kinds.ps Kinds.r Ghost requires ensures pre-read Pinned Owned post-read tt
 
-abbrev pub Learnt : Kinds'.Out 9 Kinds.ps Kinds.r
+abbrev pub Learnt : Kinds'.Out 12 Kinds.ps Kinds.r
 Learnt =
-    Written.Learnt 9 Kinds.ps Kinds.r Ghost requires ensures pre-read Pinned Owned post-read tt
+    Written.Learnt 12 Kinds.ps Kinds.r Ghost requires ensures pre-read Pinned Owned post-read tt
 
 pub passes :
     (w : World.World) →
-    Written.Passes 9 Kinds.ps Kinds.r Ghost requires ensures pre-read Pinned Owned post-read w
+    Written.Passes 12 Kinds.ps Kinds.r Ghost requires ensures pre-read Pinned Owned post-read w
 passes = λ w κs a g r ws ft p q. Monad.top (w .𝓤) (Read.all∗ w (pre-read κs a g .held w))
 
 pub lent :
     (w : World.World) →
-    (κs : Lifetimes.Lfts 9) →
-    (a : World.ArgsD reverse_strand.signature κs) →
+    (κs : Lifetimes.Lfts 12) →
+    (a : World.ArgsD both_strands.signature κs) →
     Logic.ent (w .𝓤) (Logic.emp (w .𝓤)) (Read.all∗ w (pre-read κs a tt .held w))
 lent = λ w κs a. Logic.id⊢ (w .𝓤) (Logic.emp (w .𝓤))
 
-pub known : Picked.KnownAs 9 Kinds.ps Kinds.r Ghost requires ensures Asked Learnt
+pub known : Picked.KnownAs 12 Kinds.ps Kinds.r Ghost requires ensures Asked Learnt
 known =
     λ w γ k ρ same met. Written.cited
-    9
+    12
     Kinds.ps
     Kinds.r
     Ghost

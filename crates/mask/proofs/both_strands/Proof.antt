@@ -4,10 +4,10 @@ use native.Mathlib.Omega.{arith}
 use Rattle.scans.specs.Setup.{Setup}
 use Rattle.scans.specs.Terms.Numbers.{setupOf}
 use Rattle.strand.specs.Step.{intervalsOf}
-use Rattle.longdust.specs.Terms.Inner.{Scanned}
-use Rattle.longdust.proofs.Strands.{reverse-as, scanned, mergeable, merged-wrote}
-use Rattle.longdust.proofs.run.both_strands.Statement.{statement}
-use Rattle.longdust.proofs.run.both_strands.Proof.Tie as tie
+use Rattle.mask.specs.Terms.Both.{Held}
+use Rattle.mask.proofs.Strands.{reverse-as, scanned, mergeable, merged-wrote}
+use Rattle.mask.proofs.both_strands.Statement.{statement}
+use Rattle.mask.proofs.both_strands.Proof.Tie as tie
 mod Lts
 mod Tie
 
@@ -18,7 +18,7 @@ abbrev by : tie.Start → Setup
 by s = setupOf (s .args .p) (s .args .ln .now) (s .args .f .now)
 
 held : (c : tie.After-inner-process)
-    → Scanned (intervalsOf (by (start c)) (start c .args .codes .now)) (c .inner-process .last .1 .1 .1 .1 .1 .1 .1 .1 .0) (c .inner-process .result)
+    → Held (intervalsOf (by (start c)) (start c .args .codes .now)) (c .inner-process .last .1 .1 .1 .1 .1 .1 .1 .1 .0) (c .inner-process .result)
 held c =
     let s = start c in
     scanned (by s) (s .args .codes .now) (s .args .forward-list .now) _ _ (s .pre .0 .forward .part .list-long) (c .inner-process .kept .1 .1 .1 .1 .1 .1 .1 .1 .0) (c .inner-process .ensures)

@@ -1,13 +1,13 @@
--- Made by tools/lift from the prover's `Tie` of `run::reverse_strand` over a slice of `[u64; 2]`; not to be edited.
+-- Made by tools/lift from the prover's `Tie` of `reverse_strand` over a slice of `[u64; 2]`; not to be edited.
 use Rattle.letters.proofs.reverse_complement_encoded_sequence.Met
 use Rattle.letters.proofs.reverse_complement_encoded_sequence.Reads
 use Rattle.letters.proofs.reverse_complement_encoded_sequence.Symbol
-use Rattle.longdust.proofs.run.reverse_strand.Code
-use Rattle.longdust.proofs.run.reverse_strand.Key
-use Rattle.longdust.proofs.RunReverseStrandKinds as Kinds
-use Rattle.longdust.proofs.run.reverse_strand.Proof.Lts
-use Rattle.longdust.proofs.RunReverseStrandReads as Reads'
-use Rattle.longdust.proofs.run.reverse_strand.Statement
+use Rattle.mask.proofs.reverse_strand.Code
+use Rattle.mask.proofs.reverse_strand.Key
+use Rattle.mask.proofs.ReverseStrandKinds as Kinds
+use Rattle.mask.proofs.reverse_strand.Proof.Lts
+use Rattle.mask.proofs.ReverseStrandReads as Reads'
+use Rattle.mask.proofs.reverse_strand.Statement
 use Rattle.strand.proofs.inner_process.Met as Met'
 use Rattle.strand.proofs.InnerProcessReads as Reads''
 use Rattle.strand.proofs.inner_process.Symbol as Symbol'

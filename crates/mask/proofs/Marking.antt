@@ -22,9 +22,9 @@ use Rattle.scans.specs.Setup.{Setup}
 use Rattle.strand.specs.Step.{intervalsOf}
 use Rattle.scans.specs.Range.{inRange, CheckedSetup}
 use Rattle.strand.proofs.Theorems.{strand-shape, strand-evidence}
-use Rattle.longdust.specs.Mask.{markedMaskOf, OtherStrand, EvidentMarked, exchanged, backwardsMarks}
-use Rattle.longdust.specs.Terms.Inner.{otherIntervals}
-use Rattle.longdust.proofs.Masks.{other-shape, others-shape, marked-merged}
+use Rattle.mask.specs.Mask.{markedMaskOf, OtherStrand, EvidentMarked, exchanged, backwardsMarks}
+use Rattle.mask.specs.Terms.Both.{otherIntervals}
+use Rattle.mask.proofs.Masks.{other-shape, others-shape, marked-merged}
 
 -- ---- What the marks say of the forward list and of the other strand's, read backwards.
 module _ (S : Setup) (b : Bool) (s : List ℕ) (k : 0 < S .kmer) where

@@ -18,9 +18,9 @@ use Rattle.scans.specs.Setup.{Setup}
 use Rattle.strand.specs.Step.{intervalsOf}
 use Rattle.strand.specs.Terms.Running.{StrandLent, StrandList}
 use Rattle.strand.proofs.Theorems.{strand-room}
-use Rattle.longdust.specs.Mask.{maskOf, markedMaskOf}
-use Rattle.longdust.specs.Terms.Inner.{otherIntervals, Scanned, ReverseLent, Mergeable}
-use Rattle.longdust.proofs.Masks.{mask-room, mask-merged, marked-merged, others-shape}
+use Rattle.mask.specs.Mask.{maskOf, markedMaskOf}
+use Rattle.mask.specs.Terms.Both.{otherIntervals, Held, ReverseLent, Mergeable}
+use Rattle.mask.proofs.Masks.{mask-room, mask-merged, marked-merged, others-shape}
 
 pub lent-as : {p : Params} {n ln f q w s c l n′ q′ w′ s′ c′ : ℕ} → StrandLent p n ln f q w s c l
     → n′ ≡ n → q′ ≡ q → w′ ≡ w → s′ ≡ s → c′ ≡ c → StrandLent p n′ ln f q′ w′ s′ c′ l
@@ -36,19 +36,19 @@ reversed-whole s d d′ e l = e ∙ put-all (reverseComplement s) d (l ∙ sym (
 
 -- A strand's list as its run leaves it.
 pub scanned : (S : Setup) (codes : List ℕ) (list list′ : List (List ℕ)) (count : ℕ) → (length codes + 1) / (S .kmer + 1) ≤ length list
-    → length list′ ≡ length list → StrandList S codes list′ count → Scanned (intervalsOf S codes) list′ count
+    → length list′ ≡ length list → StrandList S codes list′ count → Held (intervalsOf S codes) list′ count
 scanned S codes list list′ count h l r = record { list-is = r .list-is; within = omega (arith, r .count-is, strand-room S codes) }
 
 -- The other strand's list: none, or that of the reverse complement.
-pub other-none : (S : Setup) (b : Bool) (s : List ℕ) (xs : List (List ℕ)) → b ≡ true → Scanned (otherIntervals S b s) xs 0
+pub other-none : (S : Setup) (b : Bool) (s : List ℕ) (xs : List (List ℕ)) → b ≡ true → Held (otherIntervals S b s) xs 0
 other-none S b s xs e = record { list-is = rw e; within = omega arith }
 
 pub other-some : (S : Setup) (b : Bool) (s t : List ℕ) (xs : List (List ℕ)) (count : ℕ) → b ≡ false → t ≡ reverseComplement s
-    → Scanned (intervalsOf S t) xs count → Scanned (otherIntervals S b s) xs count
+    → Held (intervalsOf S t) xs count → Held (otherIntervals S b s) xs count
 other-some S b s t xs count e r q = record { list-is = q .list-is ∙ rw (r, e); within = q .within }
 
 module _ (S : Setup) (b : Bool) (s : List ℕ) {fs rs : List (List ℕ)} {i j : ℕ} (some : 0 < S .kmer)
-    (f : Scanned (intervalsOf S s) fs i) (r : Scanned (otherIntervals S b s) rs j) where
+    (f : Held (intervalsOf S s) fs i) (r : Held (otherIntervals S b s) rs j) where
   merged : merge (listOf (take i fs)) (backwards (length s) (listOf (take j rs))) ≡ maskOf S b s
   merged =
       ap₂ (λ (is js : List Interval). merge is (backwards (length s) js)) (f .list-is) (r .list-is) ∙ mask-merged S b s some

@@ -1,4 +1,4 @@
--- Made by tools/lift from the prover's `Lts` of `run::reverse_strand` over a slice of `[u64; 2]`; not to be edited.
+-- Made by tools/lift from the prover's `Lts` of `reverse_strand` over a slice of `[u64; 2]`; not to be edited.
 use Rattle.scans.proofs.ForwardPosition as Rec·type
 use Rattle.scans.proofs.ForwardPosition.Laws as Rec·laws
 use denote.Memory as Rec·memory

@@ -4,9 +4,9 @@ use Prim.Native.Nat.{_+_, _/_, _≤_}
 use lib.ListN.{length}
 use borrow.Author.Needs.{needs}
 use Rattle.letters.specs.Code.{reverseComplement}
-use Rattle.longdust.proofs.Strands.{lent-as, reversed-whole, scanned, other-none, other-some}
-use Rattle.longdust.proofs.run.reverse_strand.Statement.{statement}
-use Rattle.longdust.proofs.run.reverse_strand.Proof.Tie as tie
+use Rattle.mask.proofs.Strands.{lent-as, reversed-whole, scanned, other-none, other-some}
+use Rattle.mask.proofs.reverse_strand.Statement.{statement}
+use Rattle.mask.proofs.reverse_strand.Proof.Tie as tie
 mod Lts
 mod Tie
 

@@ -2,8 +2,8 @@
 use native.Mathlib.Omega.{arith}
 use borrow.Author.Needs.{needs}
 use lib.ListN.{length-take}
-use Rattle.longdust.proofs.run.merge_strands.Statement.{statement}
-use Rattle.longdust.proofs.run.merge_strands.Tie as tie
+use Rattle.mask.proofs.merge_strands.Statement.{statement}
+use Rattle.mask.proofs.merge_strands.Tie as tie
 
 pub merge-strands-spec : {M : Type 1} → statement M
 merge-strands-spec =

@@ -1,4 +1,4 @@
--- Made by tools/lift from the prover's `Lts` of `run::both_strands` over a slice of `[u64; 2]`; not to be edited.
+-- Made by tools/lift from the prover's `Lts` of `both_strands` over a slice of `[u64; 2]`; not to be edited.
 use Rattle.scans.proofs.ForwardPosition as Rec·type
 use Rattle.scans.proofs.ForwardPosition.Laws as Rec·laws
 use denote.Memory as Rec·memory
@@ -970,7 +970,7 @@ abbrev b24 : Syntax.Body
 b24 = Syntax.assign (Syntax.place 40 List.[]) (Syntax.aggregate ((Syntax.copy (Syntax.place 39 List.[])) ∷ (Syntax.copy (Syntax.place 12 ((Syntax.field 1) ∷ []))) ∷ []))
 
 abbrev b25 : Syntax.Body
-b25 = Syntax.call "longdust::run::reverse_strand" ((Syntax.copy (Syntax.place 1 List.[])) ∷ (Syntax.copy (Syntax.place 2 List.[])) ∷ (Syntax.copy (Syntax.place 3 List.[])) ∷ (Syntax.copy (Syntax.place 4 List.[])) ∷ (Syntax.copy (Syntax.place 5 List.[])) ∷ (Syntax.copy (Syntax.place 30 List.[])) ∷ (Syntax.copy (Syntax.place 32 List.[])) ∷ (Syntax.copy (Syntax.place 34 List.[])) ∷ (Syntax.copy (Syntax.place 36 List.[])) ∷ (Syntax.copy (Syntax.place 38 List.[])) ∷ (Syntax.copy (Syntax.place 40 List.[])) ∷ []) (Syntax.place 17 List.[])
+b25 = Syntax.call "mask::reverse_strand" ((Syntax.copy (Syntax.place 1 List.[])) ∷ (Syntax.copy (Syntax.place 2 List.[])) ∷ (Syntax.copy (Syntax.place 3 List.[])) ∷ (Syntax.copy (Syntax.place 4 List.[])) ∷ (Syntax.copy (Syntax.place 5 List.[])) ∷ (Syntax.copy (Syntax.place 30 List.[])) ∷ (Syntax.copy (Syntax.place 32 List.[])) ∷ (Syntax.copy (Syntax.place 34 List.[])) ∷ (Syntax.copy (Syntax.place 36 List.[])) ∷ (Syntax.copy (Syntax.place 38 List.[])) ∷ (Syntax.copy (Syntax.place 40 List.[])) ∷ []) (Syntax.place 17 List.[])
 
 abbrev b26 : Syntax.Body
 b26 = Syntax.assign (Syntax.place 41 List.[]) (Syntax.addrOf (Syntax.place 11 ((Syntax.field 0) ∷ (Syntax.deref (Syntax.tyArray y0 2)) ∷ [])))
@@ -997,7 +997,7 @@ abbrev b33 : Syntax.Body
 b33 = Syntax.assign (Syntax.place 48 List.[]) (Syntax.aggregate ((Syntax.copy (Syntax.place 47 List.[])) ∷ (Syntax.copy (Syntax.place 14 ((Syntax.field 1) ∷ []))) ∷ []))
 
 abbrev b34 : Syntax.Body
-b34 = Syntax.call "longdust::run::merge_strands" ((Syntax.copy (Syntax.place 42 List.[])) ∷ (Syntax.copy (Syntax.place 16 List.[])) ∷ (Syntax.copy (Syntax.place 44 List.[])) ∷ (Syntax.copy (Syntax.place 17 List.[])) ∷ (Syntax.copy (Syntax.place 15 List.[])) ∷ (Syntax.copy (Syntax.place 46 List.[])) ∷ (Syntax.copy (Syntax.place 48 List.[])) ∷ []) (Syntax.place 0 List.[])
+b34 = Syntax.call "mask::merge_strands" ((Syntax.copy (Syntax.place 42 List.[])) ∷ (Syntax.copy (Syntax.place 16 List.[])) ∷ (Syntax.copy (Syntax.place 44 List.[])) ∷ (Syntax.copy (Syntax.place 17 List.[])) ∷ (Syntax.copy (Syntax.place 15 List.[])) ∷ (Syntax.copy (Syntax.place 46 List.[])) ∷ (Syntax.copy (Syntax.place 48 List.[])) ∷ []) (Syntax.place 0 List.[])
 
 abbrev b35 : Syntax.Body
 b35 = Syntax.return
@@ -1832,7 +1832,7 @@ module _ (claims· : Claims) where
       (Post· : (κs : Lifetimes.Lfts 12) → (a : Kinds.Dens κs ps) → Kinds.Plain 12 ps r κs) where
     module _ (M : Type 1) where
       abbrev pub Closed : Type 2
-      Closed = (𝓤 : URA.URA M) (H : Wp.Heap 𝓤) (A : Atoms.Atoms 𝓤) (W : Kit.Given 𝓤 H A) (𝓣 : Wp.Tables 𝓤 H) (known0 : Plain.Known 𝓤 H A W 𝓣 8 ps·0 r·0 (claims· .0) (claims· .1) "strand::inner_process") (known1 : Plain.Known 𝓤 H A W 𝓣 9 ps·1 r·1 (claims· .2) (claims· .3) "longdust::run::reverse_strand") (known2 : Plain.Known 𝓤 H A W 𝓣 4 ps·2 r·2 (claims· .4) (claims· .5) "longdust::run::merge_strands") → Statement.Triple 𝓤 (Wp.WpFn 𝓤 H (𝓣 .C) (𝓣 .Λ) (Function.fnOf 12 ps r xs m hs body)) (Function.plainOf 𝓤 H A 12 ps r Pre· Post·)
+      Closed = (𝓤 : URA.URA M) (H : Wp.Heap 𝓤) (A : Atoms.Atoms 𝓤) (W : Kit.Given 𝓤 H A) (𝓣 : Wp.Tables 𝓤 H) (known0 : Plain.Known 𝓤 H A W 𝓣 8 ps·0 r·0 (claims· .0) (claims· .1) "strand::inner_process") (known1 : Plain.Known 𝓤 H A W 𝓣 9 ps·1 r·1 (claims· .2) (claims· .3) "mask::reverse_strand") (known2 : Plain.Known 𝓤 H A W 𝓣 4 ps·2 r·2 (claims· .4) (claims· .5) "mask::merge_strands") → Statement.Triple 𝓤 (Wp.WpFn 𝓤 H (𝓣 .C) (𝓣 .Λ) (Function.fnOf 12 ps r xs m hs body)) (Function.plainOf 𝓤 H A 12 ps r Pre· Post·)
 
     module _ where
       abbrev at0 : Typed.TF T120 O0
@@ -2201,7 +2201,7 @@ module _ (claims· : Claims) where
       module _ {M : Type 1} (𝓤 : URA.URA M) (H : Wp.Heap 𝓤) (A : Atoms.Atoms 𝓤)
           (W : Kit.Given 𝓤 H A) (𝓣 : Wp.Tables 𝓤 H) where
         abbrev Knowns : Type 1
-        Knowns = Plain.Known 𝓤 H A W 𝓣 8 ps·0 r·0 (claims· .0) (claims· .1) "strand::inner_process" × Plain.Known 𝓤 H A W 𝓣 9 ps·1 r·1 (claims· .2) (claims· .3) "longdust::run::reverse_strand" × Plain.Known 𝓤 H A W 𝓣 4 ps·2 r·2 (claims· .4) (claims· .5) "longdust::run::merge_strands"
+        Knowns = Plain.Known 𝓤 H A W 𝓣 8 ps·0 r·0 (claims· .0) (claims· .1) "strand::inner_process" × Plain.Known 𝓤 H A W 𝓣 9 ps·1 r·1 (claims· .2) (claims· .3) "mask::reverse_strand" × Plain.Known 𝓤 H A W 𝓣 4 ps·2 r·2 (claims· .4) (claims· .5) "mask::merge_strands"
 
       module _ (κs : Lifetimes.Lfts 12) (qs : Lifetimes.Shares 12) where
         abbrev li0 : Row.Life
@@ -2988,7 +2988,7 @@ module _ (claims· : Claims) where
           d19 = Typed.g-pre 𝓤 H A W 𝓣 E G101 G102 b35 Δ0 (Typed.pass T101 T102 s100) at18 (Scalar.g-room 𝓤 H A W E G101 42 y15 (Shared.room-sslice 𝓤 H A W (Array.Array q3 2) y14 23)) d18
 
           d20 : Typed.Typed 𝓤 H A 𝓣 E G100 b36 Δ0 at20
-          d20 = Typed.s-seq 𝓤 H A W 𝓣 E G100 G101 b34 b35 Δ0 (Typed.both s99) at19 (Plain.t-call-plain 𝓤 H A W 𝓣 4 ps·2 r·2 (claims· .4) (claims· .5) "longdust::run::merge_strands" (known .2) E (λ pos β. β) G100 (record { pos = 42; ty = y14; ref = λ x. x }, (Num.vAt 16 λ x. x, (record { pos = 44; ty = y14; ref = λ x. x }, (Num.vAt 17 λ x. x, (Num.vAt 15 λ x. x, (record { pos = 46; ty = y9; ref = λ x. x }, (record { pos = 48; ty = y12; ref = λ x. x }, tt))))))) 0 (23 ∷ 24 ∷ 25 ∷ 26 ∷ []) (Call.sub-id 𝓤 H A W (G100 .slots)) (ShrSlice.spares-sslice 𝓤 H A W (Array.Array q3 2) y14 23, Shared.reads-sslice 𝓤 H A W (Array.Array q3 2) y14 23, Path'.refl, ((Scalar.reads-sc 𝓤 H A W z0, Path'.refl), (ShrSlice.spares-sslice 𝓤 H A W (Array.Array q3 2) y14 24, Shared.reads-sslice 𝓤 H A W (Array.Array q3 2) y14 24, Path'.refl, ((Scalar.reads-sc 𝓤 H A W z0, Path'.refl), ((Scalar.reads-sc 𝓤 H A W z1, Path'.refl), (Reads.as-is 𝓤 H A (Mut.mslice (Array.Array q3 2) y9 25), Mut.reads-mslice 𝓤 H A W (Array.Array q3 2) y9 25, Path'.refl, (Reads.as-is 𝓤 H A (Mut.mslice q1 y12 26), Mut.reads-mslice 𝓤 H A W q1 y12 26, Path'.refl, tt))))))) (Reads.room-gone 𝓤 H A y1) (tt, (tt, (tt, (tt, tt)))) Path'.refl) d19
+          d20 = Typed.s-seq 𝓤 H A W 𝓣 E G100 G101 b34 b35 Δ0 (Typed.both s99) at19 (Plain.t-call-plain 𝓤 H A W 𝓣 4 ps·2 r·2 (claims· .4) (claims· .5) "mask::merge_strands" (known .2) E (λ pos β. β) G100 (record { pos = 42; ty = y14; ref = λ x. x }, (Num.vAt 16 λ x. x, (record { pos = 44; ty = y14; ref = λ x. x }, (Num.vAt 17 λ x. x, (Num.vAt 15 λ x. x, (record { pos = 46; ty = y9; ref = λ x. x }, (record { pos = 48; ty = y12; ref = λ x. x }, tt))))))) 0 (23 ∷ 24 ∷ 25 ∷ 26 ∷ []) (Call.sub-id 𝓤 H A W (G100 .slots)) (ShrSlice.spares-sslice 𝓤 H A W (Array.Array q3 2) y14 23, Shared.reads-sslice 𝓤 H A W (Array.Array q3 2) y14 23, Path'.refl, ((Scalar.reads-sc 𝓤 H A W z0, Path'.refl), (ShrSlice.spares-sslice 𝓤 H A W (Array.Array q3 2) y14 24, Shared.reads-sslice 𝓤 H A W (Array.Array q3 2) y14 24, Path'.refl, ((Scalar.reads-sc 𝓤 H A W z0, Path'.refl), ((Scalar.reads-sc 𝓤 H A W z1, Path'.refl), (Reads.as-is 𝓤 H A (Mut.mslice (Array.Array q3 2) y9 25), Mut.reads-mslice 𝓤 H A W (Array.Array q3 2) y9 25, Path'.refl, (Reads.as-is 𝓤 H A (Mut.mslice q1 y12 26), Mut.reads-mslice 𝓤 H A W q1 y12 26, Path'.refl, tt))))))) (Reads.room-gone 𝓤 H A y1) (tt, (tt, (tt, (tt, tt)))) Path'.refl) d19
 
           d21 : Typed.Typed 𝓤 H A 𝓣 E G99 b37 Δ0 at21
           d21 = Typed.s-seq 𝓤 H A W 𝓣 E G99 G100 b33 b36 Δ0 (Typed.ask s98) at20 (Relend.t-sl-aggregate 𝓤 H A W E q1 𝓣 (Relend.asMut q1) G99 47 48 26 y12 y12 (λ x. x) (Scalar.oFld 14 ((Syntax.field 1) ∷ []) y1 8 λ v. Shared.lenV (v .0)) (Reads.as-is 𝓤 H A (Relend.msptr q1 y12 26)) (Reads.room-gone 𝓤 H A y13) (Relend.reads-owed-len 𝓤 H A W q1 y28 11 26 li8 8 Path'.refl, Path'.refl) Path'.refl Path'.refl λ b o k. tt) d20
@@ -3096,7 +3096,7 @@ module _ (claims· : Claims) where
           d55 = Typed.g-pre 𝓤 H A W 𝓣 E G65 G66 b44 Δ0 (Typed.pass T65 T66 s64) at54 (Scalar.g-room 𝓤 H A W E G65 1 y29 (Local.room-whole 𝓤 H A W q0 y29 Path'.refl)) d54
 
           d56 : Typed.Typed 𝓤 H A 𝓣 E G64 b45 Δ0 at56
-          d56 = Typed.s-seq 𝓤 H A W 𝓣 E G64 G65 b25 b44 Δ0 (Typed.both s63) at55 (Plain.t-call-plain 𝓤 H A W 𝓣 9 ps·1 r·1 (claims· .2) (claims· .3) "longdust::run::reverse_strand" (known .1) E (λ pos β. β) G64 (record { pos = 1; st = List.[]; d = 0; at = λ x. x }, (Bool.bAt 2 λ x. x, (record { pos = 3; ty = y16; ref = λ x. x }, (record { pos = 4; ty = y18; ref = λ x. x }, (record { pos = 5; ty = y19; ref = λ x. x }, (record { pos = 30; ty = y2; ref = λ x. x }, (record { pos = 32; ty = y5; ref = λ x. x }, (record { pos = 34; ty = y5; ref = λ x. x }, (record { pos = 36; ty = y7; ref = λ x. x }, (record { pos = 38; ty = y12; ref = λ x. x }, (record { pos = 40; ty = y9; ref = λ x. x }, tt))))))))))) 17 (0 ∷ 1 ∷ 2 ∷ 17 ∷ 18 ∷ 19 ∷ 20 ∷ 21 ∷ 22 ∷ []) (Call.sub-id 𝓤 H A W (G64 .slots)) ((Yields.yields-copy 𝓤 H A W (λ ρ. Unit) q0 Path'.refl (Copies.cStruct Params.the-type Laws.the-laws Laws.the-copy .copy 𝓤 H A W) (Rows.whole q0) (λ x. x) (λ x. x) (λ ρ told. Local.mem-whole 𝓤 H A W q0 ρ) λ ρ told. Local.whole-mem 𝓤 H A W q0 ρ, Path'.refl), ((Scalar.reads-sc 𝓤 H A W Row.sBool, Path'.refl), (ShrSlice.spares-sslice 𝓤 H A W q1 y16 0, Shared.reads-sslice 𝓤 H A W q1 y16 0, Path'.refl, (ShrSlice.spares-sslice 𝓤 H A W q2 y18 1, Shared.reads-sslice 𝓤 H A W q2 y18 1, Path'.refl, (ShrSlice.spares-sslice 𝓤 H A W q2 y19 2, Shared.reads-sslice 𝓤 H A W q2 y19 2, Path'.refl, (Reads.as-is 𝓤 H A (Mut.mslice q3 y2 17), Mut.reads-mslice 𝓤 H A W q3 y2 17, Path'.refl, (Reads.as-is 𝓤 H A (Mut.mslice q4 y5 18), Mut.reads-mslice 𝓤 H A W q4 y5 18, Path'.refl, (Reads.as-is 𝓤 H A (Mut.mslice q4 y5 19), Mut.reads-mslice 𝓤 H A W q4 y5 19, Path'.refl, (Reads.as-is 𝓤 H A (Mut.mslice Rec·type.the-row y7 20), Mut.reads-mslice 𝓤 H A W Rec·type.the-row y7 20, Path'.refl, (Reads.as-is 𝓤 H A (Mut.mslice q1 y12 21), Mut.reads-mslice 𝓤 H A W q1 y12 21, Path'.refl, (Reads.as-is 𝓤 H A (Mut.mslice (Array.Array q3 2) y9 22), Mut.reads-mslice 𝓤 H A W (Array.Array q3 2) y9 22, Path'.refl, tt))))))))))) (Reads.room-gone 𝓤 H A y1) (tt, (tt, (tt, (tt, (tt, (tt, (tt, (tt, (tt, tt))))))))) Path'.refl) d55
+          d56 = Typed.s-seq 𝓤 H A W 𝓣 E G64 G65 b25 b44 Δ0 (Typed.both s63) at55 (Plain.t-call-plain 𝓤 H A W 𝓣 9 ps·1 r·1 (claims· .2) (claims· .3) "mask::reverse_strand" (known .1) E (λ pos β. β) G64 (record { pos = 1; st = List.[]; d = 0; at = λ x. x }, (Bool.bAt 2 λ x. x, (record { pos = 3; ty = y16; ref = λ x. x }, (record { pos = 4; ty = y18; ref = λ x. x }, (record { pos = 5; ty = y19; ref = λ x. x }, (record { pos = 30; ty = y2; ref = λ x. x }, (record { pos = 32; ty = y5; ref = λ x. x }, (record { pos = 34; ty = y5; ref = λ x. x }, (record { pos = 36; ty = y7; ref = λ x. x }, (record { pos = 38; ty = y12; ref = λ x. x }, (record { pos = 40; ty = y9; ref = λ x. x }, tt))))))))))) 17 (0 ∷ 1 ∷ 2 ∷ 17 ∷ 18 ∷ 19 ∷ 20 ∷ 21 ∷ 22 ∷ []) (Call.sub-id 𝓤 H A W (G64 .slots)) ((Yields.yields-copy 𝓤 H A W (λ ρ. Unit) q0 Path'.refl (Copies.cStruct Params.the-type Laws.the-laws Laws.the-copy .copy 𝓤 H A W) (Rows.whole q0) (λ x. x) (λ x. x) (λ ρ told. Local.mem-whole 𝓤 H A W q0 ρ) λ ρ told. Local.whole-mem 𝓤 H A W q0 ρ, Path'.refl), ((Scalar.reads-sc 𝓤 H A W Row.sBool, Path'.refl), (ShrSlice.spares-sslice 𝓤 H A W q1 y16 0, Shared.reads-sslice 𝓤 H A W q1 y16 0, Path'.refl, (ShrSlice.spares-sslice 𝓤 H A W q2 y18 1, Shared.reads-sslice 𝓤 H A W q2 y18 1, Path'.refl, (ShrSlice.spares-sslice 𝓤 H A W q2 y19 2, Shared.reads-sslice 𝓤 H A W q2 y19 2, Path'.refl, (Reads.as-is 𝓤 H A (Mut.mslice q3 y2 17), Mut.reads-mslice 𝓤 H A W q3 y2 17, Path'.refl, (Reads.as-is 𝓤 H A (Mut.mslice q4 y5 18), Mut.reads-mslice 𝓤 H A W q4 y5 18, Path'.refl, (Reads.as-is 𝓤 H A (Mut.mslice q4 y5 19), Mut.reads-mslice 𝓤 H A W q4 y5 19, Path'.refl, (Reads.as-is 𝓤 H A (Mut.mslice Rec·type.the-row y7 20), Mut.reads-mslice 𝓤 H A W Rec·type.the-row y7 20, Path'.refl, (Reads.as-is 𝓤 H A (Mut.mslice q1 y12 21), Mut.reads-mslice 𝓤 H A W q1 y12 21, Path'.refl, (Reads.as-is 𝓤 H A (Mut.mslice (Array.Array q3 2) y9 22), Mut.reads-mslice 𝓤 H A W (Array.Array q3 2) y9 22, Path'.refl, tt))))))))))) (Reads.room-gone 𝓤 H A y1) (tt, (tt, (tt, (tt, (tt, (tt, (tt, (tt, (tt, tt))))))))) Path'.refl) d55
 
           d57 : Typed.Typed 𝓤 H A 𝓣 E G63 b46 Δ0 at57
           d57 = Typed.s-seq 𝓤 H A W 𝓣 E G63 G64 b24 b45 Δ0 (Typed.ask s62) at56 (Relend.t-sl-aggregate 𝓤 H A W E (Array.Array q3 2) 𝓣 (Relend.asMut (Array.Array q3 2)) G63 39 40 22 y9 y9 (λ x. x) (Scalar.oFld 12 ((Syntax.field 1) ∷ []) y1 8 λ v. Shared.lenV (v .0)) (Reads.as-is 𝓤 H A (Relend.msptr (Array.Array q3 2) y9 22)) (Reads.room-gone 𝓤 H A y10) (Relend.reads-owed-len 𝓤 H A W (Array.Array q3 2) y26 9 22 li6 8 Path'.refl, Path'.refl) Path'.refl Path'.refl λ b o k. tt) d56
@@ -4348,7 +4348,7 @@ module _ (claims· : Claims) where
             r·1
             (claims· .2)
             (claims· .3)
-            "longdust::run::reverse_strand")
+            "mask::reverse_strand")
             (known2 : Plain.Known
             𝓤
             H
@@ -4360,7 +4360,7 @@ module _ (claims· : Claims) where
             r·2
             (claims· .4)
             (claims· .5)
-            "longdust::run::merge_strands") where
+            "mask::merge_strands") where
           pub spec :
               Statement.Triple
               𝓤

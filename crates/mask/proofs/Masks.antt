@@ -20,8 +20,8 @@ use Rattle.scans.specs.Setup.{Setup}
 use Rattle.strand.specs.Step.{intervalsOf}
 use Rattle.scans.specs.Range.{inRange, CheckedSetup}
 use Rattle.strand.proofs.Theorems.{strand-shape, strand-evidence, strand-no-better-shorter}
-use Rattle.longdust.specs.Mask.{maskOf, markedMaskOf, Evident, ScansFindNoBetterShorter}
-use Rattle.longdust.specs.Terms.Inner.{otherIntervals}
+use Rattle.mask.specs.Mask.{maskOf, markedMaskOf, Evident, ScansFindNoBetterShorter}
+use Rattle.mask.specs.Terms.Both.{otherIntervals}
 
 pub other-shape : (S : Setup) (s : List ℕ) → Canonical (length s) (S .kmer) (intervalsOf S (reverseComplement s))
 other-shape S s =

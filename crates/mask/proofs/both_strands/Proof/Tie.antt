@@ -1,16 +1,16 @@
--- Made by tools/lift from the prover's `Tie` of `run::both_strands` over a slice of `[u64; 2]`; not to be edited.
-use Rattle.longdust.proofs.run.both_strands.Code
-use Rattle.longdust.proofs.run.both_strands.Key
-use Rattle.longdust.proofs.RunBothStrandsKinds as Kinds
-use Rattle.longdust.proofs.run.both_strands.Proof.Lts
-use Rattle.longdust.proofs.RunBothStrandsReads as Reads
-use Rattle.longdust.proofs.run.both_strands.Statement
-use Rattle.longdust.proofs.run.merge_strands.Met
-use Rattle.longdust.proofs.run.merge_strands.Reads as Reads'
-use Rattle.longdust.proofs.run.merge_strands.Symbol
-use Rattle.longdust.proofs.run.reverse_strand.Met as Met'
-use Rattle.longdust.proofs.RunReverseStrandReads as Reads''
-use Rattle.longdust.proofs.run.reverse_strand.Symbol as Symbol'
+-- Made by tools/lift from the prover's `Tie` of `both_strands` over a slice of `[u64; 2]`; not to be edited.
+use Rattle.mask.proofs.both_strands.Code
+use Rattle.mask.proofs.both_strands.Key
+use Rattle.mask.proofs.BothStrandsKinds as Kinds
+use Rattle.mask.proofs.both_strands.Proof.Lts
+use Rattle.mask.proofs.BothStrandsReads as Reads
+use Rattle.mask.proofs.both_strands.Statement
+use Rattle.mask.proofs.merge_strands.Met
+use Rattle.mask.proofs.merge_strands.Reads as Reads'
+use Rattle.mask.proofs.merge_strands.Symbol
+use Rattle.mask.proofs.reverse_strand.Met as Met'
+use Rattle.mask.proofs.ReverseStrandReads as Reads''
+use Rattle.mask.proofs.reverse_strand.Symbol as Symbol'
 use Rattle.strand.proofs.inner_process.Met as Met''
 use Rattle.strand.proofs.InnerProcessReads as Reads'3
 use Rattle.strand.proofs.inner_process.Symbol as Symbol''
@@ -717,12 +717,12 @@ module _ {M : Type 1} where
       Code.env
       Symbol'.name
       Symbol'.routine
-      Code.calls-longdust·run·reverse-strand
+      Code.calls-mask·reverse-strand
       (Met'.met 𝓤 H 𝓜 𝓖 𝓡))
       (Reads'.known
       record { M = M; 𝓤 = 𝓤; H = H; 𝓜 = 𝓜; 𝓖 = 𝓖; 𝓡 = 𝓡 }
       Code.env
       Symbol.name
       Symbol.routine
-      Code.calls-longdust·run·merge-strands
+      Code.calls-mask·merge-strands
       (Met.met 𝓤 H 𝓜 𝓖 𝓡))
