@@ -18,9 +18,9 @@ use Rattle.intervals.proofs.Slice.{wrote-list}
 use Rattle.intervals.proofs.Theorems.{merge-mirror}
 use Rattle.scans.specs.Setup.{Setup}
 use Rattle.scans.proofs.Agreeing.{AgreeTo}
-use Rattle.strand.specs.Step.{intervalsOf}
+use Rattle.step.specs.Step.{intervalsOf}
 use Rattle.scans.specs.Range.{inRange}
-use Rattle.strand.proofs.Theorems.{strand-shape}
+use Rattle.step.proofs.Theorems.{strand-shape}
 use Rattle.tables.specs.declared.Density.{Density}
 use Rattle.tables.specs.Density.{density}
 use Rattle.tables.specs.Tables.{lnTable, fTable}

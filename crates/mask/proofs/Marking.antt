@@ -12,16 +12,16 @@ use Rattle.buffers.specs.Fill.{put}
 use Rattle.letters.specs.Code.{reverseComplement}
 use Rattle.letters.proofs.Codes.{reverseComplement-length, reverseComplement-twice}
 use Rattle.intervals.specs.declared.Marked.{Marked}
-use Rattle.intervals.specs.Interval.{Interval, Canonical, Covers, Holds}
+use Rattle.intervals.specs.Interval.{Interval, Canonical, Covers}
 use Rattle.intervals.specs.Merge.{mergeMarked, range, ranges, markOf, marksOf, backwards, flipMarked, backwardsMarked}
 use Rattle.intervals.specs.Marks.{Every, Told, ToldLetters}
 use Rattle.intervals.proofs.Shape.{covers-below}
 use Rattle.intervals.proofs.Backward.{backwards-canonical, backwards-covers}
 use Rattle.intervals.proofs.Marks.{every-map, merge-told, merge-letters, marked-mirror}
 use Rattle.scans.specs.Setup.{Setup}
-use Rattle.strand.specs.Step.{intervalsOf}
+use Rattle.step.specs.Step.{intervalsOf}
 use Rattle.scans.specs.Range.{inRange, CheckedSetup}
-use Rattle.strand.proofs.Theorems.{strand-shape, strand-evidence}
+use Rattle.step.proofs.Theorems.{strand-shape, strand-evidence}
 use Rattle.mask.specs.Mask.{markedMaskOf, OtherStrand, EvidentMarked, exchanged, backwardsMarks}
 use Rattle.mask.specs.Terms.Both.{otherIntervals}
 use Rattle.mask.proofs.Masks.{other-shape, others-shape, marked-merged}

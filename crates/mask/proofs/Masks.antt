@@ -17,9 +17,9 @@ use Rattle.intervals.proofs.Backward.{backwards-canonical, backwards-covers}
 use Rattle.intervals.proofs.Theorems.{merge-alone}
 use Rattle.intervals.proofs.Marks.{forward-ranges, merged-ranges, marked-alone}
 use Rattle.scans.specs.Setup.{Setup}
-use Rattle.strand.specs.Step.{intervalsOf}
+use Rattle.step.specs.Step.{intervalsOf}
 use Rattle.scans.specs.Range.{inRange, CheckedSetup}
-use Rattle.strand.proofs.Theorems.{strand-shape, strand-evidence, strand-no-better-shorter}
+use Rattle.step.proofs.Theorems.{strand-shape, strand-evidence, strand-no-better-shorter}
 use Rattle.mask.specs.Mask.{maskOf, markedMaskOf, Evident, ScansFindNoBetterShorter}
 use Rattle.mask.specs.Terms.Both.{otherIntervals}
 

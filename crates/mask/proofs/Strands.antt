@@ -15,9 +15,9 @@ use Rattle.intervals.specs.Merge.{merge, mergeMarked, WroteMarked, backwards}
 use Rattle.intervals.proofs.Shape.{ascending-inside}
 use Rattle.scans.specs.declared.Params.{Params}
 use Rattle.scans.specs.Setup.{Setup}
-use Rattle.strand.specs.Step.{intervalsOf}
+use Rattle.step.specs.Step.{intervalsOf}
 use Rattle.strand.specs.Terms.Running.{StrandLent, StrandList}
-use Rattle.strand.proofs.Theorems.{strand-room}
+use Rattle.step.proofs.Theorems.{strand-room}
 use Rattle.mask.specs.Mask.{maskOf, markedMaskOf}
 use Rattle.mask.specs.Terms.Both.{otherIntervals, Held, ReverseLent, Mergeable}
 use Rattle.mask.proofs.Masks.{mask-room, mask-merged, marked-merged, others-shape}

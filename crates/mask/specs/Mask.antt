@@ -13,8 +13,8 @@ use Rattle.intervals.specs.declared.Marked.{Marked}
 use Rattle.intervals.specs.Merge.{merge, fromForward, mergeMarked, range, markOf, backwards}
 use Rattle.scans.specs.Setup.{Setup}
 use Rattle.scans.specs.Score.{stretch, Evidence, NoBetterShorter}
-use Rattle.strand.specs.Step.{intervalsOf}
-use Rattle.strand.specs.ScanFind.{FoundByScan}
+use Rattle.step.specs.Step.{intervalsOf}
+use Rattle.step.specs.ScanFind.{FoundByScan}
 
 -- The forward list; unless forward-only is set, joined with the reverse complement's list read backwards.
 unfoldable pub maskOf : Setup → Bool → List ℕ → List Interval

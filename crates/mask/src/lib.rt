@@ -1,6 +1,5 @@
 // Both strands: the reverse complement is scanned as the sequence itself is, its list is read backwards, and the two lists are joined. In the Rust this is the second half of `process`.
 
-ghost use Prim.Native.Nat.{_+_};
 ghost use lib.ListN.{length, take};
 ghost use Rattle.intervals.specs.Interval.{listOf};
 ghost use Rattle.intervals.specs.Merge.{mergeMarked, WroteMarked, backwards};

@@ -3,7 +3,7 @@ use mathlib.Core.Path.{_∙_}
 use native.Mathlib.Omega.{arith}
 use Rattle.scans.specs.Setup.{Setup}
 use Rattle.scans.specs.Terms.Numbers.{setupOf}
-use Rattle.strand.specs.Step.{intervalsOf}
+use Rattle.step.specs.Step.{intervalsOf}
 use Rattle.mask.specs.Terms.Both.{Held}
 use Rattle.mask.proofs.Strands.{reverse-as, scanned, mergeable, merged-wrote}
 use Rattle.mask.proofs.both_strands.Statement.{statement}

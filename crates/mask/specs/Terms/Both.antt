@@ -10,7 +10,7 @@ use Rattle.intervals.specs.Terms.Bounds.{Inside}
 use Rattle.intervals.specs.Merge.{merge, backwards}
 use Rattle.scans.specs.declared.Params.{Params}
 use Rattle.scans.specs.Setup.{Setup}
-use Rattle.strand.specs.Step.{intervalsOf}
+use Rattle.step.specs.Step.{intervalsOf}
 use Rattle.strand.specs.Terms.Running.{StrandLent}
 
 -- The first count entries of a slice hold the list.
