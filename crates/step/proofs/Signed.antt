@@ -7,11 +7,11 @@ use native.Mathlib.Omega.{arith}
 use lib.IntN.{ℤ, pos, negsuc, natAbs, _-ℤ_}
 use lib.Signed.{ltZ, leZ, mag, nonNeg}
 use lib.Dec.{T, eqb, ltb, leb}
-use borrow.Author.Tests.{ltb-true, ltb-false, leb-true, leb-false, le-ltb, le-leb, lt-leb, ne-eqb}
+use borrow.Author.Tests.{ltb-true, ltb-false, le-ltb, ne-eqb}
 use mir.Syntax.{w64}
 use mir.Val.{toZ, ofZ, SFits, Fits}
 use mir.Facts.{toZ-ofZ, sfits-lit}
-use Rattle.floats.proofs.Whole.{Is, is-sub}
+use Rattle.floats.proofs.Whole.{Is, is-sub, le-is}
 use Rattle.step.specs.Step.{whole, lastQWithout, isAt, firstLetter}
 use Rattle.step.proofs.Shape.{first-is}
 
@@ -35,19 +35,6 @@ diff-fits a (suc b) h k = record { sfits = diff-small a (suc b) (ltb a (suc b)) 
 pub at-bits : (z : ℤ) (i : ℕ) → SFits w64 z → i < 2147483648 → eqb i (ofZ w64 z) ≡ isAt z i
 at-bits (pos n) i f h = refl
 at-bits (negsuc n) i f h = ne-eqb i (ofZ w64 (negsuc n)) (λ (e : i ≡ ofZ w64 (negsuc n)). let b : ⊥ = omega (arith, f .sfits) in b)
-
-leb-same : (i j p q : ℕ) → (i ≤ j → p ≤ q) → (j < i → q < p) → leb i j ≡ leb p q
-leb-same i j p q f g = go (leb i j) refl
-  where
-    go : (b : Bool) → leb i j ≡ b → b ≡ leb p q
-    go true e = sym (le-leb p q (f (leb-true i j e)))
-    go false e = sym (lt-leb p q (g (leb-false i j e)))
-
-le-is : (x y : ℤ) (a b c d : ℕ) → Is x a b → Is y c d → leZ x y ≡ leb (a + d) (c + b)
-le-is (pos i) (pos j) a b c d h k = leb-same i j (a + d) (c + b) (λ l. omega arith) (λ l. omega arith)
-le-is (pos i) (negsuc j) a b c d h k = sym (lt-leb (a + d) (c + b) (omega arith))
-le-is (negsuc i) (pos j) a b c d h k = sym (le-leb (a + d) (c + b) (omega arith))
-le-is (negsuc i) (negsuc j) a b c d h k = leb-same j i (a + d) (c + b) (λ l. omega arith) (λ l. omega arith)
 
 past-by : (start : ℤ) (i len a b : ℕ) → Is start a b → leZ start (pos i -ℤ pos len) ≡ leZ (pos len) (pos i -ℤ start)
 past-by start i len a b h =
