@@ -25,12 +25,12 @@ use Rattle.scans.specs.Setup.{Setup, kmers}
 use Rattle.scans.specs.Counts.{cleared}
 use Rattle.scans.specs.Scans.{forwardStart, dustForward, Backward, backwardStart, backwardFrom, at, dustBackward}
 use Rattle.scans.specs.Judged.{floatScore, secondScore, Best, bestOf, forwardOver, peaksOf}
-use Rattle.scans.specs.Terms.Certified.{margin, unevenness, gain, loss}
+use Rattle.scans.specs.Terms.Units.{margin, unevenness, gain, loss}
 use Rattle.scans.proofs.Counting.{below-drop, Counted}
 use Rattle.scans.proofs.Gain.{InRange, gain-none, gain-bound}
 use Rattle.scans.proofs.Judging.{forward-judges, backward-judges}
-use Rattle.scans.proofs.CarriedScan.{counted-unique, found-counted}
-use Rattle.scans.proofs.QuickScan.{top-tried}
+use Rattle.search.proofs.CarriedScan.{counted-unique, found-counted}
+use Rattle.search.proofs.QuickScan.{top-tried}
 use Rattle.certificates.proofs.CertainSecond.{backward-near, forward-near, second-near, second-rise}
 use Rattle.scans.proofs.Shape.{margin-eps, unevenness-eps}
 use Rattle.certificates.proofs.CertainShape.{f-adds}

@@ -14,26 +14,27 @@ use Rattle.floats.specs.Arithmetic.{_⊕_}
 use Rattle.letters.specs.Place.{Place, Below}
 use Rattle.letters.specs.Terms.Entry.{decode}
 use Rattle.scans.specs.declared.Params.{Params}
-use Rattle.scans.specs.declared.Certificate.{Certificate}
-use Rattle.scans.specs.declared.Carry.{Carry}
-use Rattle.scans.specs.declared.Scanned.{Scanned}
+use Rattle.search.specs.declared.Certificate.{Certificate}
+use Rattle.search.specs.declared.Carry.{Carry}
+use Rattle.search.specs.declared.Scanned.{Scanned}
 use Rattle.scans.specs.Setup.{Setup, kmers}
 use Rattle.scans.specs.Counts.{raise, cleared}
 use Rattle.scans.specs.Scans.{at, dustBackward}
-use Rattle.scans.specs.Terms.Counted.{Counted}
+use Rattle.scans.specs.Terms.Counted.{Counted, Touched}
 use Rattle.scans.specs.Terms.Numbers.{setupOf}
 use Rattle.scans.specs.Terms.Window.{ringIndex, window, newestIn, Windowed, Joining}
-use Rattle.scans.specs.Terms.Certified.{distance, Bounds, Certified}
-use Rattle.scans.specs.Terms.Carry.{Carried, Touched, newestScore, CarriesOn}
+use Rattle.scans.specs.Terms.Units.{distance}
+use Rattle.search.specs.Terms.Certified.{Bounds, Certified}
+use Rattle.search.specs.Terms.Carry.{Carried, newestScore, CarriesOn}
 use Rattle.certificates.specs.Terms.Certain.{FindsCertain}
 use Rattle.scans.proofs.Counting.{count-le, below-right, raise-counted}
 use Rattle.scans.proofs.Ring.{window-length, window-newest}
 use Rattle.scans.proofs.Windows.{long}
 use Rattle.scans.proofs.Touched.{touched-cleared, counted-touched, touched-more}
 use Rattle.scans.proofs.Shape.{usual-range}
-use Rattle.scans.proofs.CarriedScan.{counted-unique}
+use Rattle.search.proofs.CarriedScan.{counted-unique}
 use Rattle.certificates.proofs.CertificateCarried.{start-find}
-use Rattle.scans.proofs.CertificateRing.{was-on, below-window, entry-place}
+use Rattle.search.proofs.CertificateRing.{was-on, below-window, entry-place}
 
 module _ (p : Params) (ring : List ℕ) (head len : ℕ) (wc : List ℕ) (ln f : List Float) (counts : List ℕ) (W : Windowed p ring head len wc (length ln)) (start : ℕ) (inside : start < len)
     (n : Counted (4 ^ p .kmer) counts (drop start (window ring head (len - 1)))) where

@@ -19,7 +19,7 @@ use Rattle.scans.specs.Scans.{Candidate, candidate, BackwardSums, backwardStart
 use Rattle.scans.specs.Judged.{Best, better, forwardOver, Peaks, backwardOver}
 use Rattle.scans.specs.Terms.Parts.{raisedAt, fallenTo}
 use Rattle.scans.proofs.Test.{by-test}
-use Rattle.scans.proofs.QuickScan.{last, Top, Bare, last-snoc, older, fallen-bare}
+use Rattle.search.proofs.QuickScan.{last, Top, Bare, last-snoc, older, fallen-bare}
 
 -- ---- The backward scan over scores x and y, n places, the place at index i being the l-th where i + l = n; the place j is the `size`-th.
 pub record Sure (S : Setup) (x y : ℕ → Float) (n j size low-from oldest : ℕ) : Type 0 where

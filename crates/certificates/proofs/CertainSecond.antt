@@ -1,7 +1,7 @@
 -- Tables in range. The backward scan's second sum over the L newest places is what they add to the places before them in the window: its float score is within (L + 1) / 2^33 (`second-near`).
 -- Where ln does not fall, that is at least what they add to the places from an index j on (`second-rise`).
 use mathlib.Core.Path.{_≡_, refl, sym, ap, _∙_, subst}
-use Prim.Native.Nat.{ℕ, zero, suc, _+_, _*_, _-_, _≤_, _<_}
+use Prim.Native.Nat.{ℕ, suc, _+_, _*_, _-_, _≤_, _<_}
 use native.Mathlib.Omega.{arith}
 use mathlib.Core.List.{List, [], _∷_, _++_, reverse, reverse-append}
 use lib.ListN.{length, take, drop, length-append, length-take, length-drop, length-reverse, take-append-drop}

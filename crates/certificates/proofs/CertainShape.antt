@@ -4,7 +4,7 @@ use Prim.Native.Nat.{ℕ, zero, suc, _+_, _*_, _≤_, _<_}
 use native.Mathlib.Omega.{arith}
 use Rattle.floats.proofs.Rounded.{pos64}
 use Rattle.scans.specs.Setup.{Setup, fAt}
-use Rattle.scans.specs.Terms.Certified.{unevenness}
+use Rattle.scans.specs.Terms.Units.{unevenness}
 use Rattle.scans.proofs.Shape.{UsualShape}
 
 module _ {S : Setup} (shape : UsualShape S) where

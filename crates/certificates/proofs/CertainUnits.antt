@@ -10,7 +10,7 @@ use Rattle.floats.specs.Value.{Finite}
 use Rattle.floats.proofs.Rounded.{pos64, neg64}
 use Rattle.letters.specs.Place.{Place}
 use Rattle.scans.specs.Setup.{Setup}
-use Rattle.scans.specs.Terms.Certified.{margin, gain, loss}
+use Rattle.scans.specs.Terms.Units.{margin, gain, loss}
 use Rattle.scans.proofs.Shape.{UsualShape}
 
 -- The place at index a is the l-th from the newest where a + l is the window's length.

@@ -18,13 +18,15 @@ use Rattle.floats.proofs.Rounded.{Near}
 use Rattle.floats.proofs.Sums.{err, zero-near}
 use Rattle.floats.proofs.Tests.{le-near}
 use Rattle.letters.specs.Place.{Place, Below}
-use Rattle.scans.specs.declared.Carry.{Carry}
+use Rattle.search.specs.declared.Carry.{Carry}
 use Rattle.scans.specs.Setup.{Setup, fAt, kmers}
 use Rattle.scans.specs.Counts.{raise, cleared}
 use Rattle.scans.specs.Scans.{at, value, ForwardSums, forwardStart, Forward, forwardFrom, dustBackward}
 use Rattle.scans.specs.Judged.{sumOver, floatScore, Best, bestOf, better, forwardOver}
-use Rattle.scans.specs.Terms.Carry.{wholeForward, Summed, newestScore}
-use Rattle.scans.specs.Terms.Certified.{noCertificate, margin, distance, gain, loss, Kept, StartUnits, Certifiable}
+use Rattle.scans.specs.Terms.Parts.{wholeForward}
+use Rattle.search.specs.Terms.Carry.{Summed, newestScore}
+use Rattle.search.specs.Terms.Certified.{noCertificate, Kept, StartUnits, Certifiable}
+use Rattle.scans.specs.Terms.Units.{margin, distance, gain, loss}
 use Rattle.scans.proofs.Test.{by-test}
 use Rattle.scans.proofs.Counting.{below-left, below-right, below-drop, below-take, Counted, raise-counted}
 use Rattle.scans.proofs.Gain.{InRange, gain-bound}
@@ -32,10 +34,10 @@ use Rattle.scans.proofs.FloatScore.{float-near}
 use Rattle.scans.proofs.Judging.{whole-judges}
 use Rattle.scans.proofs.WholeScan.{judged, whole, whole-step, sum, score, judged-s}
 use Rattle.scans.proofs.ForwardScore.{leads-all}
-use Rattle.scans.proofs.CarriedScan.{carried-next}
+use Rattle.search.proofs.CarriedScan.{carried-next}
 use Rattle.scans.proofs.Shape.{margin-eps}
 use Rattle.certificates.proofs.CertainFind.{err-few, margin-one, units-find}
-use Rattle.scans.proofs.CertificateNumber.{distance-ranged, distance-margin}
+use Rattle.search.proofs.CertificateNumber.{distance-ranged, distance-margin}
 use Rattle.certificates.proofs.CertificateUsed.{start-used}
 
 -- ---- Any float bits: the sum over all of the places.

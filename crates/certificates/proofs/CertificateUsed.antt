@@ -10,12 +10,13 @@ use lib.Ieee.{Float, lt, le, neg}
 use Rattle.floats.proofs.Rounded.{pos64, neg64}
 use Rattle.letters.specs.Place.{Place}
 use Rattle.scans.specs.Setup.{Setup}
-use Rattle.scans.specs.Terms.Certified.{margin, distance, unevenness, gain, loss, lossAhead, StartUnits, Certifiable}
+use Rattle.scans.specs.Terms.Units.{margin, distance, unevenness, gain, loss}
+use Rattle.search.specs.Terms.Certified.{lossAhead, StartUnits, Certifiable}
 use Rattle.scans.proofs.Gain.{InRange}
 use Rattle.scans.proofs.Shape.{usual-shape, f-widens}
-use Rattle.scans.proofs.CertificateNumber.{strayed-few, far-below, far-above}
-use Rattle.scans.proofs.CertificateLow.{low-used}
-use Rattle.scans.proofs.CertificateStart.{Ends}
+use Rattle.search.proofs.CertificateNumber.{strayed-few, far-below, far-above}
+use Rattle.search.proofs.CertificateLow.{low-used}
+use Rattle.search.proofs.CertificateStart.{Ends}
 use Rattle.certificates.proofs.CertainUnits.{CertainUnits}
 use Rattle.certificates.proofs.CertainFind.{uneven-few}
 

@@ -15,7 +15,7 @@ use Rattle.floats.specs.Binary64.{zero64, twoTo20}
 use Rattle.floats.proofs.Range.{ranged-20}
 use Rattle.letters.specs.Place.{Place, ambiguous, Below}
 use Rattle.letters.specs.Terms.Entry.{decode}
-use Rattle.scans.specs.declared.Certificate.{Certificate}
+use Rattle.search.specs.declared.Certificate.{Certificate}
 use Rattle.scans.specs.declared.Params.{Params}
 use Rattle.certificates.specs.declared.certify.Reading.{Reading}
 use Rattle.certificates.specs.declared.certify.Middle.{Middle}
@@ -25,12 +25,12 @@ use Rattle.certificates.specs.declared.certify.Attempt.{Attempt}
 use Rattle.scans.specs.Setup.{Setup, fAt, kmers}
 use Rattle.scans.specs.Counts.{count, cleared}
 use Rattle.scans.specs.Terms.Numbers.{setupOf}
-use Rattle.scans.specs.Terms.Counted.{Counted}
+use Rattle.scans.specs.Terms.Counted.{Counted, Touched}
 use Rattle.scans.specs.Terms.Window.{At, ringIndex, window, CountsEntry}
 use Rattle.scans.specs.Terms.Shape.{Shaped}
-use Rattle.scans.specs.Terms.Carry.{Touched}
 use Rattle.scans.specs.Terms.Parts.{Queued, Ringed}
-use Rattle.scans.specs.Terms.Certified.{distance, noCertificate, StartUnits, Bounds}
+use Rattle.scans.specs.Terms.Units.{distance}
+use Rattle.search.specs.Terms.Certified.{noCertificate, StartUnits, Bounds}
 use Rattle.certificates.specs.Terms.Made.{Making, Summed, noneRead, readOf, nearMost, Reads, noMiddle, middleOf, Steady, ReadsNewer, olderOf, OlderUnits, ReadsOlder, Able, certificateOf, Attempts, Certifies}
 use Rattle.scans.proofs.Counting.{count-le, count-snoc, below-drop, raise-counted, cleared-counted}
 use Rattle.scans.proofs.Ring.{ring-index-at, queue-at, window-at, window-length}
@@ -41,7 +41,7 @@ use Rattle.scans.proofs.Exact.{added}
 use Rattle.scans.proofs.Gain.{InRange}
 use Rattle.scans.proofs.FloatScore.{value-added}
 use Rattle.scans.proofs.Shape.{usual-range}
-use Rattle.scans.proofs.CertificateLow.{order-of}
+use Rattle.search.proofs.CertificateLow.{order-of}
 use Rattle.certificates.proofs.Making.{addedAt, reads-none, reads-next, steady-none, steady-next, above-middle, summed-next, Olds, olds-none, olds-next, olds-stopped, olds-ended}
 
 -- ---- An entry is read, which stands at index `at` of the ring.

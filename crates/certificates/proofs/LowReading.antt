@@ -27,15 +27,15 @@ use Rattle.certificates.specs.declared.low.NearRead.{NearRead}
 use Rattle.scans.specs.declared.backward.BackwardState.{BackwardState}
 use Rattle.scans.specs.Setup.{Setup, fAt, kmers}
 use Rattle.scans.specs.Counts.{hit, count, cleared}
-use Rattle.scans.specs.Terms.Counted.{Counted}
+use Rattle.scans.specs.Terms.Counted.{Counted, Touched}
 use Rattle.scans.specs.Terms.Numbers.{setupOf}
 use Rattle.scans.specs.Terms.Shape.{Usual}
 use Rattle.scans.specs.Terms.Window.{At, ringIndex, window, Windowed}
 use Rattle.scans.specs.Terms.Parts.{AddsEntry, Fresh, Queued}
-use Rattle.scans.specs.Terms.Carry.{Touched}
-use Rattle.scans.specs.Terms.Certified.{distance, gain, loss, Kept}
+use Rattle.scans.specs.Terms.Units.{distance, gain, loss}
+use Rattle.search.specs.Terms.Certified.{Kept}
 use Rattle.certificates.specs.Terms.Made.{larger}
-use Rattle.scans.specs.Terms.Fails.{TellsNone}
+use Rattle.search.specs.Terms.Fails.{TellsNone}
 use Rattle.certificates.specs.Terms.Low.{nearStarts, noLowStarts, lowStartsTo, LowBounds, Low, FindsLow, ReadsNewest, ReadsLow, ReadsNear}
 use Rattle.scans.proofs.Test.{by-test}
 use Rattle.scans.proofs.Counting.{hit-self, count-le, below-drop, below-take}
@@ -45,9 +45,9 @@ use Rattle.scans.proofs.Windows.{long, count-in, entry-in, entry-place}
 use Rattle.scans.proofs.Walk.{windowed-queued, queued-below}
 use Rattle.scans.proofs.Touched.{counted-touched}
 use Rattle.certificates.proofs.CertainFind.{err-few, margin-one}
-use Rattle.scans.proofs.CertificateLow.{count-later, order-of}
+use Rattle.search.proofs.CertificateLow.{count-later, order-of}
 use Rattle.certificates.proofs.Making.{lowest-kept, not-less}
-use Rattle.scans.proofs.CertificateRing.{was-on}
+use Rattle.search.proofs.CertificateRing.{was-on}
 use Rattle.certificates.proofs.NewestSums.{newest-score, second-score, newest-none, newest-next}
 use Rattle.certificates.proofs.LowScan.{x, y, R, x-near, y-near, low-made, nothing-stops, nothing-low}
 

@@ -26,7 +26,8 @@ use Rattle.scans.specs.Counts.{cleared}
 use Rattle.scans.specs.Scans.{none, Candidate, BackwardSums, backwardStart, noted, isDropped, backwardJudged, Backward, backwardFrom, tried, dustBackward}
 use Rattle.scans.specs.Judged.{floatScore, secondScore, Peaks, backwardOver}
 use Rattle.scans.specs.Terms.Shape.{Usual}
-use Rattle.scans.specs.Terms.Certified.{margin, distance, gain, loss, Kept}
+use Rattle.scans.specs.Terms.Units.{margin, distance, gain, loss}
+use Rattle.search.specs.Terms.Certified.{Kept}
 use Rattle.certificates.specs.Terms.Made.{AtLeast}
 use Rattle.scans.specs.Terms.Parts.{fallenTo}
 use Rattle.certificates.specs.Terms.Low.{nearStarts, LowBounds, Low}
@@ -40,8 +41,8 @@ use Rattle.certificates.proofs.CertainSecond.{backward-near, second-nea
 use Rattle.certificates.proofs.CertainShape.{f-adds}
 use Rattle.certificates.proofs.CertainScan.{fallen-is}
 use Rattle.certificates.proofs.CertainFind.{err-few, uneven-few, margin-one}
-use Rattle.scans.proofs.CertificateLow.{count-take, count-later, order-of}
-use Rattle.scans.proofs.CertificateNumber.{far-below}
+use Rattle.search.proofs.CertificateLow.{count-take, count-later, order-of}
+use Rattle.search.proofs.CertificateNumber.{far-below}
 
 -- ---- A scan over scores x and y whose places before the L-th are below 0, and that is at its end there or stops.
 module _ (S : Setup) (x y : ℕ → Float) (n L : ℕ) (low : (k : ℕ) → 0 < k → k < L → T (not (le zero64 (x k)))) (ends : (n < L) ⊎ T (lt (y L) zero64)) where

@@ -25,15 +25,16 @@ use Rattle.certificates.specs.declared.certify.Reading.{Reading}
 use Rattle.certificates.specs.declared.certify.Middle.{Middle}
 use Rattle.certificates.specs.declared.certify.Older.{Older}
 use Rattle.scans.specs.Setup.{Setup, fAt, kmers}
-use Rattle.scans.specs.Terms.Certified.{margin, distance, gain, loss, lossAhead, strayed, Kept}
+use Rattle.scans.specs.Terms.Units.{margin, distance, gain, loss}
+use Rattle.search.specs.Terms.Certified.{lossAhead, strayed, Kept}
 use Rattle.certificates.specs.Terms.Made.{larger, smaller, rounding, AtLeast, Summed, noneRead, readOf, nearMost, Reads, noMiddle, middleOf, Steady, olderOf, OlderUnits}
 use Rattle.scans.proofs.Test.{by-test}
 use Rattle.scans.proofs.Counting.{below-drop}
 use Rattle.scans.proofs.Exact.{added}
 use Rattle.scans.proofs.Gain.{InRange, gain-none, gain-cons, gain-bound, added-ranged}
 use Rattle.scans.proofs.Shape.{margin-eps, unevenness-eps}
-use Rattle.scans.proofs.CertificateNumber.{distance-ranged, distance-margin, far-below, far-above}
-use Rattle.scans.proofs.CertificateLow.{order-of}
+use Rattle.search.proofs.CertificateNumber.{distance-ranged, distance-margin, far-below, far-above}
+use Rattle.search.proofs.CertificateLow.{order-of}
 
 -- ---- Numbers.
 -- The bounds begin at -2^20.

@@ -22,7 +22,7 @@ use Rattle.scans.proofs.Counting.{count-reverse, below-drop, below-reverse, Cou
 use Rattle.scans.proofs.Values.{raised-value}
 use Rattle.scans.proofs.FloatScore.{newest-first}
 use Rattle.scans.proofs.BackwardScan.{below-at, read-counted, left-second}
-use Rattle.scans.proofs.CarriedScan.{counted-unique}
+use Rattle.search.proofs.CarriedScan.{counted-unique}
 
 -- ---- One place more, whatever it adds by the counts of those before it.
 module _ (m : ℕ) (v : List ℕ → Place → Float) (t : Float) where

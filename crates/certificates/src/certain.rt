@@ -11,18 +11,18 @@ ghost use Rattle.scans.specs.Terms.Counted.{Counted};
 ghost use Rattle.scans.specs.Terms.Numbers.{setupOf};
 ghost use Rattle.scans.specs.Terms.Shape.{Shaped};
 ghost use Rattle.scans.specs.Terms.Window.{window, Windowed};
-ghost use Rattle.scans.specs.Terms.Certified.{distance};
-ghost use Rattle.scans.specs.Terms.Carry.{Carried, newestScore};
+ghost use Rattle.scans.specs.Terms.Units.{distance};
+ghost use Rattle.search.specs.Terms.Carry.{Carried, newestScore};
 ghost use Rattle.certificates.specs.Terms.Certain.{FindsCertain};
 use crate::certify::certify;
-use scans::Carry;
-use scans::DISTANCE;
 use scans::Params;
-use scans::Scanned;
 use scans::clear_from;
 use scans::newest_entry;
-use scans::nothing;
 use scans::raised_value;
+use search::Carry;
+use search::DISTANCE;
+use search::Scanned;
+use search::nothing;
 
 // Whether an entry, the l-th of the scan, which is not yet counted, is far the best, and far above 0.
 fn leads(

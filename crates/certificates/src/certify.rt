@@ -10,13 +10,13 @@ ghost use Rattle.scans.specs.Terms.Window.{window, CountsEntry};
 ghost use Rattle.scans.specs.Terms.Parts.{Queued, Ringed};
 ghost use Rattle.scans.specs.Terms.Shape.{Shaped};
 ghost use Rattle.certificates.specs.Terms.Made.{larger, smaller, noneRead, readOf, noMiddle, middleOf, olderOf, certificateOf, Able, Making, Summed, ReadsNewer, ReadsOlder, Attempts, Certifies};
-use scans::Certificate;
-use scans::DISTANCE;
 use scans::Params;
 use scans::clear_from;
 use scans::count_entry;
 use scans::ring_index;
 use scans::uncount;
+use search::Certificate;
+use search::DISTANCE;
 
 // A certificate lasts at most this many letters,
 const HORIZON: usize = 48;

@@ -6,16 +6,16 @@ ghost use lib.ListN.{length, replicate, take};
 ghost use Rattle.scans.specs.Terms.Numbers.{setupOf};
 ghost use Rattle.scans.specs.Terms.Shape.{Usual, Shaped};
 ghost use Rattle.scans.specs.Terms.Window.{window, Windowed};
-ghost use Rattle.scans.specs.Terms.Fails.{TellsNone};
+ghost use Rattle.search.specs.Terms.Fails.{TellsNone};
 ghost use Rattle.certificates.specs.Terms.Low.{nearStarts, noLowStarts, lowStartsTo, LowBounds, Low, ReadsNear, ReadsLow, FindsLow};
 use crate::LowStarts;
 use crate::certify::HIGHEST;
 use crate::certify::larger;
 use scans::BackwardState;
-use scans::DISTANCE;
 use scans::Params;
 use scans::clear_from;
 use scans::ring_index;
+use search::DISTANCE;
 
 // The starts of this many newest places are judged anew at each search.
 const NEAR: usize = 32;

@@ -4,7 +4,7 @@ use Rattle.fasta.specs.Lines.{lines, word}
 use Rattle.fasta.specs.Contents.{lettersBelow, contents}
 use Rattle.report.specs.Ascii.{ascii}
 use Rattle.report.specs.Text.{digitCount, decimal}
-use Rattle.contigs_text.specs.Text.{maskLines, recordText, recordsText, fileText}
+use Rattle.contigs_text.specs.Text.{recordsText, fileText}
 
 nothing : fileText (ascii "\n") ≡ ascii ""
 unfolding lines contents recordsText fileText

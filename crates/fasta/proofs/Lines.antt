@@ -9,7 +9,7 @@ use lib.Dec.{eqb}
 use lib.ListN.{length, take, drop, getD}
 use borrow.Author.Tests.{eqb-true, eqb-false, ne-eqb}
 use Rattle.report.specs.Letters.{lettersOf}
-use Rattle.fasta.specs.Lines.{onto, lines, opens, word}
+use Rattle.fasta.specs.Lines.{onto, lines, word}
 use Rattle.fasta.specs.Contents.{Contents, ends, fails, lettersBelow, opened, contents, contentsOf}
 use Rattle.fasta.specs.Terms.Lengths.{emptyLines, nameLength, lineLength, linesLength}
 

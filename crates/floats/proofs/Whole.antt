@@ -1,13 +1,14 @@
 -- The bridge to ℤ, for final statements: `Is z a b` says that z is a - b, its laws carry sums, differences, products and comparisons between ℤ and pairs of naturals,
 -- and `value-is` says of a float's value what the other files say of its two parts.
-use mathlib.Core.Path.{_≡_, refl, ap, _∙_, subst}
+use mathlib.Core.Path.{_≡_, refl, sym, ap, _∙_, subst}
 use mathlib.Core.Logic.{_↔_}
 use Prim.Native.Nat.{ℕ, zero, suc, _+_, _-_, _*_, _≤_, _<_}
 use native.Mathlib.Omega.{arith}
 use mathlib.Core.Bool.{Bool, true, false, not, cond}
 use lib.IntN.{ℤ, pos, negsuc, natAbs, negℤ, subℕ, _+ℤ_, _-ℤ_, _*ℤ_, *ℤ-comm}
-use lib.Signed.{_≤ℤ_}
-use lib.Dec.{T, ltb, leb→le, le→leb, ltb→lt, nltb→le}
+use lib.Signed.{leZ, _≤ℤ_}
+use lib.Dec.{T, ltb, leb, leb→le, le→leb, ltb→lt, nltb→le}
+use borrow.Author.Tests.{leb-true, leb-false, le-leb, lt-leb}
 use lib.Ieee.{Float, Format, le}
 use Rattle.floats.specs.Value.{magnitude, sign, value}
 use Rattle.floats.proofs.Value.{ifPos, ifNeg}
@@ -50,6 +51,20 @@ is-times (negsuc k) c a b h = is-as (negℤ (pos (c * suc k))) 0 (c * suc k) (c 
 
 pub is-scaled : (z : ℤ) (c a b : ℕ) → Is z a b → Is (z *ℤ pos c) (a * c) (b * c)
 is-scaled z c a b h = is-as (z *ℤ pos c) (c * a) (c * b) (a * c) (b * c) (omega arith) (subst (λ (x : ℤ). Is x (c * a) (c * b)) (*ℤ-comm (pos c) z) (is-times z c a b h))
+
+-- A test of two such numbers is one of naturals.
+leb-same : (i j p q : ℕ) → (i ≤ j → p ≤ q) → (j < i → q < p) → leb i j ≡ leb p q
+leb-same i j p q f g = go (leb i j) refl
+  where
+    go : (b : Bool) → leb i j ≡ b → b ≡ leb p q
+    go true e = sym (le-leb p q (f (leb-true i j e)))
+    go false e = sym (lt-leb p q (g (leb-false i j e)))
+
+pub le-is : (x y : ℤ) (a b c d : ℕ) → Is x a b → Is y c d → leZ x y ≡ leb (a + d) (c + b)
+le-is (pos i) (pos j) a b c d h k = leb-same i j (a + d) (c + b) (λ l. omega arith) (λ l. omega arith)
+le-is (pos i) (negsuc j) a b c d h k = sym (lt-leb (a + d) (c + b) (omega arith))
+le-is (negsuc i) (pos j) a b c d h k = sym (le-leb (a + d) (c + b) (omega arith))
+le-is (negsuc i) (negsuc j) a b c d h k = leb-same j i (a + d) (c + b) (λ l. omega arith) (λ l. omega arith)
 
 pub is-le : (x y : ℤ) (a b c d : ℕ) → Is x a b → Is y c d → (x ≤ℤ y) ↔ (a + d ≤ c + b)
 is-le (pos i) (pos j) a b c d h k = (λ t. let l = leb→le i j (t .le) in omega arith, λ l. record { le = le→leb i j (omega arith) })

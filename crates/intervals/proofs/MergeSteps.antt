@@ -1,6 +1,6 @@
 -- Where the loop of `merge_intervals` stands, and what each of its turns does to that.
 use Prim.Native.Nat.{ℕ, _+_, _-_, _≤_, _<_}
-use mathlib.Core.Path.{_≡_, refl, sym, ap, ap₂, _∙_, subst}
+use mathlib.Core.Path.{_≡_, refl, sym, ap, ap₂, _∙_}
 use mathlib.Core.List.{List, [], _++_, map, map-append, append-assoc, append-nil}
 use mathlib.Core.Bool.{false}
 use native.Mathlib.Omega.{arith}

@@ -1,7 +1,7 @@
 -- Terms of theorems about marks: what a mark says of the list that it stands for.
 use Prim.Native.Nat.{ℕ, _≤_, _<_}
 use mathlib.Core.List.{List, [], _∷_}
-use mathlib.Core.Logic.{_⊎_, _↔_}
+use mathlib.Core.Logic.{_⊎_}
 use lib.Dec.{T}
 use Rattle.intervals.specs.declared.Marked.{Marked}
 use Rattle.intervals.specs.Interval.{Interval, Holds, Covers}

@@ -20,12 +20,13 @@ use Rattle.scans.specs.Terms.Numbers.{setupOf}
 use Rattle.scans.specs.Range.{inRange, CheckedSetup}
 use Rattle.longdust.specs.declared.LongdustOptions.{LongdustOptions}
 use Rattle.longdust.specs.declared.Answer.{Answer}
-use Rattle.longdust.specs.Mask.{setup, maskOf, mask, markedMaskOf, markedMask}
+use Rattle.longdust.specs.Mask.{setup, mask, markedMask}
+use Rattle.mask.specs.Mask.{maskOf, markedMaskOf}
 use Rattle.longdust.specs.Buffers.{Buffers, lengths}
 use Rattle.longdust.specs.Call.{lnRead, fRead, listSize, listed, Masked, Accepted}
 use Rattle.longdust.specs.Terms.Inner.{accepted, Bounds, Admitted, Prepared, Ran}
-use Rattle.longdust.proofs.Masks.{mask-shape, mask-room, mask-ranges, mask-evidence, scans-find}
-use Rattle.longdust.proofs.Marking.{marked-evidence}
+use Rattle.mask.proofs.Masks.{mask-shape, mask-room, mask-ranges, mask-evidence, scans-find}
+use Rattle.mask.proofs.Marking.{marked-evidence}
 use Rattle.longdust.proofs.Parts.{fronts, back, Returned, whole}
 
 -- A list written to the lent front of a slice is written to the slice.

@@ -10,8 +10,10 @@ use Rattle.buffers.proofs.Lent.{part-free, free-at}
 use Rattle.scans.specs.declared.Params.{Params}
 use Rattle.strand.specs.Terms.Running.{StrandLent}
 use Rattle.longdust.specs.declared.LongdustOptions.{LongdustOptions}
+use Rattle.longdust.specs.declared.Lent.{Lent}
 use Rattle.longdust.specs.Buffers.{Buffers, lengths}
-use Rattle.longdust.specs.Terms.Inner.{Admitted, Exact}
+use Rattle.longdust.specs.Terms.Inner.{Admitted}
+use Rattle.mask.specs.Terms.Both.{BothLent}
 
 -- w + 1 entries of ln, w + 2 of f, w of the queue and the candidates, m of the counts, n codes and R entries of each list and of the marks.
 abbrev pub fronts : (w m n R : ℕ) → Buffers → Buffers
@@ -95,9 +97,10 @@ module _ (o : LongdustOptions) (n m : ℕ) (b : Buffers) (a : Admitted o n (leng
         candidates-long = omega (arith, length-take-le (o .«window_size») (b .candidates) (g .candidates));
       }
 
-  pub exact : (p : Params) → p .kmer ≡ o .kmer → p .«window_size» ≡ o .«window_size»
-      → Exact p n (lengths (fronts (o .«window_size») m n ((n + 1) / (o .kmer + 1)) b))
-  exact p k w =
+  pub both-lent : (p : Params) → p .kmer ≡ o .kmer → p .«window_size» ≡ o .«window_size»
+      → let l : Lent = lengths (fronts (o .«window_size») m n ((n + 1) / (o .kmer + 1)) b) in
+      BothLent p n (l .ln) (l .f) (l .queue) (l .«window_counts») (l .«scan_counts») (l .candidates) (l .«reverse_codes») (l .«forward_list») (l .«reverse_list») (l .list) (l .marks)
+  both-lent p k w =
       let g = a .enough in
       let R = (n + 1) / (o .kmer + 1) in
       let r : (n + 1) / (p .kmer + 1) ≡ R = ap (λ (z : ℕ). (n + 1) / (z + 1)) k in

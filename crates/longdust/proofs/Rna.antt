@@ -9,7 +9,8 @@ use Rattle.letters.proofs.Rna.{same-codes}
 use Rattle.tables.specs.declared.GcOption.{GcOption}
 use Rattle.tables.specs.Density.{density}
 use Rattle.longdust.specs.declared.LongdustOptions.{LongdustOptions}
-use Rattle.longdust.specs.Mask.{setup, maskOf, mask}
+use Rattle.longdust.specs.Mask.{setup, mask}
+use Rattle.mask.specs.Mask.{maskOf}
 
 pub rna-mask : (o : LongdustOptions) (s : List ℕ) (ln f : List Float) → mask o (withT s) ln f ≡ mask o s ln f
 unfolding mask

@@ -18,9 +18,9 @@ use Rattle.intervals.proofs.Slice.{wrote-list}
 use Rattle.intervals.proofs.Theorems.{merge-mirror}
 use Rattle.scans.specs.Setup.{Setup}
 use Rattle.scans.proofs.Agreeing.{AgreeTo}
-use Rattle.strand.specs.Step.{intervalsOf}
+use Rattle.step.specs.Step.{intervalsOf}
 use Rattle.scans.specs.Range.{inRange}
-use Rattle.strand.proofs.Theorems.{strand-shape}
+use Rattle.step.proofs.Theorems.{strand-shape}
 use Rattle.tables.specs.declared.Density.{Density}
 use Rattle.tables.specs.Density.{density}
 use Rattle.tables.specs.Tables.{lnTable, fTable}
@@ -31,12 +31,13 @@ use Rattle.longdust.specs.declared.LongdustOptions.{LongdustOptions}
 use Rattle.longdust.specs.declared.Answer.{Answer}
 use Rattle.longdust.specs.declared.Lent.{Lent}
 use Rattle.longdust.specs.Checks.{refusal}
-use Rattle.longdust.specs.Mask.{setup, maskOf, mask, markedMaskOf, markedMask, backwardsMarks}
+use Rattle.longdust.specs.Mask.{setup, mask, markedMask}
+use Rattle.mask.specs.Mask.{maskOf, markedMaskOf, backwardsMarks}
 use Rattle.longdust.specs.Buffers.{Buffers, lengths}
 use Rattle.longdust.specs.Call.{lnRead, fRead, listed, listedMarks, Answered, Kept, Filled}
 use Rattle.longdust.proofs.Accept.{admitted}
-use Rattle.longdust.proofs.Masks.{other-shape, mask-ranges}
-use Rattle.longdust.proofs.Marking.{marked-mask-mirror, marks-backwards, marks-held}
+use Rattle.mask.proofs.Masks.{other-shape, mask-ranges}
+use Rattle.mask.proofs.Marking.{marked-mask-mirror, marks-backwards, marks-held}
 use Rattle.longdust.proofs.Agreeing.{agree-equal, agree-take, mask-agree, marked-agree, same-test}
 
 -- For any tables, any float bits.

@@ -18,7 +18,8 @@ use Rattle.tables.specs.Tables.{lnTable, fTable}
 use Rattle.longdust.specs.declared.LongdustOptions.{LongdustOptions}
 use Rattle.longdust.specs.declared.Answer.{Answer}
 use Rattle.longdust.specs.Checks.{refusal}
-use Rattle.longdust.specs.Mask.{setup, mask, markedMask, Evident, EvidentMarked, ScansFindNoBetterShorter}
+use Rattle.longdust.specs.Mask.{setup, mask, markedMask}
+use Rattle.mask.specs.Mask.{Evident, EvidentMarked, ScansFindNoBetterShorter}
 use Rattle.longdust.specs.Buffers.{Buffers, lengths}
 
 -- The tables that a run reads: ln entries 0..w and f entries 0..w+1.

@@ -1,6 +1,5 @@
 // The call for the strongest stretch at a letter.
 
-ghost use mathlib.Core.Path.{_≡_};
 ghost use Rattle.strongest.specs.Call.{asked};
 ghost use Rattle.longdust_c.specs.Stretches.{ExportedStretch};
 

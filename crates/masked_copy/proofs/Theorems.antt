@@ -2,7 +2,7 @@
 use mathlib.Core.Path.{_≡_, refl, sym, ap, _∙_}
 use mathlib.Core.Bool.{Bool, true, false, cond}
 use mathlib.Core.Logic.{_⊎_, inl, inr, ⊎-elim, _↔_}
-use mathlib.Core.List.{List, [], _∷_, _++_, map}
+use mathlib.Core.List.{List, _∷_, _++_, map}
 use Prim.Native.Nat.{ℕ, _+_, _-_, _≤_, _<_}
 use native.Mathlib.Omega.{arith}
 use borrow.Author.Tests.{le-leb, lt-leb}
@@ -13,8 +13,8 @@ use Rattle.intervals.specs.Interval.{Interval, Covers, covered}
 use Rattle.intervals.proofs.Counted.{covered-agrees, covered-same}
 use Rattle.intervals.proofs.Covered.{append-covers}
 use Rattle.masked_copy.specs.declared.Masking.{Masking}
-use Rattle.masked_copy.specs.declared.Masking.the-variants.{LowerCase, Replace}
-use Rattle.masked_copy.specs.Copy.{lower, shown, byteAt, copyOf}
+use Rattle.masked_copy.specs.declared.Masking.the-variants.{LowerCase}
+use Rattle.masked_copy.specs.Copy.{lower, shown, copyOf}
 use Rattle.masked_copy.specs.Upper.{upper}
 use Rattle.masked_copy.proofs.Copying.{lower-below, lower-above, lower-cases, copy-length, copy-at, copy-is}
 

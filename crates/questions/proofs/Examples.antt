@@ -1,5 +1,4 @@
 -- L8's answers, worked on a list of three intervals in 40 letters.
-use Prim.Native.Nat.{_+_, _*_}
 use mathlib.Core.Path.{_≡_, refl}
 use mathlib.Core.List.{List, [], _∷_}
 use Rattle.buffers.specs.Fill.{tabulate, tabulateFrom}

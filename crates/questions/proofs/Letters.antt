@@ -7,7 +7,7 @@ use native.Mathlib.Omega.{arith}
 use lib.Dec.{ltb, leb}
 use lib.ListN.{length, drop}
 use borrow.Author.Tests.{leb-true, leb-false, ltb-true, ltb-false}
-use Rattle.intervals.specs.Interval.{Interval, interval, Holds, Covers, covered, coveredIn, Ascending}
+use Rattle.intervals.specs.Interval.{Interval, Holds, Covers, covered, coveredIn, Ascending}
 use Rattle.intervals.proofs.Shape.{covers-above}
 use Rattle.intervals.proofs.Counted.{and-agrees, leb-agrees, ltb-agrees, covered-agrees, covered-none}
 use Rattle.questions.specs.Answers.{inside}

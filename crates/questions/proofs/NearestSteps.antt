@@ -4,7 +4,7 @@ use mathlib.Core.Path.{_≡_, refl, sym, ap, _∙_}
 use mathlib.Core.List.{List, [], _∷_}
 use native.Mathlib.Omega.{arith}
 use lib.ListN.{length, getD}
-use Rattle.intervals.specs.Interval.{Interval, interval, listOf}
+use Rattle.intervals.specs.Interval.{Interval, listOf}
 use Rattle.intervals.proofs.Slice.{length-list, list-at}
 use Rattle.questions.specs.Answers.{answer, none, nearest}
 use Rattle.questions.specs.Promised.{Usual, distance}

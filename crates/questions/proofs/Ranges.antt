@@ -8,7 +8,7 @@ use native.Mathlib.Omega.{arith}
 use lib.Dec.{ltb, leb}
 use lib.ListN.{length, getD}
 use Rattle.buffers.specs.Fill.{tabulateFrom}
-use Rattle.intervals.specs.Interval.{Interval, interval}
+use Rattle.intervals.specs.Interval.{Interval}
 use Rattle.intervals.proofs.Counted.{and-agrees, leb-agrees, ltb-agrees}
 use Rattle.intervals.proofs.Order.{lt-or-le}
 use Rattle.questions.specs.Answers.{answer, none, indices, firstAndCount, within, inside, partly}

@@ -7,7 +7,7 @@ use mathlib.Core.Logic.{_⊎_, inl, inr, ⊎-elim, _↔_}
 use native.Mathlib.Omega.{arith}
 use lib.Dec.{ltb}
 use lib.ListN.{length, getD}
-use Rattle.intervals.specs.Interval.{Interval, interval, Holds, Canonical, coveredIn}
+use Rattle.intervals.specs.Interval.{Interval, Holds, Canonical, coveredIn}
 use Rattle.intervals.proofs.Order.{lt-or-le}
 use Rattle.intervals.proofs.Counted.{and-agrees, ltb-agrees}
 use Rattle.questions.specs.Answers.{between, nearest, indices, firstAndCount, allThat, within, inside, partly, share}

@@ -7,8 +7,7 @@ use Prim.Native.Nat.{ℕ, zero, suc, _+_, _-_, _/_, _%_, _^_, _<_, _≤_}
 use native.Mathlib.Omega.{arith}
 use lib.ListN.{length, getD, take, drop, replicate, length-drop}
 use lib.Seq.{drop-cons, drop-length}
-use lib.Dec.{T, ltb}
-use borrow.Author.Tests.{ltb-true, ltb-false}
+use lib.Dec.{T}
 use lib.Ieee.{Float, nan, neg, lt, le, eq, ofBits, ofFields}
 use Rattle.floats.specs.Arithmetic.{_⊖_}
 use Rattle.floats.specs.Binary64.{zero64, nearZero}
@@ -20,11 +19,11 @@ use Rattle.scans.specs.declared.Params.{Params}
 use Rattle.scans.specs.declared.backward.BackwardState.{BackwardState}
 use Rattle.scans.specs.Setup.{Setup, fAt, kmers}
 use Rattle.scans.specs.Terms.Numbers.{setupOf}
-use Rattle.scans.specs.Counts.{hit, count, raise, cleared}
+use Rattle.scans.specs.Counts.{hit, count, raise}
 use Rattle.scans.specs.Terms.Counted.{Counted}
 use Rattle.scans.specs.Scans.{value, secondValue, Candidate, candidate, BackwardSums, backwardStart, isNoted, noted, isDropped, backwardJudged, Backward, backwardFrom}
 use Rattle.scans.specs.Terms.Window.{window, countedValue, Windowed}
-use Rattle.scans.specs.Terms.Parts.{backwardOf, leftValue, AddsEntry, withBestAt, withPrevious, restsAt, Fresh, pauses, tooLow, Rest, restOf, sumsWith, raisedAt, fallenTo, restOver, restFrom, restAfter, Coded, Room, PartBefore, NoneBest, Backs, GoesOver, GoesOn, goesOn, ScansQuick}
+use Rattle.scans.specs.Terms.Parts.{backwardOf, leftValue, AddsEntry, withBestAt, withPrevious, restsAt, Fresh, pauses, tooLow, Rest, restOf, sumsWith, raisedAt, fallenTo, restOver, restFrom, restAfter, Coded, Room, PartBefore, NoneBest, Backs, GoesOver, GoesOn}
 use Rattle.scans.proofs.Counting.{hit-self, count-snoc, count-append, count-le, raise-counted, raise-hit, raise-length, cleared-counted}
 use Rattle.scans.proofs.Values.{raised-value, decode-below}
 use Rattle.scans.proofs.Parts.{Stands, stands-at, part-length, part-stands, part-coded, decoded-drop, newest-stands}
@@ -567,41 +566,3 @@ module _ {p : Params} {ring : List ℕ} {head len : ℕ} {window-counts : List �
       goes-on (setupOf p ln f) window-counts quick q (window-below w) (decoded newer) (a .low - length newer) (newer-stands (g .unread) (g .some)) (restOf a counts) (restOf b counts′)
       (omega (arith, part-long)) (omega (arith, g .some)) h
       (g .scanned ∙ ap₂ (λ (x y : ℕ). restOver (setupOf p ln f) window-counts quick x (decoded newer) (a .low - length newer) y (backwardOf a) counts) (sym (long w)) same)
-
--- ---- The whole quick scan, from one rest to the next.
-pub record Going (S : Setup) (window-counts : List ℕ) (q : List Place) (counts₀ : List ℕ) (a : BackwardState) (counts : List ℕ) : Type 0 where
-  pub same : length counts ≡ length counts₀
-  pub here : Backs (kmers S) q (restOf a counts)
-  pub rest : restFrom S window-counts true q (length q) backwardStart (cleared S) ≡ restAfter S window-counts true q (restOf a counts)
-
-module _ (S : Setup) (window-counts : List ℕ) (q : List Place) (counts₀ : List ℕ) where
-  pub going-start : (len : ℕ) (a : BackwardState) → length q ≡ len → Fresh len a → counts₀ ≡ cleared S → Going S window-counts q counts₀ a counts₀
-  going-start len a l fresh clear =
-      let low : a .low ≡ length q = fresh .low-is ∙ sym l in
-      record { same = refl; here = backs-start q len (kmers S) a counts₀ l fresh clear; rest = rw (fresh .going .0, fresh .going .1, low, fresh .sums-are, clear) }
-
-  module _ (a : BackwardState) (counts : List ℕ) (c : Going S window-counts q counts₀ a counts) where
-    on : goesOn a ≡ true → (a .paused ≡ false) × (a .done ≡ false) × (0 < a .low)
-    on t = go (a .paused) refl (a .done) refl t
-      where
-        go : (p : Bool) → a .paused ≡ p → (d : Bool) → a .done ≡ d → not p && (not d && ltb 0 (a .low)) ≡ true → (a .paused ≡ false) × (a .done ≡ false) × (0 < a .low)
-        go true p d e u = absurd (true≢false (sym u))
-        go false p true e u = absurd (true≢false (sym u))
-        go false p false e u = (p, e, ltb-true 0 (a .low) u)
-
-    pub going-some : goesOn a ≡ true → 0 < a .low
-    going-some t = on t .2
-
-    pub going-turn : goesOn a ≡ true → (b : BackwardState) (counts′ : List ℕ) → length counts′ ≡ length counts → GoesOn S window-counts true q (restOf a counts) (restOf b counts′) → Going S window-counts q counts₀ b counts′
-    going-turn t b counts′ e g = record { same = e ∙ c .same; here = g .here; rest = c .rest ∙ rw (on t .0, on t .1) (g .scanned) }
-
-    pub going-end : goesOn a ≡ false → Counted (kmers S) window-counts q → ScansQuick S q (restOf a counts)
-    unfolding restOver
-    going-end t counted = record { window-counts = window-counts; window-counted = counted; scanned = sym (c .rest ∙ go (a .paused) refl (a .done) refl t); here = c .here }
-      where
-        go : (p : Bool) → a .paused ≡ p → (d : Bool) → a .done ≡ d → not p && (not d && ltb 0 (a .low)) ≡ false → restAfter S window-counts true q (restOf a counts) ≡ restOf a counts
-        go true p d e u = rw p
-        go false p true e u = rw (p, e)
-        go false p false e u =
-            let z : a .low ≡ 0 = let n : a .low ≤ 0 = ltb-false 0 (a .low) u in omega arith in
-            rw (p, e, z)

@@ -14,8 +14,8 @@ use Rattle.letters.specs.Place.{Place, ambiguous, plain, BelowAt, Below}
 use Rattle.scans.specs.Setup.{Setup, lnAt, fAt, kmers}
 use Rattle.scans.specs.Counts.{count}
 use Rattle.scans.specs.Score.{lnSum, lnSums, lnValue, score}
-unfoldable pub use Rattle.scans.specs.Terms.Certified.{gain}
-pub use Rattle.scans.specs.Terms.Certified.{loss}
+unfoldable pub use Rattle.scans.specs.Terms.Units.{gain}
+pub use Rattle.scans.specs.Terms.Units.{loss}
 use Rattle.scans.proofs.Counting.{count-le}
 use Rattle.scans.proofs.Exact.{adds, added, added-value, sums-snoc, sums-cons, sums-none}
 

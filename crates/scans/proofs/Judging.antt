@@ -14,7 +14,7 @@ use Rattle.scans.specs.Setup.{Setup, fAt}
 use Rattle.scans.specs.Counts.{raise, cleared}
 use Rattle.scans.specs.Scans.{value, secondValue, ForwardSums, forwardStart, forwardJudged, Forward, forwardFrom, dustForward, Candidate, BackwardSums, backwardStart, noted, isDropped, backwardJudged, Backward, backwardFrom}
 use Rattle.scans.specs.Judged.{sumOver, floatScore, secondScore, Best, bestOf, better, forwardOver, Peaks, peaksOf, backwardOver}
-use Rattle.scans.specs.Terms.Carry.{wholeForward}
+use Rattle.scans.specs.Terms.Parts.{wholeForward}
 use Rattle.scans.proofs.Test.{by-test, by-test-both}
 
 -- ---- The sum s and the counts after the places seen: what they come to with any places more, the whole comes to from the start.

@@ -1,5 +1,5 @@
 -- The queue in a ring: the index of its j-th entry, its length, the entry that joins and the one that leaves; and the same of the window's places.
-use mathlib.Core.Path.{_≡_, refl, sym, ap, _∙_}
+use mathlib.Core.Path.{_≡_, refl, sym, ap, _∙_, subst}
 use mathlib.Core.Bool.{Bool, true, false, cond}
 use mathlib.Core.List.{List, [], _∷_, _++_, map-append}
 use mathlib.Core.Logic.{_⊎_, inl, inr, ⊎-elim}
@@ -22,6 +22,10 @@ at-by w head j false e h k = let g : w ≤ head + j = ltb-false _ _ e in (omega 
 
 pub ring-index-at : (w head j : ℕ) → head < w → j ≤ w → At w head j (ringIndex w head j)
 ring-index-at w head j = at-by w head j (ltb (head + j) w) refl
+
+-- The index that the code finds for the j-th entry.
+pub index-at : (w head j i : ℕ) → head < w → j ≤ w → i ≡ ringIndex w head j → At w head j i
+index-at w head j i h l e = subst (λ (z : ℕ). At w head j z) (sym e) (ring-index-at w head j h l)
 
 -- Two entries stand apart.
 apart : (w head i j a b : ℕ) → i < j → j < w → At w head i a → At w head j b → a ≡ b → ⊥

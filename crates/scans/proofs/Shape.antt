@@ -18,7 +18,7 @@ use Rattle.floats.proofs.Tests.{le-near}
 use Rattle.floats.specs.Value.{Finite}
 use Rattle.floats.proofs.Rounded.{Near, Ranged, eps, pos64}
 use Rattle.scans.specs.Setup.{Setup, lnAt, fAt}
-unfoldable pub use Rattle.scans.specs.Terms.Certified.{margin, unevenness}
+unfoldable pub use Rattle.scans.specs.Terms.Units.{margin, unevenness}
 use Rattle.scans.specs.Terms.Shape.{fStep, usualTo, Usual}
 use Rattle.scans.proofs.Gain.{InRange}
 use Rattle.scans.proofs.Range.{in-range}

@@ -17,7 +17,7 @@ use Rattle.letters.specs.Terms.Entry.{decode}
 use Rattle.scans.specs.Setup.{Setup, fAt, kmers}
 use Rattle.scans.specs.Counts.{hit, count, raise, lower, cleared}
 use Rattle.scans.specs.Scans.{value, ForwardSums, forwardStart, forwardJudged, Forward, forwardFrom, dustForward}
-use Rattle.scans.specs.Terms.Carry.{Touched}
+use Rattle.scans.specs.Terms.Counted.{Touched}
 use Rattle.scans.proofs.Test.{by-test}
 use Rattle.scans.proofs.Counting.{hit-self, hit-other, count-append, count-snoc, Counted, cleared-counted}
 

@@ -1,9 +1,6 @@
 pub mod Numbers
 pub mod Counted
+pub mod Units
 pub mod Shape
 pub mod Window
 pub mod Parts
-pub mod Certified
-pub mod Carry
-pub mod Search
-pub mod Fails

@@ -8,32 +8,26 @@
 // | `dust_forward` | forward: `dust_forward`, a `forward_part` for each straight part of the ring |
 // | `dust_backward`, its xdrop | limits: `drop_limit` |
 // | `dust_backward`, its clearing of the scan counts | queue: `clear_from`, where a scan touched them |
-// | `dust_backward`, its first loop | candidates: `scan_backward`; backward: `backward_on` from peak to peak, a part of the ring at a time, `backward_low` before the first best place, `backward_part` after it |
-// | `dust_backward`, its second loop | candidates: `try_candidates`, unless fails: `none_ends` tells that it finds nothing |
-// | `dust_backward` as a whole | dust: `dust_backward`, which first asks quick: `find_quickly`, a fast form for the letters after a find |
+// | `dust_backward`, its first loop | backward: `backward_on`, from peak to peak, a part of the ring at a time, `backward_low` before the first best place, `backward_part` after it |
 //
-// carried: the last find's forward scan, gone on with letter by letter; kept: the certificate of its start, by which crate `certificates` leaves searches out.
+// What `dust_backward` does with them stands in crate `search`.
 
 mod backward;
-mod candidates;
-mod carried;
 mod counts;
-mod dust;
-mod fails;
 mod forward;
-mod kept;
 mod limits;
 mod queue;
-mod quick;
 mod step;
 
 pub use backward::BackwardState;
-pub use carried::nothing;
+pub use backward::backward_on;
 pub use counts::count_entry;
 pub use counts::lower_entry;
 pub use counts::raised_value;
-pub use dust::dust_backward;
-pub use kept::DISTANCE;
+pub use counts::window_value;
+pub use forward::ForwardState;
+pub use forward::SLACK;
+pub use forward::dust_forward;
 pub use limits::drop_limit;
 pub use limits::is_usual;
 pub use limits::max_test;
@@ -61,41 +55,6 @@ pub struct Params {
     pub max_test: i32,
     // Whether the tables are in range and of the usual shape; only then are scans left out.
     pub usual: bool,
-}
-
-// The sum and the best score of the last find's forward scan, carried on to the newest entry while `on`.
-pub struct Carry {
-    pub on: bool,
-    pub s: f64,
-    pub best: f64,
-    pub certificate: Certificate,
-}
-
-// While it is on, the start of the carried scan is what a backward scan finds, wherever that scan is best at the newest entry.
-pub struct Certificate {
-    pub on: bool,
-    // How many letters it may still last.
-    pub left: usize,
-    // How many of the newest entries are near.
-    pub near: usize,
-    // At least the sum of their ln entries.
-    pub h: f64,
-    // At least each score of the other low entries.
-    pub u: f64,
-    // At most what the start scores above an older one.
-    pub gap: f64,
-}
-
-// One past the index found, 0 for none, and the scan that is carried on.
-pub struct Scanned {
-    pub found: usize,
-    pub carry: Carry,
-}
-
-// The same, and how many entries the search has read where it noted no candidate, else 0.
-pub struct Answered {
-    pub scanned: Scanned,
-    pub read: usize,
 }
 
 // A candidate, with the Rust's names: a place from which a forward scan is tried, with the backward scan's best score when it was noted.

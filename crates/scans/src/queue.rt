@@ -4,9 +4,8 @@ ghost use mathlib.Core.Path.{_≡_};
 ghost use Prim.Native.Nat.{_<_, _≤_};
 ghost use lib.ListN.{length, drop, replicate};
 ghost use Rattle.letters.specs.Terms.Entry.{decoded};
-ghost use Rattle.scans.specs.Terms.Counted.{Counted};
+ghost use Rattle.scans.specs.Terms.Counted.{Counted, Touched};
 ghost use Rattle.scans.specs.Terms.Window.{ringIndex, ringEnd, window, newestIn};
-ghost use Rattle.scans.specs.Terms.Carry.{Touched};
 ghost use Rattle.scans.specs.Terms.Parts.{Queued, Coded, Walked};
 use crate::counts::lower_entry;
 

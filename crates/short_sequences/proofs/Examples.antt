@@ -1,7 +1,6 @@
 -- Worked examples.
 use mathlib.Core.Path.{_≡_, refl}
-use mathlib.Core.List.{List, [], _∷_, flatMap}
-use Prim.Native.Nat.{ℕ}
+use mathlib.Core.List.{[], _∷_, flatMap}
 use lib.ListN.{take}
 use Rattle.buffers.specs.Fill.{tabulate, tabulateFrom}
 use Rattle.checks.specs.Tests.{anyByte, thresholdBad}

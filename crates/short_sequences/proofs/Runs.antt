@@ -28,8 +28,7 @@ use Rattle.longdust.specs.Options.{defaults}
 use Rattle.longdust.specs.Checks.{refusal}
 use Rattle.longdust.specs.Mask.{mask}
 use Rattle.longdust.specs.Buffers.{Buffers, buffers, lengths}
-use Rattle.longdust.specs.Call.{lnRead, fRead, listed, Kept, Answered}
-use Rattle.longdust.specs.Call.{Filled as FilledBy}
+use Rattle.longdust.specs.Call.{lnRead, fRead, Kept, Answered}
 use Rattle.short_sequences.specs.declared.Masked.{Masked}
 use Rattle.short_sequences.specs.declared.Outcome.{Outcome}
 use Rattle.short_sequences.specs.Tallies.{shortOptions, lent, refusalOf, maskOf, isRefused, maskedLetters}

@@ -1,12 +1,11 @@
 -- Sequences tallied one after the other.
 use mathlib.Core.Path.{_≡_, refl, sym, ap, ap₂, subst, _∙_}
 use mathlib.Core.Bool.{Bool, true, false, not, _&&_, cond}
-use mathlib.Core.Logic.{⊎-elim}
 use mathlib.Core.List.{List, [], _∷_, _++_}
 use Prim.Native.Nat.{ℕ, zero, suc, _+_, _-_, _^_, _≤_, _<_}
 use native.Mathlib.Numerals.{add-one}
 use native.Mathlib.Omega.{arith}
-use borrow.Author.Tests.{eq-eqb, ne-eqb, eqb-true, eqb-false}
+use borrow.Author.Tests.{eqb-true, eqb-false}
 use lib.Dec.{eqb}
 use lib.ListN.{length, take, drop, getD, set, length-set}
 use lib.Seq.{ext-getD, take-suc, take-all, length-take-le, getD-set-same, getD-set-other}
@@ -17,7 +16,7 @@ use Rattle.short_sequences.specs.declared.Outcome.{Outcome}
 use Rattle.short_sequences.specs.Sequences.{sequencesOf}
 use Rattle.short_sequences.specs.Tallies.{isRefused, maskOf, maskedLetters, leadsTo, countOf, talliesOver, talliesOf, refusedOf, total}
 use Rattle.short_sequences.specs.Terms.Outcome.{outcomeOf, counted, oneIfRefused}
-use Rattle.short_sequences.proofs.Sequences.{sequences-count, sequence-size, few-sequences}
+use Rattle.short_sequences.proofs.Sequences.{sequences-count, sequence-size}
 
 -- One sequence more.
 count-more : (test : List ℕ → Bool) (ss : List (List ℕ)) (s : List ℕ) → countOf test (ss ++ (s ∷ [])) ≡ countOf test ss + cond (test s) 1 0

@@ -1,7 +1,7 @@
 -- A loop that fills a buffer with the sequence of an index, a letter in each turn: the index taken apart in base five.
-use mathlib.Core.Path.{_≡_, refl, sym, ap, ap₂, subst, _∙_}
+use mathlib.Core.Path.{_≡_, refl, sym, ap, subst, _∙_}
 use mathlib.Core.List.{List, [], _∷_}
-use Prim.Native.Nat.{ℕ, zero, suc, _+_, _-_, _*_, _/_, _%_, _^_, _≤_, _<_}
+use Prim.Native.Nat.{ℕ, suc, _+_, _-_, _/_, _%_, _^_, _≤_, _<_}
 use native.Mathlib.Nat.{mul-div-cancel-left}
 use native.Mathlib.Omega.{arith}
 use lib.ListN.{length, drop, getD, set}

@@ -1,13 +1,13 @@
 -- Intervals written as bytes, one after the other.
 use mathlib.Core.Path.{_≡_, refl, sym, ap, ap₂, _∙_}
-use mathlib.Core.List.{List, [], _∷_, _++_, append-assoc, append-nil}
-use Prim.Native.Nat.{ℕ, suc, _+_, _*_, _/_, _%_, _≤_, _<_}
+use mathlib.Core.List.{List, [], _∷_, _++_, append-assoc}
+use Prim.Native.Nat.{ℕ, _+_, _*_, _≤_, _<_}
 use native.Mathlib.Numerals.{add-one}
 use native.Mathlib.Omega.{arith}
-use lib.ListN.{length, take, getD, set, length-append}
+use lib.ListN.{length, take, getD, set}
 use lib.Seq.{take-all, take-suc, length-take-le}
 use Rattle.buffers.specs.Fill.{put, putAt}
-use Rattle.buffers.proofs.Put.{put-length, putAt-length, putAt-next, put-next, putAt-store, putAt-more}
+use Rattle.buffers.proofs.Put.{putAt-next, put-next, putAt-store, putAt-more}
 use Rattle.intervals.specs.Interval.{Interval, interval, intervalOf, listOf}
 use Rattle.intervals.proofs.Slice.{length-list, list-at}
 use Rattle.small.specs.Bytes.{fourBytes, pairBytes, bytesOf}

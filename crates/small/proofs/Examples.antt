@@ -7,7 +7,7 @@ use lib.Ieee.{ofBits, lt}
 use Rattle.checks.specs.Tests.{anyByte, thresholdBad}
 use Rattle.intervals.specs.Interval.{interval}
 use Rattle.scans.specs.declared.Xdrop.the-variants.{Length}
-use Rattle.tables.specs.declared.GcOption.the-variants.{Uniform, Auto}
+use Rattle.tables.specs.declared.GcOption.the-variants.{Uniform}
 use Rattle.longdust.specs.declared.LongdustOptions.{LongdustOptions}
 use Rattle.longdust.specs.Options.{threshold06}
 use Rattle.longdust.specs.Checks.{xdropBad}

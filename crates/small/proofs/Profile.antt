@@ -1,6 +1,6 @@
 -- What a request inside the profile has: the masking calls accept it in the work space, and its output has room.
 use mathlib.Core.Path.{_≡_, refl, sym, _∙_}
-use mathlib.Core.Bool.{Bool, false, _||_, cond, true≢false}
+use mathlib.Core.Bool.{Bool, false, cond, true≢false}
 use mathlib.Core.Logic.{⊎-elim}
 use mathlib.Core.List.{List}
 use Prim.Native.Nat.{ℕ, _+_, _*_, _/_, _^_, _≤_, _<_}

@@ -20,12 +20,13 @@ use Rattle.letters.proofs.Rolling.{kmer-none, kmer-next, value-small, entry-bel
 use Rattle.scans.specs.Setup.{Setup}
 use Rattle.scans.specs.Counts.{count, raise}
 use Rattle.scans.proofs.Counting.{hit-other, count-le, count-snoc, Counted, raise-counted, cleared-counted}
-use Rattle.strand.specs.Step.{intervalsOf}
-use Rattle.strand.proofs.Quiet.{quiet-intervals}
+use Rattle.step.specs.Step.{intervalsOf}
+use Rattle.step.proofs.Quiet.{quiet-intervals}
 use Rattle.intervals.specs.Interval.{Interval}
 use Rattle.intervals.specs.Merge.{interleave, nonempty, join, merge, backwards}
 use Rattle.longdust.specs.declared.LongdustOptions.{LongdustOptions}
-use Rattle.longdust.specs.Mask.{setup, maskOf, mask}
+use Rattle.longdust.specs.Mask.{setup, mask}
+use Rattle.mask.specs.Mask.{maskOf}
 use Rattle.small.specs.Bytes.{bytesOf}
 use Rattle.small.specs.Call.{filledMask}
 use Rattle.small.specs.Terms.Run.{Asked}

@@ -17,7 +17,7 @@ use Rattle.longdust.specs.declared.Answer.{Answer}
 use Rattle.longdust.specs.Mask.{setup, mask}
 use Rattle.longdust.specs.Buffers.{Buffers}
 use Rattle.longdust.specs.Call.{listed, Filled, Answered}
-use Rattle.longdust.proofs.Masks.{mask-room}
+use Rattle.mask.proofs.Masks.{mask-room}
 use Rattle.small.specs.declared.Written.{Written}
 use Rattle.small.specs.Bytes.{fourBytes, bytesOf}
 use Rattle.small.specs.Call.{filledMask, Writes}

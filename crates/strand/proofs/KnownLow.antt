@@ -14,16 +14,16 @@ use Rattle.scans.specs.Setup.{Setup, kmers}
 use Rattle.scans.specs.Counts.{cleared}
 use Rattle.scans.specs.Scans.{Find, Outcome}
 use Rattle.certificates.specs.declared.LowStarts.{LowStarts}
-use Rattle.scans.specs.declared.Scanned.{Scanned}
+use Rattle.search.specs.declared.Scanned.{Scanned}
 use Rattle.scans.specs.Terms.Window.{findOf}
-use Rattle.scans.specs.Terms.Carry.{countsLeft, Answers}
+use Rattle.search.specs.Terms.Carry.{countsLeft, Answers}
 use Rattle.certificates.specs.Terms.Low as certificates
 use Rattle.scans.proofs.Counting.{below-take, below-drop}
 use Rattle.certificates.proofs.LowScan.{low-drop}
-use Rattle.strand.specs.declared.Low.{Low}
+use Rattle.strand.specs.declared.known.LowSince.{LowSince}
 use Rattle.strand.specs.Terms.ReadingOn.{runTo}
 use Rattle.strand.specs.Terms.LowStarts.{noLow, KnownLow, AsksLow, Renewed}
-use Rattle.strand.proofs.Placing.{newest, newest-length, window-newest}
+use Rattle.step.proofs.Placing.{newest, newest-length, window-newest}
 
 -- ---- The window after `made` places, in that after i places.
 part : (n m : ℕ) (l : List Place) → n ≤ length l → take m (drop n l) ≡ drop n (take (n + m) l)
@@ -52,10 +52,10 @@ module _ (w : ℕ) (ps : List Place) {made i : ℕ} (earlier : made ≤ i) (h : 
       ∙ sym (drop-drop (i - w - (made - w)) (made - w) (take made ps))
 
 -- ---- What is known: nothing at first.
-pub known-none : {S : Setup} {codes : List ℕ} {i : ℕ} {c : Low} → c ≡ noLow → KnownLow S codes i c
+pub known-none : {S : Setup} {codes : List ℕ} {i : ℕ} {c : LowSince} → c ≡ noLow → KnownLow S codes i c
 known-none e = rw e (record { made-in = omega arith; low = record { bounds = λ on. absurd (false≢true on) } })
 
-module _ {S : Setup} {codes : List ℕ} {i : ℕ} {c : Low} (k : KnownLow S codes i c) where
+module _ {S : Setup} {codes : List ℕ} {i : ℕ} {c : LowSince} (k : KnownLow S codes i c) where
   pub known-on : {j : ℕ} → i ≤ j → KnownLow S codes j c
   known-on h = record { made-in = omega (arith, k .made-in); low = k .low }
 
@@ -80,7 +80,7 @@ module _ {S : Setup} {codes : List ℕ} {i : ℕ} {c : Low} (k : KnownLow S code
       }
 
 -- ---- After a search: what was known, or what is found in the window.
-module _ {S : Setup} {q : List Place} {i : ℕ} {c : Low} where
+module _ {S : Setup} {q : List Place} {i : ℕ} {c : LowSince} where
   pub renewed-same : {counts : List ℕ} → Renewed S q i c c counts counts
   renewed-same = record { known = λ codes e k. known-on k (omega arith); counts-are = refl }
 

@@ -16,19 +16,19 @@ use Rattle.intervals.specs.Interval.{Interval}
 use Rattle.scans.specs.declared.Params.{Params}
 use Rattle.scans.specs.Setup.{Setup}
 use Rattle.scans.specs.Terms.Numbers.{setupOf}
-use Rattle.strand.specs.Step.{isAt, whole, step, run}
-use Rattle.strand.specs.declared.Open.{Open}
-use Rattle.strand.specs.declared.State.{State}
-use Rattle.strand.specs.Terms.KnownCounts.{sought}
-use Rattle.strand.specs.Terms.Entering.{held, newestOf, Entered, Next, Enters}
-use Rattle.strand.specs.Terms.Searching.{isSearched}
-use Rattle.strand.specs.Terms.Finding.{PassedOn}
+use Rattle.step.specs.Step.{isAt, whole, step, run}
+use Rattle.step.specs.declared.hand.Open.{Open}
+use Rattle.step.specs.declared.state.State.{State}
+use Rattle.step.specs.Terms.KnownCounts.{sought}
+use Rattle.step.specs.Terms.Entering.{held, newestOf, Entered, Next, Enters}
+use Rattle.step.specs.Terms.Searching.{isSearched}
+use Rattle.step.specs.Terms.Finding.{PassedOn}
 use Rattle.strand.specs.Terms.ReadingOn.{runTo, Read, Skims, Skimmed}
-use Rattle.strand.proofs.Moving.{window-below}
-use Rattle.strand.proofs.Searching.{look-unsearched, seeks-passed}
-use Rattle.strand.proofs.Like.{ended}
-use Rattle.strand.proofs.Placing.{run-next}
-use Rattle.strand.proofs.Letter.{Settled, SeeksAt, looked-windowed, looked-known, settles, passed-find, stepped}
+use Rattle.step.proofs.Moving.{window-below}
+use Rattle.step.proofs.Searching.{look-unsearched, seeks-passed}
+use Rattle.step.proofs.Like.{ended}
+use Rattle.step.proofs.Placing.{run-next}
+use Rattle.step.proofs.Letter.{Settled, SeeksAt, looked-windowed, looked-known, settles, passed-find, stepped}
 
 -- The places of one more letter.
 pub places-take : (k : ℕ) (codes : List ℕ) (i : ℕ) → i < length codes → take (i + 1) (places k codes) ≡ take i (places k codes) ++ placeAt k codes i ∷ []

@@ -18,30 +18,30 @@ use Rattle.intervals.proofs.Slice.{length-list}
 use Rattle.scans.specs.declared.Params.{Params}
 use Rattle.scans.specs.Setup.{Setup}
 use Rattle.scans.specs.Terms.Numbers.{setupOf}
-use Rattle.scans.specs.declared.Scanned.{Scanned}
+use Rattle.search.specs.declared.Scanned.{Scanned}
 use Rattle.scans.specs.Counts.{cleared}
 use Rattle.scans.specs.Terms.Window.{queue, window}
 use Rattle.scans.proofs.Counting.{cleared-counted}
 use Rattle.scans.proofs.Windows.{long}
-use Rattle.strand.specs.Step.{Run, begin, isAt, whole, saveFrom, look, runFrom, run, intervalsOfPlaces, intervalsOf}
-use Rattle.strand.specs.declared.Open.{Open}
-use Rattle.strand.specs.declared.State.{State}
-use Rattle.strand.specs.declared.Look.{Look}
-use Rattle.strand.specs.declared.Look.the-variants.{Pass, Extension, Scan}
-use Rattle.strand.specs.Terms.KnownCounts.{KnownCounts, Sought, sought, Passing, extendedOf, answeredBy}
-use Rattle.strand.specs.Terms.Like.{Like}
-use Rattle.strand.specs.Terms.Entering.{held, newestOf, Entered}
-use Rattle.strand.specs.Terms.Searching.{Looks}
-use Rattle.strand.specs.Terms.Finding.{Closing, savedIn, Saving, TakesFind, PassedOn}
-use Rattle.strand.specs.Terms.ReadingOn.{unread, runTo, Skims, Stops}
-use Rattle.strand.specs.Terms.Running.{PartLent, StrandLent, Finished, StartOk, Shaped, Before, ScanAnswer, Asking, Due, StrandList}
-use Rattle.strand.proofs.Shape.{ShapedAt, shaped-more, saved-room, begin-shaped, step-shaped}
-use Rattle.strand.proofs.KnownCounts.{known-unread}
-use Rattle.strand.proofs.Like.{ended, like-refl, like-window, like-start, like-end, like-saved}
-use Rattle.strand.proofs.Placing.{window-newest, enters-newest}
-use Rattle.strand.proofs.Moving.{window-below}
-use Rattle.strand.proofs.Searching.{passing, seeks-answered, looked-counts, seeks-passed, seeks-extended, seeks-scanned}
-use Rattle.strand.proofs.Letter.{Settled, SeeksAt, found-within, settles, passed-find, stepped}
+use Rattle.step.specs.Step.{Run, begin, isAt, whole, saveFrom, look, runFrom, run, intervalsOfPlaces, intervalsOf}
+use Rattle.step.specs.declared.hand.Open.{Open}
+use Rattle.step.specs.declared.state.State.{State}
+use Rattle.step.specs.declared.state.Look.{Look}
+use Rattle.step.specs.declared.state.Look.the-variants.{Pass, Extension, Scan}
+use Rattle.step.specs.Terms.KnownCounts.{KnownCounts, Sought, sought, Passing, extendedOf, answeredBy}
+use Rattle.step.specs.Terms.Like.{Like}
+use Rattle.step.specs.Terms.Entering.{held, newestOf, Entered, unread}
+use Rattle.step.specs.Terms.Searching.{Looks}
+use Rattle.step.specs.Terms.Finding.{Closing, savedIn, Saving, TakesFind, PassedOn, StartOk, Shaped}
+use Rattle.strand.specs.Terms.ReadingOn.{runTo, Skims, Stops}
+use Rattle.strand.specs.Terms.Running.{PartLent, StrandLent, Finished, Before, ScanAnswer, Asking, Due, StrandList}
+use Rattle.step.proofs.Shape.{ShapedAt, shaped-more, saved-room, begin-shaped, step-shaped}
+use Rattle.step.proofs.KnownCounts.{known-unread}
+use Rattle.step.proofs.Like.{ended, like-refl, like-window, like-start, like-end, like-saved}
+use Rattle.step.proofs.Placing.{window-newest, enters-newest}
+use Rattle.step.proofs.Moving.{window-below}
+use Rattle.step.proofs.Searching.{passing, seeks-answered, looked-counts, seeks-passed, seeks-extended, seeks-scanned}
+use Rattle.step.proofs.Letter.{Settled, SeeksAt, found-within, settles, passed-find, stepped}
 use Rattle.strand.proofs.ReadingOn.{places-take, run-turn}
 
 -- ---- Room to save.

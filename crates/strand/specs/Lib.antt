@@ -1,4 +1,1 @@
-pub mod Step
-pub mod ScanFind
-pub mod Dropping
 pub mod Terms

@@ -4,14 +4,14 @@ use mathlib.Core.Bool.{Bool, true, false, not}
 use mathlib.Core.Logic.{_↔_}
 use Prim.Native.Nat.{ℕ, suc, _+_, _-_, _≤_, _<_}
 use native.Mathlib.Omega.{arith}
-use lib.Dec.{T, ltb, leb, ltb→lt, lt→ltb, nleb→lt}
+use lib.Dec.{T, ltb, ltb→lt, lt→ltb, nleb→lt}
 use lib.IntN.{ℤ, pos, negsuc, _-ℤ_}
 use lib.Signed.{ltZ, leZ, mag, _≤ℤ_, _<ℤ_}
 use mir.Syntax.{w64}
 use mir.Val.{SFits, toZ, ofZ}
 use mir.ValLaws.{toZ-pos, toZ-ofZ}
-use borrow.Author.Tests.{ltb-true, ltb-false, lt-ltb, le-ltb, leb-true, leb-false, le-leb, lt-leb}
-use Rattle.floats.proofs.Whole.{Is, is-as, is-sub, is-le}
+use borrow.Author.Tests.{ltb-true, ltb-false, lt-ltb, le-ltb}
+use Rattle.floats.proofs.Whole.{Is, is-as, is-sub, is-le, le-is}
 use Rattle.strongest.specs.Strongest.{excess}
 
 pub is-pos : (a : ℕ) → Is (pos a) a 0
@@ -38,19 +38,6 @@ lt-is (pos i) (pos j) a b c d h k = ltb-same i j (a + d) (c + b) (λ l. omega ar
 lt-is (pos i) (negsuc j) a b c d h k = sym (le-ltb (a + d) (c + b) (omega arith))
 lt-is (negsuc i) (pos j) a b c d h k = sym (lt-ltb (a + d) (c + b) (omega arith))
 lt-is (negsuc i) (negsuc j) a b c d h k = ltb-same j i (a + d) (c + b) (λ l. omega arith) (λ l. omega arith)
-
-leb-same : (i j p q : ℕ) → (i ≤ j → p ≤ q) → (j < i → q < p) → leb i j ≡ leb p q
-leb-same i j p q f g = go (leb i j) refl
-  where
-    go : (b : Bool) → leb i j ≡ b → b ≡ leb p q
-    go true e = sym (le-leb p q (f (leb-true i j e)))
-    go false e = sym (lt-leb p q (g (leb-false i j e)))
-
-pub le-is : (x y : ℤ) (a b c d : ℕ) → Is x a b → Is y c d → leZ x y ≡ leb (a + d) (c + b)
-le-is (pos i) (pos j) a b c d h k = leb-same i j (a + d) (c + b) (λ l. omega arith) (λ l. omega arith)
-le-is (pos i) (negsuc j) a b c d h k = sym (lt-leb (a + d) (c + b) (omega arith))
-le-is (negsuc i) (pos j) a b c d h k = sym (le-leb (a + d) (c + b) (omega arith))
-le-is (negsuc i) (negsuc j) a b c d h k = leb-same j i (a + d) (c + b) (λ l. omega arith) (λ l. omega arith)
 
 pub excess-is : (z : ℤ) (a b : ℕ) → Is z a b → excess z ≡ a - b
 excess-is (pos i) a b h = omega arith

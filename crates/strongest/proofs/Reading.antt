@@ -10,13 +10,13 @@ use lib.ListN.{getD}
 use lib.IntN.{ℤ, pos, _+ℤ_, _-ℤ_, _*ℤ_}
 use lib.Signed.{leZ}
 use borrow.Author.Tests.{eqb-true, eqb-false}
-use Rattle.floats.proofs.Whole.{Is, is-as, is-sub}
+use Rattle.floats.proofs.Whole.{Is, is-as, is-sub, le-is}
 use Rattle.scans.specs.Score.{lnSums}
 use Rattle.scans.proofs.Exact.{sums-none}
 use Rattle.strongest.specs.declared.scores.Reading.{Reading}
 use Rattle.strongest.specs.Strongest.{entry, bestOf}
 use Rattle.strongest.specs.Terms.Reading.{backTo, scoresBack, nothing, judged, Reads}
-use Rattle.strongest.proofs.Order.{is-pos, difference-is, is-same, le-is}
+use Rattle.strongest.proofs.Order.{is-pos, difference-is, is-same}
 use Rattle.strongest.proofs.Best.{best-one, best-new, best-old}
 use Rattle.strongest.proofs.Backward.{back-length}
 

@@ -1,7 +1,7 @@
 // The places of a strand, read backward from its last letter, and their scan counts.
 
 ghost use mathlib.Core.Path.{_≡_};
-ghost use Prim.Native.Nat.{ℕ, _+_, _-_, _*_, _/_, _%_, _^_, _≤_, _<_, min};
+ghost use Prim.Native.Nat.{_+_, _-_, _/_, _%_, _^_, _≤_, _<_, min};
 ghost use lib.ListN.{length, getD};
 ghost use Rattle.letters.specs.Place.{placeAt};
 ghost use Rattle.letters.specs.Terms.Entry.{decode};

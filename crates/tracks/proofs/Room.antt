@@ -8,7 +8,7 @@ use native.Mathlib.Omega.{arith}
 use lib.Dec.{ltb, leb}
 use lib.ListN.{length}
 use borrow.Author.Tests.{leb-true, lt-ltb, le-ltb, le-leb, lt-leb}
-use Rattle.intervals.specs.Interval.{Interval, interval, Covers, covered, Ascending}
+use Rattle.intervals.specs.Interval.{Interval, Covers, covered, Ascending}
 use Rattle.intervals.specs.Save.{staying, save}
 use Rattle.intervals.proofs.Order.{lt-or-le}
 use Rattle.intervals.proofs.Saving.{save-touch, save-past}

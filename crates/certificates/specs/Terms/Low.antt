@@ -19,7 +19,8 @@ use Rattle.scans.specs.Scans.{value, secondValue, none, dustBackward}
 use Rattle.scans.specs.Judged.{sumOver}
 use Rattle.scans.specs.Terms.Counted.{Counted}
 use Rattle.scans.specs.Terms.Shape.{Usual}
-use Rattle.scans.specs.Terms.Certified.{gain, loss, Kept}
+use Rattle.scans.specs.Terms.Units.{gain, loss}
+use Rattle.search.specs.Terms.Certified.{Kept}
 use Rattle.certificates.specs.Terms.Made.{AtLeast}
 
 -- Nothing is known.

@@ -12,7 +12,7 @@ use Rattle.floats.specs.Binary64.{zero64, twoTo20}
 use Rattle.floats.proofs.Rounded.{Near, Ranged, pos64, neg64}
 use Rattle.floats.proofs.Sums.{After, err}
 use Rattle.letters.specs.Place.{Place}
-use Rattle.scans.specs.declared.Certificate.{Certificate}
+use Rattle.search.specs.declared.Certificate.{Certificate}
 use Rattle.scans.specs.declared.Params.{Params}
 use Rattle.certificates.specs.declared.certify.Reading.{Reading}
 use Rattle.certificates.specs.declared.certify.Middle.{Middle}
@@ -24,7 +24,8 @@ use Rattle.scans.specs.Counts.{cleared}
 use Rattle.scans.specs.Terms.Numbers.{setupOf}
 use Rattle.scans.specs.Terms.Counted.{Counted}
 use Rattle.scans.specs.Terms.Parts.{Ringed}
-use Rattle.scans.specs.Terms.Certified.{margin, distance, unevenness, gain, loss, lossAhead, strayed, Kept, LowUnits, Certifiable, Bounds, Certified}
+use Rattle.scans.specs.Terms.Units.{margin, distance, unevenness, gain, loss}
+use Rattle.search.specs.Terms.Certified.{lossAhead, strayed, Kept, LowUnits, Certifiable, Bounds, Certified}
 
 abbrev pub larger : Float → Float → Float
 larger a b = cond (lt a b) b a

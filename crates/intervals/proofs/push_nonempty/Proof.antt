@@ -1,9 +1,6 @@
 -- `push_nonempty` meets its contract: an interval with no letter is none.
-use mathlib.Core.Path.{sym, ap, _∙_}
-use mathlib.Core.List.{List}
-use Prim.Native.Nat.{ℕ}
+use mathlib.Core.Path.{sym}
 use native.Mathlib.Omega.{arith}
-use lib.ListN.{set}
 use borrow.Author.Needs.{needs}
 use Rattle.buffers.proofs.Put.{putAt-store, putAt-none}
 use Rattle.intervals.proofs.Joining.{marked-some, marked-none}

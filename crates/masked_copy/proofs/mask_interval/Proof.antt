@@ -1,5 +1,4 @@
 -- `masked_copy::mask_interval` meets its contract: it holds none of the letters, or those of the part that is lent.
-use mathlib.Core.Path.{sym, _∙_}
 use native.Mathlib.Omega.{arith}
 use borrow.Author.Needs.{needs}
 use Rattle.masked_copy.proofs.Copying.{copy-outside, copy-part}

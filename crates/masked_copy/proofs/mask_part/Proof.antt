@@ -1,7 +1,6 @@
 -- `masked_copy::mask_part` meets its contract: case by case.
 use mathlib.Core.Path.{sym, ap, _∙_}
-use mathlib.Core.List.{List, map}
-use Prim.Native.Nat.{ℕ}
+use mathlib.Core.List.{map}
 use borrow.Author.Needs.{needs}
 use Rattle.masked_copy.specs.declared.Masking.{Masking}
 use Rattle.masked_copy.specs.Copy.{shown}

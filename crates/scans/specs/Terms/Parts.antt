@@ -5,7 +5,7 @@ use mathlib.Core.List.{List, _++_}
 use Prim.Native.Nat.{ℕ, zero, suc, _+_, _-_, _/_, _<_, _≤_}
 use lib.ListN.{length, getD, drop}
 use lib.Dec.{eqb, ltb}
-use lib.Ieee.{Float, nan, lt, le}
+use lib.Ieee.{Float, nan, lt, le, inf}
 use Rattle.floats.specs.Arithmetic.{_⊕_, _⊖_}
 use Rattle.floats.specs.Binary64.{zero64, tiny}
 use Rattle.letters.specs.Place.{Place, ambiguous, plain}
@@ -15,7 +15,7 @@ use Rattle.scans.specs.declared.backward.BackwardState.{BackwardState}
 use Rattle.scans.specs.Setup.{Setup, fAt, kmers}
 use Rattle.scans.specs.Counts.{count, raise, cleared}
 use Rattle.scans.specs.Terms.Counted.{Counted}
-use Rattle.scans.specs.Scans.{ForwardSums, Forward, forwardFrom, BackwardSums, backwardStart, isNoted}
+use Rattle.scans.specs.Scans.{ForwardSums, forwardStart, Forward, forwardFrom, BackwardSums, backwardStart, isNoted}
 use Rattle.scans.specs.Terms.Window.{queue, countedValue}
 
 -- A ring holds `len` entries, and each of their k-mers has a count.
@@ -44,6 +44,10 @@ pub record UpTo (n : ℕ) (counts : List ℕ) : Type 0 where
   pub at-most : (x : ℕ) → getD counts x 0 ≤ n
 
 -- ---- The forward scan.
+-- The forward scan over all of the places: nothing is above its limit, so it is never stopped.
+abbrev pub wholeForward : Setup → List Place → Forward
+wholeForward S es = forwardFrom S (inf false) es 1 0 forwardStart (cleared S)
+
 abbrev pub forwardOf : ForwardState → ForwardSums
 forwardOf a = record { s = a .s; best = a .best; found = a .found }
 
@@ -201,10 +205,3 @@ pub record GoesOn (S : Setup) (window-counts : List ℕ) (quick : Bool) (q : Lis
   pub here : Backs (kmers S) q b
   pub kept : b .sums .found ≡ 0 → a .sums .found ≡ 0
   pub peaked : quick ≡ false → b .paused ≡ true → b .sums .found ≡ 0 → ⊥
-
--- The whole quick scan rests at b.
-pub record ScansQuick (S : Setup) (q : List Place) (b : Rest) : Type 0 where
-  pub window-counts : List ℕ
-  pub window-counted : Counted (kmers S) window-counts q
-  pub scanned : b ≡ restFrom S window-counts true q (length q) backwardStart (cleared S)
-  pub here : Backs (kmers S) q b

@@ -1,5 +1,5 @@
 -- `short_sequences::clear` meets its contract: no sequence is counted yet.
-use mathlib.Core.Path.{refl, sym, _∙_}
+use mathlib.Core.Path.{refl, _∙_}
 use Prim.Native.Nat.{_+_, _-_}
 use mathlib.Core.List.{[]}
 use native.Mathlib.Omega.{arith}

@@ -1,5 +1,4 @@
 -- `short_sequences::count_outcome` meets its contract: refused or not.
-use mathlib.Core.Path.{refl}
 use borrow.Author.Needs.{needs}
 use Rattle.short_sequences.proofs.count_outcome.Statement.{statement}
 use Rattle.short_sequences.proofs.count_outcome.Tie as tie

@@ -2,7 +2,6 @@
 use mathlib.Core.Path.{_≡_, sym, ap, _∙_}
 use mathlib.Core.List.{List, []}
 use Prim.Native.Nat.{ℕ, _^_, _≤_}
-use lib.ListN.{length}
 use lib.Seq.{length-take-le}
 use lib.Ieee.{Float}
 use borrow.Author.Needs.{needs}

@@ -7,8 +7,8 @@ use lib.Ieee.{Float}
 use Rattle.scans.specs.declared.ForwardPosition.{ForwardPosition}
 use Rattle.scans.specs.declared.Params.{Params}
 use Rattle.scans.specs.Terms.Numbers.{setupOf}
-use Rattle.strand.specs.declared.Low.{Low}
-use Rattle.strand.specs.declared.State.{State}
+use Rattle.strand.specs.declared.known.LowSince.{LowSince}
+use Rattle.step.specs.declared.state.State.{State}
 use Rattle.strand.specs.Terms.LowStarts.{KnownLow}
 use Rattle.strand.specs.Terms.Running.{Before}
 use Rattle.strand.proofs.KnownLow.{known-none, known-on, answers-same, answers-clear}
@@ -20,7 +20,7 @@ mod Tie
 
 -- Where the run stands, and what that does not tell of the sizes of the lent slices.
 record Around (p : Params) (codes : List ℕ) (ln f : List Float) (candidates₀ : List ForwardPosition) (list₀ : List (List ℕ))
-    (queue window-counts scan-counts : List ℕ) (candidates : List ForwardPosition) (list : List (List ℕ)) (st : State) (low : Low) : Type 0 where
+    (queue window-counts scan-counts : List ℕ) (candidates : List ForwardPosition) (list : List (List ℕ)) (st : State) (low : LowSince) : Type 0 where
   inv : Before p codes ln f st queue window-counts scan-counts list
   known : KnownLow (setupOf p ln f) codes (st .i) low
   counts-are : length scan-counts ≡ 4 ^ p .kmer

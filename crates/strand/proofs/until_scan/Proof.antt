@@ -6,17 +6,15 @@ use lib.ListN.{length}
 use lib.Ieee.{Float}
 use borrow.Author.Needs.{needs}
 use Rattle.scans.specs.declared.Params.{Params}
-use Rattle.scans.proofs.Walk.{windowed-queued}
 use Rattle.scans.proofs.Windows.{long}
-use Rattle.scans.proofs.Trying.{answers-none}
-use Rattle.strand.specs.declared.Open.{Open}
-use Rattle.strand.specs.declared.State.{State}
-use Rattle.strand.specs.Terms.Finding.{Saving}
+use Rattle.step.specs.declared.hand.Open.{Open}
+use Rattle.step.specs.declared.state.State.{State}
+use Rattle.step.specs.Terms.Finding.{Saving}
 use Rattle.strand.specs.Terms.ReadingOn.{Stops}
-use Rattle.strand.specs.Terms.Running.{Before, ScanAnswer}
+use Rattle.strand.specs.Terms.Running.{Before}
 use Rattle.strand.proofs.ReadingOn.{small}
 use Rattle.strand.proofs.KnownLow.{known-on, asks-low}
-use Rattle.strand.proofs.Running.{saving, cleared-is, stopped-hand, stopped-further, entered-window, inv-end, look-passing, scan-asking, answer-within, before-answered, before-passed, before-extended, due-scan}
+use Rattle.strand.proofs.Running.{saving, stopped-hand, stopped-further, entered-window, inv-end, look-passing, scan-asking, answer-within, before-answered, before-passed, before-extended, due-scan}
 use Rattle.strand.proofs.until_scan.Statement.{statement}
 use Rattle.strand.proofs.until_scan.Tie as tie
 
@@ -137,30 +135,37 @@ same-looked c = c .look .kept .1 .1 .1 .1 .1 .1 .0 ∙ same-scan (skimmed (stopp
 all-counts : (c : tie.After-look Inv-loop μ-loop) → length (c .look .last .1 .1 .1 .1 .1 .1 .0) ≡ 4 ^ start (looped (skimmed (stopped c))) .args .p .kmer
 all-counts c = same-looked c ∙ start (looped (skimmed (stopped c))) .pre .0 .counts-is
 
-abbrev due-at : tie.After-certain Inv-loop μ-loop → tie.After-enum-told Inv-loop μ-loop
-due-at c = c .before .before .before .before .before
+abbrev due-at : tie.After-foretell Inv-loop μ-loop → tie.After-enum-told Inv-loop μ-loop
+due-at c = c .before .before .before .before
 
-abbrev told : tie.Then2 Inv-loop μ-loop → tie.After-certain Inv-loop μ-loop
-told c = c .before .before .before .before
+abbrev told : tie.Then2 Inv-loop μ-loop → tie.After-foretell Inv-loop μ-loop
+told c = c .before .before .before
 
-abbrev untold : tie.Else2 Inv-loop μ-loop → tie.After-certain Inv-loop μ-loop
-untold c = c .before .before .before .before
+abbrev untold : tie.Else2 Inv-loop μ-loop → tie.After-foretell Inv-loop μ-loop
+untold c = c .before .before .before
 
-certain-requires : tie.Need-certain-requires Inv-loop μ-loop
-certain-requires c κs =
-    let t = c .before .before .before .before in
+foretell-requires : tie.Need-foretell-requires Inv-loop μ-loop
+foretell-requires c κs =
+    let t = c .before .before .before in
     let l = scanning t in
     let x = stopped l in
     let g = looped (skimmed x) in
     let b = start g .pre in
-    (scan-asking (g .loop .inv .inv) (stops x) (x .if1 .left) (l .look .ensures) (t .enum-told .given .1) (all-counts l) (b .0 .f-long), b .1 .1 .0)
+    let w = stops x .enters .entered .windowed in (
+      omega (arith, letter-small x),
+      (
+        scan-asking (g .loop .inv .inv) (stops x) (x .if1 .left) (l .look .ensures) (t .enum-told .given .1) (all-counts l) (b .0 .f-long),
+        (
+          b .1 .1 .0,
+          asks-low (known-on (b .1 .1 .1) (omega (arith, g .loop .inv .further, further x))) (omega (arith, w .wide)) (x .if1 .left) (long w)
+              (entered-window (g .loop .inv .inv) (stops x) (x .if1 .left)),
+        ),
+      ),
+    )
 
--- The carried scan leaves the number of scan counts too.
-same-certain : (c : tie.After-certain Inv-loop μ-loop) → length (c .certain .last .1 .1 .1 .1 .1 .1 .0) ≡ length (start (looped (skimmed (stopped (scanning (due-at c))))) .args .scan-counts .now)
-same-certain c = c .certain .kept .1 .1 .1 .1 .1 .1 .0 ∙ same-looked (scanning (due-at c))
-
-certain-counts : (c : tie.After-certain Inv-loop μ-loop) → length (c .certain .last .1 .1 .1 .1 .1 .1 .0) ≡ 4 ^ start (looped (skimmed (stopped (scanning (due-at c))))) .args .p .kmer
-certain-counts c = same-certain c ∙ start (looped (skimmed (stopped (scanning (due-at c))))) .pre .0 .counts-is
+-- What is known of the scan leaves the number of scan counts too.
+same-foretold : (c : tie.After-foretell Inv-loop μ-loop) → length (c .foretell .last .1 .1 .1 .1 .1 .1 .1 .0) ≡ length (start (looped (skimmed (stopped (scanning (due-at c))))) .args .scan-counts .now)
+same-foretold c = c .foretell .kept .1 .1 .1 .1 .1 .1 .1 .0 ∙ same-looked (scanning (due-at c))
 
 answered-requires : tie.Need-answered-requires Inv-loop μ-loop
 answered-requires c κs =
@@ -174,7 +179,7 @@ answered-requires c κs =
       (
         omega (arith, letter-small x),
         omega (arith, w .len-in, w .small),
-        answer-within (g .loop .inv .inv) (stops x) (x .if1 .left) (l .look .ensures) (t .enum-told .given .1) (k .certain .ensures .tells (d .if2 .taken)),
+        answer-within (g .loop .inv .inv) (stops x) (x .if1 .left) (l .look .ensures) (t .enum-told .given .1) (k .foretell .ensures .tells (d .if2 .taken)),
         start g .pre .0 .kmer-small,
       ),
       can-save-there x,
@@ -199,111 +204,20 @@ loop-again c =
     let x = stopped l in
     let h = looped (skimmed x) .loop .inv in
     record {
-      inv = before-answered (h .inv) (stops x) (x .if1 .left) (l .look .ensures) (t .enum-told .given .1) (k .certain .ensures .tells (d .if2 .taken)) (y .answered .ensures .0) (y .answered .ensures .1);
+      inv = before-answered (h .inv) (stops x) (x .if1 .left) (l .look .ensures) (t .enum-told .given .1) (k .foretell .ensures .tells (d .if2 .taken)) (y .answered .ensures .0) (y .answered .ensures .1);
       further = omega (arith, h .further, further x, y .answered .ensures .0 .i-is);
       same-queue = same-ring (skimmed x);
       same-window-counts = same-window (skimmed x);
-      same-scan-counts = same-certain k;
+      same-scan-counts = same-foretold k;
       same-list = y .answered .kept .1 .1 .1 .0 ∙ h .same-list;
     }
 
-clear-requires : tie.Need-clear-requires Inv-loop μ-loop
-clear-requires c κs =
-    let d = c .before .before in
-    let k = untold d in
-    (windowed-queued (stops (stopped (scanning (due-at k))) .enters .entered .windowed) (certain-counts k), k .certain .ensures .clearing (d .if2 .left))
-
-abbrev cleared : tie.After-slice-known9 Inv-loop μ-loop → tie.After-clear Inv-loop μ-loop
-cleared c = c .before .before
-
-abbrev missed : tie.After-clear Inv-loop μ-loop → tie.After-certain Inv-loop μ-loop
-missed c = untold (c .before .before .before)
-
-tells-requires : tie.Need-tells-requires Inv-loop μ-loop
-tells-requires c κs =
-    let d = cleared (c .before .before .before) in
-    let k = missed d in
-    let x = stopped (scanning (due-at k)) in
-    let g = looped (skimmed x) in
-    let b = start g .pre in
-    let w = stops x .enters .entered .windowed in (
-      (omega (arith, letter-small x), b .0 .f-long, cleared-is (certain-counts k) (d .clear .ensures)),
-      (
-        w,
-        asks-low (known-on (b .1 .1 .1) (omega (arith, g .loop .inv .further, further x))) (omega (arith, w .wide)) (x .if1 .left) (long w)
-            (entered-window (g .loop .inv .inv) (stops x) (x .if1 .left)),
-      ),
-    )
-
-abbrev asked : tie.After-tells Inv-loop μ-loop → tie.After-certain Inv-loop μ-loop
-asked c = missed (cleared (c .before .before .before .before))
-
-abbrev told-none : tie.After-nothing Inv-loop μ-loop → tie.After-tells Inv-loop μ-loop
-told-none c = c .before .before .before .before
-
-abbrev untold-none : tie.Else3 Inv-loop μ-loop → tie.After-tells Inv-loop μ-loop
-untold-none c = c .before .before .before
-
--- Low starts leave the number of scan counts too.
-same-tells : (c : tie.After-tells Inv-loop μ-loop) → length (c .tells .last .1 .1 .1 .1 .1 .1 .1 .0) ≡ length (start (looped (skimmed (stopped (scanning (due-at (asked c)))))) .args .scan-counts .now)
-same-tells c = c .tells .kept .1 .1 .1 .1 .1 .1 .1 .0 ∙ cleared (c .before .before .before .before) .clear .kept .1 .1 .0 ∙ same-certain (asked c)
-
--- The search finds nothing.
-answer-none : (c : tie.After-nothing Inv-loop μ-loop) → let t = told-none c in let s = skimmed (stopped (scanning (due-at (asked t)))) in let a = start (looped s) .args in
-    ScanAnswer (a .p) (a .ln .now) (a .f .now) (s .skim .result .window) (s .skim .last .1 .1 .1 .1 .1 .0) (c .nothing .result) (t .tells .last .1 .1 .1 .1 .1 .1 .1 .0)
-answer-none c =
-    let t = told-none c .tells .ensures in
-    answers-none _ _ _ _ _ (t .told (c .before .if3 .taken)) (c .nothing .ensures) (t .clear)
-
-answered-requires-2 : tie.Need-answered-requires-2 Inv-loop μ-loop
-answered-requires-2 c κs =
-    let n = c .before in
-    let t = due-at (asked (told-none n)) in
-    let l = scanning t in
-    let x = stopped l in
-    let g = looped (skimmed x) in
-    let w = stops x .enters .entered .windowed in (
-      (
-        omega (arith, letter-small x),
-        omega (arith, w .len-in, w .small),
-        answer-within (g .loop .inv .inv) (stops x) (x .if1 .left) (l .look .ensures) (t .enum-told .given .1) (answer-none n),
-        start g .pre .0 .kmer-small,
-      ),
-      can-save-there x,
-    )
-
-abbrev none-there : tie.After-answered2 Inv-loop μ-loop → tie.After-nothing Inv-loop μ-loop
-none-there c = c .before .before
-
-loop-less-2 : tie.Need-loop-less-2 Inv-loop μ-loop
-loop-less-2 c =
-    let y = c .before in
-    let x = stopped (scanning (due-at (asked (told-none (none-there y))))) in
-    omega (arith, x .if1 .left, further x, y .answered2 .ensures .0 .i-is)
-
-loop-again-2 : tie.Need-loop-again-2 Inv-loop μ-loop
-loop-again-2 c =
-    let y = c .before in
-    let n = none-there y in
-    let t = due-at (asked (told-none n)) in
-    let l = scanning t in
-    let x = stopped l in
-    let h = looped (skimmed x) .loop .inv in
-    record {
-      inv = before-answered (h .inv) (stops x) (x .if1 .left) (l .look .ensures) (t .enum-told .given .1) (answer-none n) (y .answered2 .ensures .0) (y .answered2 .ensures .1);
-      further = omega (arith, h .further, further x, y .answered2 .ensures .0 .i-is);
-      same-queue = same-ring (skimmed x);
-      same-window-counts = same-window (skimmed x);
-      same-scan-counts = same-tells (told-none n);
-      same-list = y .answered2 .kept .1 .1 .1 .0 ∙ h .same-list;
-    }
-
-abbrev left : tie.Else3 Inv-loop μ-loop → tie.Else1 Inv-loop μ-loop
-left c = stopped (scanning (due-at (asked (untold-none c))))
+abbrev left : tie.Else2 Inv-loop μ-loop → tie.Else1 Inv-loop μ-loop
+left c = stopped (scanning (due-at (untold c)))
 
 returns-2 : tie.Need-returns-2 Inv-loop μ-loop
 returns-2 c =
-    let k = asked (untold-none c) in
+    let k = untold c in
     let t = due-at k in
     let l = scanning t in
     let x = stopped l in
@@ -311,7 +225,7 @@ returns-2 c =
     record {
       further = omega (arith, g .loop .inv .further, further x);
       ended = λ h. absurd (let b : ⊥ = omega (arith, h, x .if1 .left) in b);
-      due = λ _. due-scan (g .loop .inv .inv) (stops x) (x .if1 .left) (l .look .ensures) (t .enum-told .given .1) (untold-none c .tells .ensures .clear) (can-save-there x);
+      due = λ _. due-scan (g .loop .inv .inv) (stops x) (x .if1 .left) (l .look .ensures) (t .enum-told .given .1) (k .foretell .ensures .clear (c .if2 .left)) (can-save-there x);
     }
 
 extended-requires : tie.Need-extended-requires Inv-loop μ-loop
@@ -322,20 +236,20 @@ extended-requires c κs =
     let w = n .windowed in
     ((omega (arith, letter-small x), omega (arith, w .len-in, w .small), omega (arith, n .some), b .kmer-small), can-save-there x)
 
-abbrev extended : tie.After-list3 Inv-loop μ-loop → tie.After-extended Inv-loop μ-loop
+abbrev extended : tie.After-list2 Inv-loop μ-loop → tie.After-extended Inv-loop μ-loop
 extended c = c .before
 
 abbrev extension : tie.After-extended Inv-loop μ-loop → tie.After-enum-told2 Inv-loop μ-loop
 extension c = c .before .before
 
-loop-less-3 : tie.Need-loop-less-3 Inv-loop μ-loop
-loop-less-3 c =
+loop-less-2 : tie.Need-loop-less-2 Inv-loop μ-loop
+loop-less-2 c =
     let y = extended c in
     let x = stopped (extending (extension y)) in
     omega (arith, x .if1 .left, further x, y .extended .ensures .0 .i-is)
 
-loop-again-3 : tie.Need-loop-again-3 Inv-loop μ-loop
-loop-again-3 c =
+loop-again-2 : tie.Need-loop-again-2 Inv-loop μ-loop
+loop-again-2 c =
     let y = extended c in
     let t = extension y in
     let l = extending t in
@@ -362,20 +276,20 @@ passed-requires c κs =
       look-passing (g .loop .inv .inv) (stops x) (x .if1 .left) (l .look .ensures) (t .enum-told3 .given .1) (all-counts l) (b .f-long),
     )
 
-abbrev passed : tie.After-slice-known11 Inv-loop μ-loop → tie.After-passed Inv-loop μ-loop
+abbrev passed : tie.After-slice-known9 Inv-loop μ-loop → tie.After-passed Inv-loop μ-loop
 passed c = c .before .before
 
 abbrev no-find : tie.After-passed Inv-loop μ-loop → tie.After-enum-told3 Inv-loop μ-loop
 no-find c = c .before .before .before .before
 
-loop-less-4 : tie.Need-loop-less-4 Inv-loop μ-loop
-loop-less-4 c =
+loop-less-3 : tie.Need-loop-less-3 Inv-loop μ-loop
+loop-less-3 c =
     let y = passed c in
     let x = stopped (passing (no-find y)) in
     omega (arith, x .if1 .left, further x, y .passed .ensures .i-is)
 
-loop-again-4 : tie.Need-loop-again-4 Inv-loop μ-loop
-loop-again-4 c =
+loop-again-3 : tie.Need-loop-again-3 Inv-loop μ-loop
+loop-again-3 c =
     let y = passed c in
     let t = no-find y in
     let l = passing t in
@@ -406,26 +320,20 @@ until-scan-spec =
     returns
     look-requires
     (λ c. search needs)
-    certain-requires
+    foretell-requires
     answered-requires
     loop-less
     loop-again
-    clear-requires
-    tells-requires
-    (λ c κs. tt)
-    answered-requires-2
-    loop-less-2
-    loop-again-2
     (λ c. same-ring (skimmed (left c)))
     (λ c. same-window (skimmed (left c)))
-    (λ c. same-tells (untold-none c))
+    (λ c. same-foretold (untold c))
     (λ c. looped (skimmed (left c)) .loop .inv .same-list)
     returns-2
     (λ c. search needs)
     extended-requires
-    loop-less-3
-    loop-again-3
+    loop-less-2
+    loop-again-2
     (λ c. search needs)
     passed-requires
-    loop-less-4
-    loop-again-4)
+    loop-less-3
+    loop-again-3)

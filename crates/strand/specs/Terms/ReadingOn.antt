@@ -1,37 +1,23 @@
 -- Terms of contracts: reading on to the next letter that is searched from.
 use mathlib.Core.Path.{_≡_}
 use Prim.Native.Nat.{ℕ, _<_, _≤_}
-use mathlib.Core.Bool.{true, false}
+use mathlib.Core.Bool.{true}
 use mathlib.Core.List.{List}
 use lib.ListN.{length, take}
-use lib.IntN.{negsuc}
 use lib.Ieee.{Float}
-use Rattle.floats.specs.Binary64.{zero64}
 use Rattle.letters.specs.Place.{places}
-use Rattle.letters.specs.Terms.Rolling.{noLetter, kmerAfter}
+use Rattle.letters.specs.Terms.Rolling.{kmerAfter}
 use Rattle.intervals.specs.Interval.{Interval}
 use Rattle.scans.specs.declared.Params.{Params}
 use Rattle.scans.specs.Setup.{Setup}
 use Rattle.scans.specs.Terms.Numbers.{setupOf}
-use Rattle.scans.specs.Counts.{count}
 use Rattle.scans.specs.Terms.Window.{window, Windowed}
-use Rattle.scans.specs.Terms.Carry.{noCarry}
-use Rattle.strand.specs.Step.{Run, whole, run}
-use Rattle.strand.specs.declared.State.{State}
-use Rattle.strand.specs.Terms.Like.{Like}
-use Rattle.strand.specs.Terms.KnownCounts.{KnownCounts}
-use Rattle.strand.specs.Terms.Entering.{held, newestOf, Enters}
-use Rattle.strand.specs.Terms.Searching.{isSearched}
-
--- At first: start, end and last_q at -1, sum 0, no queue entry, nothing saved.
-abbrev pub unread : State
-unread =
-    record {
-      kmer = noLetter;
-      i = 0;
-      window = record { sum = zero64; «last_q» = negsuc 0; head = 0; len = 0; live = false; carry = noCarry };
-      hand = record { start = negsuc 0; end = negsuc 0; count = 0 };
-    }
+use Rattle.step.specs.Step.{Run, whole, run}
+use Rattle.step.specs.declared.state.State.{State}
+use Rattle.step.specs.Terms.Like.{Like}
+use Rattle.step.specs.Terms.KnownCounts.{KnownCounts}
+use Rattle.step.specs.Terms.Entering.{held, newestOf, Enters}
+use Rattle.step.specs.Terms.Searching.{isSearched}
 
 -- The letters before a .i are read.
 pub record Read (p : Params) (codes : List ℕ) (ln f : List Float) (a : State) (ring window-counts counts : List ℕ) : Type 0 where

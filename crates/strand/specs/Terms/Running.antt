@@ -1,28 +1,28 @@
 -- Terms of contracts: where the run over a strand stands between its parts, before a letter, at a letter whose backward scan is due and at the end.
 use mathlib.Core.Path.{_≡_}
 use Prim.Native.Nat.{ℕ, _+_, _-_, _/_, _^_, _<_, _≤_}
+use mathlib.Core.Bool.{true, false}
 use mathlib.Core.List.{List}
 use lib.ListN.{length, take, replicate}
-use lib.IntN.{ℤ, pos, negsuc}
 use lib.Ieee.{Float}
 use Rattle.letters.specs.Place.{places}
-use Rattle.intervals.specs.Interval.{Interval, listOf, Canonical}
-use Rattle.intervals.specs.Terms.Bounds.{EndsBelow}
+use Rattle.intervals.specs.Interval.{listOf}
 use Rattle.scans.specs.declared.Params.{Params}
 use Rattle.scans.specs.Setup.{Setup}
-use Rattle.scans.specs.Terms.Numbers.{setupOf}
 use Rattle.scans.specs.Scans.{dustBackward}
+use Rattle.scans.specs.Terms.Numbers.{setupOf}
 use Rattle.scans.specs.Terms.Window.{window, Windowed}
-use Rattle.scans.specs.Terms.Carry.{Carried, Answers}
-use Rattle.strand.specs.Step.{whole, run, intervalsOf}
-use Rattle.strand.specs.declared.Window.{Window}
-use Rattle.strand.specs.declared.Open.{Open}
-use Rattle.strand.specs.declared.State.{State}
-use Rattle.scans.specs.declared.Scanned.{Scanned}
-use Rattle.strand.specs.Terms.Like.{Like}
-use Rattle.strand.specs.Terms.KnownCounts.{KnownCounts, Clearing, answeredBy}
-use Rattle.strand.specs.Terms.Entering.{held}
-use Rattle.strand.specs.Terms.Finding.{savedIn, Saving, TakesFind}
+use Rattle.search.specs.Terms.Carry.{Carried, Answers}
+use Rattle.step.specs.Step.{whole, run, intervalsOf}
+use Rattle.step.specs.declared.window.Window.{Window}
+use Rattle.step.specs.declared.hand.Open.{Open}
+use Rattle.step.specs.declared.state.State.{State}
+use Rattle.strand.specs.declared.known.Foretold.{Foretold}
+use Rattle.search.specs.declared.Scanned.{Scanned}
+use Rattle.step.specs.Terms.Like.{Like}
+use Rattle.step.specs.Terms.KnownCounts.{KnownCounts, Clearing, answeredBy}
+use Rattle.step.specs.Terms.Entering.{held}
+use Rattle.step.specs.Terms.Finding.{savedIn, Saving, Shaped, TakesFind}
 use Rattle.strand.specs.Terms.ReadingOn.{Read, runTo}
 
 -- ---- What is lent.
@@ -46,17 +46,6 @@ pub record StrandLent (p : Params) (n n-ln n-f n-ring n-window-counts n-counts n
   pub candidates-long : p .«window_size» ≤ n-candidates
 
 -- ---- Before a letter.
--- After i letters: what is saved is canonical and ends before end, and start, if it is not negative, lies k letters or more before end.
-abbrev pub StartOk : ℕ → ℤ → ℕ → Type 0
-StartOk k (pos s) e = s + k ≤ e
-StartOk k (negsuc s) e = Unit {0}
-
-pub record Shaped (k i : ℕ) (start end : ℤ) (saved : List Interval) : Type 0 where
-  pub canonical : Canonical i k saved
-  pub ends-below : EndsBelow (whole end) saved
-  pub end-in : whole end ≤ i
-  pub start-ok : StartOk k start (whole end)
-
 pub record Before (p : Params) (codes : List ℕ) (ln f : List Float) (a : State) (ring window-counts counts : List ℕ) (list : List (List ℕ)) : Type 0 where
   pub read : Read p codes ln f a ring window-counts counts
   pub shaped : Shaped (p .kmer) (a .i) (a .hand .start) (a .hand .end) (savedIn (a .hand .count) list)
@@ -80,6 +69,11 @@ pub record Asking (p : Params) (ln f : List Float) (w : Window) (ring window-cou
 pub record Told (p : Params) (ln f : List Float) (w : Window) (ring : List ℕ) (r : Scanned) (counts : List ℕ) : Type 0 where
   pub tells : (r .found ≡ 0 → ⊥) → ScanAnswer p ln f w ring r counts
   pub clearing : r .found ≡ 0 → Clearing w (window ring (w .head) (w .len)) counts
+
+-- What is known without the scan: its answer, or the counts are cleared.
+pub record Foretells (p : Params) (ln f : List Float) (w : Window) (ring : List ℕ) (r : Foretold) (counts : List ℕ) : Type 0 where
+  pub tells : r .told ≡ true → ScanAnswer p ln f w ring (r .scanned) counts
+  pub clear : r .told ≡ false → counts ≡ replicate (4 ^ p .kmer) 0
 
 -- Whatever the answer, the run stands before the next letter when it is taken.
 pub record Due (p : Params) (codes : List ℕ) (ln f : List Float) (a : State) (ring window-counts counts : List ℕ) (list : List (List ℕ)) : Type 0 where

@@ -6,10 +6,10 @@ use borrow.Author.Needs.{needs}
 use Rattle.letters.specs.Terms.Entry.{decode}
 use Rattle.scans.specs.Terms.Numbers.{setupOf}
 use Rattle.scans.specs.Terms.Window.{ringIndex, window, Joining}
-use Rattle.scans.specs.Terms.Carry.{CarriesOn}
-use Rattle.scans.proofs.BackwardOutcome.{ringed}
+use Rattle.search.specs.Terms.Carry.{CarriesOn}
+use Rattle.search.proofs.BackwardOutcome.{ringed}
 use Rattle.scans.proofs.Walk.{windowed-queued}
-use Rattle.scans.proofs.CertificateRing.{newest-asks, raised-asks}
+use Rattle.search.proofs.CertificateRing.{newest-asks, raised-asks}
 use Rattle.certificates.proofs.CertainRing.{joins, joining, none-led, next-touched, next-counted, none-usual, none-made, next-carried, certain-found, remade}
 use Rattle.certificates.proofs.certain.find_certain.Statement.{statement}
 use Rattle.certificates.proofs.certain.find_certain.Tie as tie

@@ -1,5 +1,5 @@
 use borrow.Author.Needs.{needs}
-use Rattle.scans.proofs.CertificateRing.{was-on}
+use Rattle.search.proofs.CertificateRing.{was-on}
 use Rattle.certificates.proofs.Certifying.{certifies-none, making-begins, uncount-asks, certifies-made, clear-asks, certifies-failed}
 use Rattle.certificates.proofs.certify.certify.Statement.{statement}
 use Rattle.certificates.proofs.certify.certify.Tie as tie

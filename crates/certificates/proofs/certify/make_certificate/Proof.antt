@@ -1,7 +1,7 @@
 use mathlib.Core.Path.{_∙_}
 use native.Mathlib.Omega.{arith}
 use borrow.Author.Needs.{needs}
-use Rattle.scans.proofs.CertificateRing.{was-on}
+use Rattle.search.proofs.CertificateRing.{was-on}
 use Rattle.certificates.proofs.Certifying.{attempt-newer, start-asks, start-fits, older-begins, near-in, attempt-start, attempt-made}
 use Rattle.certificates.proofs.certify.make_certificate.Statement.{statement}
 use Rattle.certificates.proofs.certify.make_certificate.Tie as tie

@@ -2,7 +2,7 @@ use mathlib.Core.Bool.{not}
 use lib.Dec.{ltb}
 use borrow.Author.Needs.{needs}
 use Rattle.scans.proofs.Test.{neither}
-use Rattle.scans.proofs.CertificateRing.{was-on}
+use Rattle.search.proofs.CertificateRing.{was-on}
 use Rattle.certificates.proofs.LowReading.{clear-asks, finds-nothing, finds-read}
 use Rattle.certificates.proofs.low.find_low.Statement.{statement}
 use Rattle.certificates.proofs.low.find_low.Tie as tie

@@ -6,8 +6,8 @@ use lib.Dec.{ltb}
 use borrow.Author.Needs.{needs}
 use borrow.Author.Tests.{ltb-false}
 use Rattle.scans.proofs.Test.{neither}
-use Rattle.scans.proofs.CertificateRing.{was-on}
-use Rattle.scans.proofs.Untried.{tells-nothing}
+use Rattle.search.proofs.CertificateRing.{was-on}
+use Rattle.search.proofs.Untried.{tells-nothing}
 use Rattle.certificates.proofs.LowReading.{clear-asks, tells-read}
 use Rattle.certificates.proofs.low.low_tells.Statement.{statement}
 use Rattle.certificates.proofs.low.low_tells.Tie as tie

@@ -7,7 +7,7 @@ use lib.ListN.{length}
 use lib.Seq.{length-take-le}
 use Rattle.longdust.specs.Buffers.{Buffers, buffers}
 use Rattle.longdust.proofs.Setups.{prepared-kmer, prepared-window}
-use Rattle.longdust.proofs.Parts.{fronts, back, Returned, Whole, exact, whole}
+use Rattle.longdust.proofs.Parts.{fronts, back, Returned, Whole, both-lent, whole}
 use Rattle.longdust.proofs.Answers.{ran}
 use Rattle.longdust.proofs.run.mask_encoded.Statement.{statement}
 use Rattle.longdust.proofs.run.mask_encoded.Proof.Tie as tie
@@ -90,7 +90,7 @@ both-strands-requires c κs =
     let k = c .before .before .before .before .before .before .before .before .before .before .before .before .before in
     let s = start k in
     let q = c .before .before .before .before .before .before .before .before .before .prepare in
-    (exact (s .args .options) (letters s) (k .n-kmers .result) (entry s) (s .pre) (k .n-kmers .ensures) (q .result) (prepared-kmer (q .ensures)) (prepared-window (q .ensures)), q .ensures .shaped)
+    (both-lent (s .args .options) (letters s) (k .n-kmers .result) (entry s) (s .pre) (k .n-kmers .ensures) (q .result) (prepared-kmer (q .ensures)) (prepared-window (q .ensures)), q .ensures .shaped)
 
 returns : tie.Need-returns
 returns c =

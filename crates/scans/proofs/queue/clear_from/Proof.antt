@@ -1,7 +1,7 @@
 use mathlib.Core.Path.{_∙_}
 use native.Mathlib.Omega.{arith}
 use borrow.Author.Needs.{needs}
-use Rattle.scans.specs.Terms.Carry.{Touched}
+use Rattle.scans.specs.Terms.Counted.{Touched}
 use Rattle.scans.proofs.Parts.{Split, ordered, older-coded, newer-coded, both-parts}
 use Rattle.scans.proofs.Walk.{queued-as, walked-both, cleared-both}
 use Rattle.scans.proofs.queue.clear_from.Statement.{statement}

@@ -2,7 +2,7 @@ use Prim.Native.Nat.{_-_, _/_, _<_}
 use native.Mathlib.Omega.{arith}
 use borrow.Author.Needs.{needs}
 use lib.ListN.{length, getD}
-use Rattle.scans.specs.Terms.Carry.{Touched}
+use Rattle.scans.specs.Terms.Counted.{Touched}
 use Rattle.scans.proofs.Walk.{Walking, walking-start, walking-end, walking-below, clearing-turn}
 use Rattle.scans.proofs.queue.clear_part.Statement.{statement}
 use Rattle.scans.proofs.queue.clear_part.Tie as tie

@@ -4,8 +4,7 @@ use native.Mathlib.Omega.{arith}
 use lib.ListN.{length}
 use borrow.Author.Needs.{needs}
 use Rattle.scans.specs.Terms.Window.{At}
-use Rattle.scans.proofs.Ring.{queue-at}
-use Rattle.scans.proofs.Newest.{index-at}
+use Rattle.scans.proofs.Ring.{queue-at, index-at}
 use Rattle.scans.proofs.queue.newest_entry.Statement.{statement}
 use Rattle.scans.proofs.queue.newest_entry.Tie as tie
 

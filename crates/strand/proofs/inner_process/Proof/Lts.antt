@@ -3,22 +3,22 @@ use Rattle.scans.proofs.ForwardPosition as Rec·type
 use Rattle.scans.proofs.ForwardPosition.Laws as Rec·laws
 use denote.Memory as Rec·memory
 use Prim.Native.Nat
-use Rattle.scans.proofs.Answered
-use Rattle.scans.proofs.Answered.Laws
-use Rattle.scans.proofs.Carry
-use Rattle.scans.proofs.Carry.Laws as Laws'
 use Rattle.scans.proofs.Params
-use Rattle.scans.proofs.Params.Laws as Laws''
-use Rattle.scans.proofs.Scanned
-use Rattle.scans.proofs.Scanned.Laws as Laws'3
-use Rattle.strand.proofs.Low
-use Rattle.strand.proofs.Low.Laws as Laws'4
-use Rattle.strand.proofs.Open
-use Rattle.strand.proofs.Open.Laws as Laws'5
-use Rattle.strand.proofs.State
-use Rattle.strand.proofs.State.Laws as Laws'6
-use Rattle.strand.proofs.Window
-use Rattle.strand.proofs.Window.Laws as Laws'7
+use Rattle.scans.proofs.Params.Laws
+use Rattle.search.proofs.Answered
+use Rattle.search.proofs.Answered.Laws as Laws'
+use Rattle.search.proofs.Carry
+use Rattle.search.proofs.Carry.Laws as Laws''
+use Rattle.search.proofs.Scanned
+use Rattle.search.proofs.Scanned.Laws as Laws'3
+use Rattle.step.proofs.hand.Open
+use Rattle.step.proofs.hand.Open.Laws as Laws'4
+use Rattle.step.proofs.state.State
+use Rattle.step.proofs.state.State.Laws as Laws'5
+use Rattle.step.proofs.window.Window
+use Rattle.step.proofs.window.Window.Laws as Laws'6
+use Rattle.strand.proofs.known.LowSince
+use Rattle.strand.proofs.known.LowSince.Laws as Laws'7
 use borrow.Author.Called
 use borrow.Author.Tests
 use borrow.Fn.Any
@@ -103,31 +103,31 @@ abbrev y3 : Syntax.Ty
 y3 = Syntax.tyFloat Ieee.binary64
 
 abbrev y4 : Syntax.Ty
-y4 = Syntax.tyStruct (115 ∷ 99 ∷ 97 ∷ 110 ∷ 115 ∷ 58 ∷ 58 ∷ 67 ∷ 101 ∷ 114 ∷ 116 ∷ 105 ∷ 102 ∷ 105 ∷ 99 ∷ 97 ∷ 116 ∷ 101 ∷ []) (Syntax.tcons Syntax.tyBool (Syntax.tcons y1 (Syntax.tcons y1 (Syntax.tcons y3 (Syntax.tcons y3 (Syntax.tcons y3 Syntax.tnil))))))
+y4 = Syntax.tyStruct (115 ∷ 101 ∷ 97 ∷ 114 ∷ 99 ∷ 104 ∷ 58 ∷ 58 ∷ 67 ∷ 101 ∷ 114 ∷ 116 ∷ 105 ∷ 102 ∷ 105 ∷ 99 ∷ 97 ∷ 116 ∷ 101 ∷ []) (Syntax.tcons Syntax.tyBool (Syntax.tcons y1 (Syntax.tcons y1 (Syntax.tcons y3 (Syntax.tcons y3 (Syntax.tcons y3 Syntax.tnil))))))
 
 abbrev y5 : Syntax.Ty
-y5 = Syntax.tyStruct (115 ∷ 99 ∷ 97 ∷ 110 ∷ 115 ∷ 58 ∷ 58 ∷ 67 ∷ 97 ∷ 114 ∷ 114 ∷ 121 ∷ []) (Syntax.tcons Syntax.tyBool (Syntax.tcons y3 (Syntax.tcons y3 (Syntax.tcons y4 Syntax.tnil))))
+y5 = Syntax.tyStruct (115 ∷ 101 ∷ 97 ∷ 114 ∷ 99 ∷ 104 ∷ 58 ∷ 58 ∷ 67 ∷ 97 ∷ 114 ∷ 114 ∷ 121 ∷ []) (Syntax.tcons Syntax.tyBool (Syntax.tcons y3 (Syntax.tcons y3 (Syntax.tcons y4 Syntax.tnil))))
 
 abbrev y6 : Syntax.Ty
-y6 = Syntax.tyStruct (115 ∷ 116 ∷ 114 ∷ 97 ∷ 110 ∷ 100 ∷ 58 ∷ 58 ∷ 87 ∷ 105 ∷ 110 ∷ 100 ∷ 111 ∷ 119 ∷ []) (Syntax.tcons y3 (Syntax.tcons y1 (Syntax.tcons y1 (Syntax.tcons y1 (Syntax.tcons Syntax.tyBool (Syntax.tcons y5 Syntax.tnil))))))
+y6 = Syntax.tyStruct (115 ∷ 116 ∷ 101 ∷ 112 ∷ 58 ∷ 58 ∷ 119 ∷ 105 ∷ 110 ∷ 100 ∷ 111 ∷ 119 ∷ 58 ∷ 58 ∷ 87 ∷ 105 ∷ 110 ∷ 100 ∷ 111 ∷ 119 ∷ []) (Syntax.tcons y3 (Syntax.tcons y1 (Syntax.tcons y1 (Syntax.tcons y1 (Syntax.tcons Syntax.tyBool (Syntax.tcons y5 Syntax.tnil))))))
 
 abbrev y7 : Syntax.Ty
-y7 = Syntax.tyStruct (115 ∷ 116 ∷ 114 ∷ 97 ∷ 110 ∷ 100 ∷ 58 ∷ 58 ∷ 79 ∷ 112 ∷ 101 ∷ 110 ∷ []) (Syntax.tcons y1 (Syntax.tcons y1 (Syntax.tcons y1 Syntax.tnil)))
+y7 = Syntax.tyStruct (115 ∷ 116 ∷ 101 ∷ 112 ∷ 58 ∷ 58 ∷ 104 ∷ 97 ∷ 110 ∷ 100 ∷ 58 ∷ 58 ∷ 79 ∷ 112 ∷ 101 ∷ 110 ∷ []) (Syntax.tcons y1 (Syntax.tcons y1 (Syntax.tcons y1 Syntax.tnil)))
 
 abbrev y8 : Syntax.Ty
-y8 = Syntax.tyStruct (115 ∷ 116 ∷ 114 ∷ 97 ∷ 110 ∷ 100 ∷ 58 ∷ 58 ∷ 83 ∷ 116 ∷ 97 ∷ 116 ∷ 101 ∷ []) (Syntax.tcons y2 (Syntax.tcons y1 (Syntax.tcons y6 (Syntax.tcons y7 Syntax.tnil))))
+y8 = Syntax.tyStruct (115 ∷ 116 ∷ 101 ∷ 112 ∷ 58 ∷ 58 ∷ 115 ∷ 116 ∷ 97 ∷ 116 ∷ 101 ∷ 58 ∷ 58 ∷ 83 ∷ 116 ∷ 97 ∷ 116 ∷ 101 ∷ []) (Syntax.tcons y2 (Syntax.tcons y1 (Syntax.tcons y6 (Syntax.tcons y7 Syntax.tnil))))
 
 abbrev y9 : Syntax.Ty
 y9 = Syntax.tyStruct (99 ∷ 101 ∷ 114 ∷ 116 ∷ 105 ∷ 102 ∷ 105 ∷ 99 ∷ 97 ∷ 116 ∷ 101 ∷ 115 ∷ 58 ∷ 58 ∷ 76 ∷ 111 ∷ 119 ∷ 83 ∷ 116 ∷ 97 ∷ 114 ∷ 116 ∷ 115 ∷ []) (Syntax.tcons Syntax.tyBool (Syntax.tcons y1 (Syntax.tcons y3 Syntax.tnil)))
 
 abbrev y10 : Syntax.Ty
-y10 = Syntax.tyStruct (115 ∷ 116 ∷ 114 ∷ 97 ∷ 110 ∷ 100 ∷ 58 ∷ 58 ∷ 76 ∷ 111 ∷ 119 ∷ []) (Syntax.tcons y9 (Syntax.tcons y1 Syntax.tnil))
+y10 = Syntax.tyStruct (115 ∷ 116 ∷ 114 ∷ 97 ∷ 110 ∷ 100 ∷ 58 ∷ 58 ∷ 107 ∷ 110 ∷ 111 ∷ 119 ∷ 110 ∷ 58 ∷ 58 ∷ 76 ∷ 111 ∷ 119 ∷ 83 ∷ 105 ∷ 110 ∷ 99 ∷ 101 ∷ []) (Syntax.tcons y9 (Syntax.tcons y1 Syntax.tnil))
 
 abbrev y11 : Syntax.Ty
-y11 = Syntax.tyStruct (115 ∷ 99 ∷ 97 ∷ 110 ∷ 115 ∷ 58 ∷ 58 ∷ 83 ∷ 99 ∷ 97 ∷ 110 ∷ 110 ∷ 101 ∷ 100 ∷ []) (Syntax.tcons y1 (Syntax.tcons y5 Syntax.tnil))
+y11 = Syntax.tyStruct (115 ∷ 101 ∷ 97 ∷ 114 ∷ 99 ∷ 104 ∷ 58 ∷ 58 ∷ 83 ∷ 99 ∷ 97 ∷ 110 ∷ 110 ∷ 101 ∷ 100 ∷ []) (Syntax.tcons y1 (Syntax.tcons y5 Syntax.tnil))
 
 abbrev y12 : Syntax.Ty
-y12 = Syntax.tyStruct (115 ∷ 99 ∷ 97 ∷ 110 ∷ 115 ∷ 58 ∷ 58 ∷ 65 ∷ 110 ∷ 115 ∷ 119 ∷ 101 ∷ 114 ∷ 101 ∷ 100 ∷ []) (Syntax.tcons y11 (Syntax.tcons y1 Syntax.tnil))
+y12 = Syntax.tyStruct (115 ∷ 101 ∷ 97 ∷ 114 ∷ 99 ∷ 104 ∷ 58 ∷ 58 ∷ 65 ∷ 110 ∷ 115 ∷ 119 ∷ 101 ∷ 114 ∷ 101 ∷ 100 ∷ []) (Syntax.tcons y11 (Syntax.tcons y1 Syntax.tnil))
 
 abbrev y13 : Syntax.Ty
 y13 = Syntax.tyInt Syntax.w16
@@ -172,7 +172,7 @@ abbrev q5 : Rows·type.RattleType
 q5 = Declared.row State.the-type
 
 abbrev q6 : Rows·type.RattleType
-q6 = Declared.row Low.the-type
+q6 = Declared.row LowSince.the-type
 
 abbrev q7 : Rows·type.RattleType
 q7 = Declared.row Open.the-type
@@ -943,7 +943,7 @@ abbrev w39 : List.List Row.Life
 w39 = Row.off ∷ Row.off ∷ Row.off ∷ Row.off ∷ Row.off ∷ Row.off ∷ Row.dead ∷ []
 
 abbrev pub ps : List.List (Kinds.PK 8)
-ps = (Value.pVal record { ty = q0; one = Path'.refl; val = Laws'8.val Params.the-type Laws''.the-laws; tells = Laws'8.tells Params.the-type Laws''.the-laws; still = Laws'8.still Params.the-type Laws''.the-copy Exit.yes; row = Rows.whole q0; rd = λ x. x; mk = λ x. x } λ M 𝓤 H A W. record { copies = Laws'8.copy Params.the-type Laws''.the-copy 𝓤 H A W; lawful = Laws'8.lawful Params.the-type Laws''.the-laws 𝓤 H A W; makes = Laws'8.makes Params.the-type Laws''.the-plain 𝓤 H A; in-mem = Local.mem-whole 𝓤 H A W q0; of-mem = Local.whole-mem 𝓤 H A W q0 }) ∷ (ShrSlice.pShrS q1 0 tt) ∷ (ShrSlice.pShrS q2 1 tt) ∷ (ShrSlice.pShrS q2 2 tt) ∷ (MutSlice.pMutS q3 3 tt) ∷ (MutSlice.pMutS q4 4 tt) ∷ (MutSlice.pMutS q4 5 tt) ∷ (MutSlice.pMutS Rec·type.the-row 6 tt) ∷ (MutSlice.pMutS (Array.Array q3 2) 7 tt) ∷ []
+ps = (Value.pVal record { ty = q0; one = Path'.refl; val = Laws'8.val Params.the-type Laws.the-laws; tells = Laws'8.tells Params.the-type Laws.the-laws; still = Laws'8.still Params.the-type Laws.the-copy Exit.yes; row = Rows.whole q0; rd = λ x. x; mk = λ x. x } λ M 𝓤 H A W. record { copies = Laws'8.copy Params.the-type Laws.the-copy 𝓤 H A W; lawful = Laws'8.lawful Params.the-type Laws.the-laws 𝓤 H A W; makes = Laws'8.makes Params.the-type Laws.the-plain 𝓤 H A; in-mem = Local.mem-whole 𝓤 H A W q0; of-mem = Local.whole-mem 𝓤 H A W q0 }) ∷ (ShrSlice.pShrS q1 0 tt) ∷ (ShrSlice.pShrS q2 1 tt) ∷ (ShrSlice.pShrS q2 2 tt) ∷ (MutSlice.pMutS q3 3 tt) ∷ (MutSlice.pMutS q4 4 tt) ∷ (MutSlice.pMutS q4 5 tt) ∷ (MutSlice.pMutS Rec·type.the-row 6 tt) ∷ (MutSlice.pMutS (Array.Array q3 2) 7 tt) ∷ []
 
 abbrev pub r : Kinds.RK 8
 r = Num.rNum Syntax.w64
@@ -958,49 +958,49 @@ abbrev pub ps·0 : List.List (Kinds.PK 2)
 ps·0 = (MutSlice.pMutS q4 0 tt) ∷ (MutSlice.pMutS q4 1 tt) ∷ []
 
 abbrev pub r·0 : Kinds.RK 2
-r·0 = Value.rVal record { ty = q5; one = Path'.refl; val = Laws'8.val State.the-type Laws'6.the-laws; tells = Laws'8.tells State.the-type Laws'6.the-laws; still = Laws'8.still State.the-type Laws'6.the-copy Exit.yes; row = Rows.whole q5; rd = λ x. x; mk = λ x. x } λ M 𝓤 H A W. record { copies = Laws'8.copy State.the-type Laws'6.the-copy 𝓤 H A W; lawful = Laws'8.lawful State.the-type Laws'6.the-laws 𝓤 H A W; makes = Laws'8.makes State.the-type Laws'6.the-plain 𝓤 H A; in-mem = Local.mem-whole 𝓤 H A W q5; of-mem = Local.whole-mem 𝓤 H A W q5 }
+r·0 = Value.rVal record { ty = q5; one = Path'.refl; val = Laws'8.val State.the-type Laws'5.the-laws; tells = Laws'8.tells State.the-type Laws'5.the-laws; still = Laws'8.still State.the-type Laws'5.the-copy Exit.yes; row = Rows.whole q5; rd = λ x. x; mk = λ x. x } λ M 𝓤 H A W. record { copies = Laws'8.copy State.the-type Laws'5.the-copy 𝓤 H A W; lawful = Laws'8.lawful State.the-type Laws'5.the-laws 𝓤 H A W; makes = Laws'8.makes State.the-type Laws'5.the-plain 𝓤 H A; in-mem = Local.mem-whole 𝓤 H A W q5; of-mem = Local.whole-mem 𝓤 H A W q5 }
 
 abbrev pub ps·1 : List.List (Kinds.PK 0)
 ps·1 = List.[]
 
 abbrev pub r·1 : Kinds.RK 0
-r·1 = Value.rVal record { ty = q6; one = Path'.refl; val = Laws'8.val Low.the-type Laws'4.the-laws; tells = Laws'8.tells Low.the-type Laws'4.the-laws; still = Laws'8.still Low.the-type Laws'4.the-copy Exit.yes; row = Rows.whole q6; rd = λ x. x; mk = λ x. x } λ M 𝓤 H A W. record { copies = Laws'8.copy Low.the-type Laws'4.the-copy 𝓤 H A W; lawful = Laws'8.lawful Low.the-type Laws'4.the-laws 𝓤 H A W; makes = Laws'8.makes Low.the-type Laws'4.the-plain 𝓤 H A; in-mem = Local.mem-whole 𝓤 H A W q6; of-mem = Local.whole-mem 𝓤 H A W q6 }
+r·1 = Value.rVal record { ty = q6; one = Path'.refl; val = Laws'8.val LowSince.the-type Laws'7.the-laws; tells = Laws'8.tells LowSince.the-type Laws'7.the-laws; still = Laws'8.still LowSince.the-type Laws'7.the-copy Exit.yes; row = Rows.whole q6; rd = λ x. x; mk = λ x. x } λ M 𝓤 H A W. record { copies = Laws'8.copy LowSince.the-type Laws'7.the-copy 𝓤 H A W; lawful = Laws'8.lawful LowSince.the-type Laws'7.the-laws 𝓤 H A W; makes = Laws'8.makes LowSince.the-type Laws'7.the-plain 𝓤 H A; in-mem = Local.mem-whole 𝓤 H A W q6; of-mem = Local.whole-mem 𝓤 H A W q6 }
 
 abbrev pub ps·2 : List.List (Kinds.PK 7)
-ps·2 = (Value.pVal record { ty = q0; one = Path'.refl; val = Laws'8.val Params.the-type Laws''.the-laws; tells = Laws'8.tells Params.the-type Laws''.the-laws; still = Laws'8.still Params.the-type Laws''.the-copy Exit.yes; row = Rows.whole q0; rd = λ x. x; mk = λ x. x } λ M 𝓤 H A W. record { copies = Laws'8.copy Params.the-type Laws''.the-copy 𝓤 H A W; lawful = Laws'8.lawful Params.the-type Laws''.the-laws 𝓤 H A W; makes = Laws'8.makes Params.the-type Laws''.the-plain 𝓤 H A; in-mem = Local.mem-whole 𝓤 H A W q0; of-mem = Local.whole-mem 𝓤 H A W q0 }) ∷ (Value.pVal record { ty = q5; one = Path'.refl; val = Laws'8.val State.the-type Laws'6.the-laws; tells = Laws'8.tells State.the-type Laws'6.the-laws; still = Laws'8.still State.the-type Laws'6.the-copy Exit.yes; row = Rows.whole q5; rd = λ x. x; mk = λ x. x } λ M 𝓤 H A W. record { copies = Laws'8.copy State.the-type Laws'6.the-copy 𝓤 H A W; lawful = Laws'8.lawful State.the-type Laws'6.the-laws 𝓤 H A W; makes = Laws'8.makes State.the-type Laws'6.the-plain 𝓤 H A; in-mem = Local.mem-whole 𝓤 H A W q5; of-mem = Local.whole-mem 𝓤 H A W q5 }) ∷ (Value.pVal record { ty = q6; one = Path'.refl; val = Laws'8.val Low.the-type Laws'4.the-laws; tells = Laws'8.tells Low.the-type Laws'4.the-laws; still = Laws'8.still Low.the-type Laws'4.the-copy Exit.yes; row = Rows.whole q6; rd = λ x. x; mk = λ x. x } λ M 𝓤 H A W. record { copies = Laws'8.copy Low.the-type Laws'4.the-copy 𝓤 H A W; lawful = Laws'8.lawful Low.the-type Laws'4.the-laws 𝓤 H A W; makes = Laws'8.makes Low.the-type Laws'4.the-plain 𝓤 H A; in-mem = Local.mem-whole 𝓤 H A W q6; of-mem = Local.whole-mem 𝓤 H A W q6 }) ∷ (ShrSlice.pShrS q1 0 tt) ∷ (ShrSlice.pShrS q2 1 tt) ∷ (ShrSlice.pShrS q2 2 tt) ∷ (MutSlice.pMutS q3 3 tt) ∷ (MutSlice.pMutS q4 4 tt) ∷ (MutSlice.pMutS q4 5 tt) ∷ (MutSlice.pMutS (Array.Array q3 2) 6 tt) ∷ []
+ps·2 = (Value.pVal record { ty = q0; one = Path'.refl; val = Laws'8.val Params.the-type Laws.the-laws; tells = Laws'8.tells Params.the-type Laws.the-laws; still = Laws'8.still Params.the-type Laws.the-copy Exit.yes; row = Rows.whole q0; rd = λ x. x; mk = λ x. x } λ M 𝓤 H A W. record { copies = Laws'8.copy Params.the-type Laws.the-copy 𝓤 H A W; lawful = Laws'8.lawful Params.the-type Laws.the-laws 𝓤 H A W; makes = Laws'8.makes Params.the-type Laws.the-plain 𝓤 H A; in-mem = Local.mem-whole 𝓤 H A W q0; of-mem = Local.whole-mem 𝓤 H A W q0 }) ∷ (Value.pVal record { ty = q5; one = Path'.refl; val = Laws'8.val State.the-type Laws'5.the-laws; tells = Laws'8.tells State.the-type Laws'5.the-laws; still = Laws'8.still State.the-type Laws'5.the-copy Exit.yes; row = Rows.whole q5; rd = λ x. x; mk = λ x. x } λ M 𝓤 H A W. record { copies = Laws'8.copy State.the-type Laws'5.the-copy 𝓤 H A W; lawful = Laws'8.lawful State.the-type Laws'5.the-laws 𝓤 H A W; makes = Laws'8.makes State.the-type Laws'5.the-plain 𝓤 H A; in-mem = Local.mem-whole 𝓤 H A W q5; of-mem = Local.whole-mem 𝓤 H A W q5 }) ∷ (Value.pVal record { ty = q6; one = Path'.refl; val = Laws'8.val LowSince.the-type Laws'7.the-laws; tells = Laws'8.tells LowSince.the-type Laws'7.the-laws; still = Laws'8.still LowSince.the-type Laws'7.the-copy Exit.yes; row = Rows.whole q6; rd = λ x. x; mk = λ x. x } λ M 𝓤 H A W. record { copies = Laws'8.copy LowSince.the-type Laws'7.the-copy 𝓤 H A W; lawful = Laws'8.lawful LowSince.the-type Laws'7.the-laws 𝓤 H A W; makes = Laws'8.makes LowSince.the-type Laws'7.the-plain 𝓤 H A; in-mem = Local.mem-whole 𝓤 H A W q6; of-mem = Local.whole-mem 𝓤 H A W q6 }) ∷ (ShrSlice.pShrS q1 0 tt) ∷ (ShrSlice.pShrS q2 1 tt) ∷ (ShrSlice.pShrS q2 2 tt) ∷ (MutSlice.pMutS q3 3 tt) ∷ (MutSlice.pMutS q4 4 tt) ∷ (MutSlice.pMutS q4 5 tt) ∷ (MutSlice.pMutS (Array.Array q3 2) 6 tt) ∷ []
 
 abbrev pub r·2 : Kinds.RK 7
-r·2 = Value.rVal record { ty = q5; one = Path'.refl; val = Laws'8.val State.the-type Laws'6.the-laws; tells = Laws'8.tells State.the-type Laws'6.the-laws; still = Laws'8.still State.the-type Laws'6.the-copy Exit.yes; row = Rows.whole q5; rd = λ x. x; mk = λ x. x } λ M 𝓤 H A W. record { copies = Laws'8.copy State.the-type Laws'6.the-copy 𝓤 H A W; lawful = Laws'8.lawful State.the-type Laws'6.the-laws 𝓤 H A W; makes = Laws'8.makes State.the-type Laws'6.the-plain 𝓤 H A; in-mem = Local.mem-whole 𝓤 H A W q5; of-mem = Local.whole-mem 𝓤 H A W q5 }
+r·2 = Value.rVal record { ty = q5; one = Path'.refl; val = Laws'8.val State.the-type Laws'5.the-laws; tells = Laws'8.tells State.the-type Laws'5.the-laws; still = Laws'8.still State.the-type Laws'5.the-copy Exit.yes; row = Rows.whole q5; rd = λ x. x; mk = λ x. x } λ M 𝓤 H A W. record { copies = Laws'8.copy State.the-type Laws'5.the-copy 𝓤 H A W; lawful = Laws'8.lawful State.the-type Laws'5.the-laws 𝓤 H A W; makes = Laws'8.makes State.the-type Laws'5.the-plain 𝓤 H A; in-mem = Local.mem-whole 𝓤 H A W q5; of-mem = Local.whole-mem 𝓤 H A W q5 }
 
 abbrev pub ps·3 : List.List (Kinds.PK 1)
-ps·3 = (Value.pVal record { ty = q7; one = Path'.refl; val = Laws'8.val Open.the-type Laws'5.the-laws; tells = Laws'8.tells Open.the-type Laws'5.the-laws; still = Laws'8.still Open.the-type Laws'5.the-copy Exit.yes; row = Rows.whole q7; rd = λ x. x; mk = λ x. x } λ M 𝓤 H A W. record { copies = Laws'8.copy Open.the-type Laws'5.the-copy 𝓤 H A W; lawful = Laws'8.lawful Open.the-type Laws'5.the-laws 𝓤 H A W; makes = Laws'8.makes Open.the-type Laws'5.the-plain 𝓤 H A; in-mem = Local.mem-whole 𝓤 H A W q7; of-mem = Local.whole-mem 𝓤 H A W q7 }) ∷ (MutSlice.pMutS (Array.Array q3 2) 0 tt) ∷ []
+ps·3 = (Value.pVal record { ty = q7; one = Path'.refl; val = Laws'8.val Open.the-type Laws'4.the-laws; tells = Laws'8.tells Open.the-type Laws'4.the-laws; still = Laws'8.still Open.the-type Laws'4.the-copy Exit.yes; row = Rows.whole q7; rd = λ x. x; mk = λ x. x } λ M 𝓤 H A W. record { copies = Laws'8.copy Open.the-type Laws'4.the-copy 𝓤 H A W; lawful = Laws'8.lawful Open.the-type Laws'4.the-laws 𝓤 H A W; makes = Laws'8.makes Open.the-type Laws'4.the-plain 𝓤 H A; in-mem = Local.mem-whole 𝓤 H A W q7; of-mem = Local.whole-mem 𝓤 H A W q7 }) ∷ (MutSlice.pMutS (Array.Array q3 2) 0 tt) ∷ []
 
 abbrev pub r·3 : Kinds.RK 1
 r·3 = Num.rNum Syntax.w64
 
 abbrev pub ps·4 : List.List (Kinds.PK 0)
-ps·4 = (Value.pVal record { ty = q8; one = Path'.refl; val = Laws'8.val Window.the-type Laws'7.the-laws; tells = Laws'8.tells Window.the-type Laws'7.the-laws; still = Laws'8.still Window.the-type Laws'7.the-copy Exit.yes; row = Rows.whole q8; rd = λ x. x; mk = λ x. x } λ M 𝓤 H A W. record { copies = Laws'8.copy Window.the-type Laws'7.the-copy 𝓤 H A W; lawful = Laws'8.lawful Window.the-type Laws'7.the-laws 𝓤 H A W; makes = Laws'8.makes Window.the-type Laws'7.the-plain 𝓤 H A; in-mem = Local.mem-whole 𝓤 H A W q8; of-mem = Local.whole-mem 𝓤 H A W q8 }) ∷ []
+ps·4 = (Value.pVal record { ty = q8; one = Path'.refl; val = Laws'8.val Window.the-type Laws'6.the-laws; tells = Laws'8.tells Window.the-type Laws'6.the-laws; still = Laws'8.still Window.the-type Laws'6.the-copy Exit.yes; row = Rows.whole q8; rd = λ x. x; mk = λ x. x } λ M 𝓤 H A W. record { copies = Laws'8.copy Window.the-type Laws'6.the-copy 𝓤 H A W; lawful = Laws'8.lawful Window.the-type Laws'6.the-laws 𝓤 H A W; makes = Laws'8.makes Window.the-type Laws'6.the-plain 𝓤 H A; in-mem = Local.mem-whole 𝓤 H A W q8; of-mem = Local.whole-mem 𝓤 H A W q8 }) ∷ []
 
 abbrev pub r·4 : Kinds.RK 0
 r·4 = Num.rNum Syntax.w64
 
 abbrev pub ps·5 : List.List (Kinds.PK 6)
-ps·5 = (Value.pVal record { ty = q0; one = Path'.refl; val = Laws'8.val Params.the-type Laws''.the-laws; tells = Laws'8.tells Params.the-type Laws''.the-laws; still = Laws'8.still Params.the-type Laws''.the-copy Exit.yes; row = Rows.whole q0; rd = λ x. x; mk = λ x. x } λ M 𝓤 H A W. record { copies = Laws'8.copy Params.the-type Laws''.the-copy 𝓤 H A W; lawful = Laws'8.lawful Params.the-type Laws''.the-laws 𝓤 H A W; makes = Laws'8.makes Params.the-type Laws''.the-plain 𝓤 H A; in-mem = Local.mem-whole 𝓤 H A W q0; of-mem = Local.whole-mem 𝓤 H A W q0 }) ∷ (Value.pVal record { ty = q9; one = Path'.refl; val = Laws'8.val Carry.the-type Laws'.the-laws; tells = Laws'8.tells Carry.the-type Laws'.the-laws; still = Laws'8.still Carry.the-type Laws'.the-copy Exit.yes; row = Rows.whole q9; rd = λ x. x; mk = λ x. x } λ M 𝓤 H A W. record { copies = Laws'8.copy Carry.the-type Laws'.the-copy 𝓤 H A W; lawful = Laws'8.lawful Carry.the-type Laws'.the-laws 𝓤 H A W; makes = Laws'8.makes Carry.the-type Laws'.the-plain 𝓤 H A; in-mem = Local.mem-whole 𝓤 H A W q9; of-mem = Local.whole-mem 𝓤 H A W q9 }) ∷ (Num.pNum Syntax.w64) ∷ (ShrSlice.pShrS q3 0 tt) ∷ (Num.pNum Syntax.w64) ∷ (Num.pNum Syntax.w64) ∷ (ShrSlice.pShrS q4 1 tt) ∷ (ShrSlice.pShrS q2 2 tt) ∷ (ShrSlice.pShrS q2 3 tt) ∷ (MutSlice.pMutS q4 4 tt) ∷ (MutSlice.pMutS Rec·type.the-row 5 tt) ∷ []
+ps·5 = (Value.pVal record { ty = q0; one = Path'.refl; val = Laws'8.val Params.the-type Laws.the-laws; tells = Laws'8.tells Params.the-type Laws.the-laws; still = Laws'8.still Params.the-type Laws.the-copy Exit.yes; row = Rows.whole q0; rd = λ x. x; mk = λ x. x } λ M 𝓤 H A W. record { copies = Laws'8.copy Params.the-type Laws.the-copy 𝓤 H A W; lawful = Laws'8.lawful Params.the-type Laws.the-laws 𝓤 H A W; makes = Laws'8.makes Params.the-type Laws.the-plain 𝓤 H A; in-mem = Local.mem-whole 𝓤 H A W q0; of-mem = Local.whole-mem 𝓤 H A W q0 }) ∷ (Value.pVal record { ty = q9; one = Path'.refl; val = Laws'8.val Carry.the-type Laws''.the-laws; tells = Laws'8.tells Carry.the-type Laws''.the-laws; still = Laws'8.still Carry.the-type Laws''.the-copy Exit.yes; row = Rows.whole q9; rd = λ x. x; mk = λ x. x } λ M 𝓤 H A W. record { copies = Laws'8.copy Carry.the-type Laws''.the-copy 𝓤 H A W; lawful = Laws'8.lawful Carry.the-type Laws''.the-laws 𝓤 H A W; makes = Laws'8.makes Carry.the-type Laws''.the-plain 𝓤 H A; in-mem = Local.mem-whole 𝓤 H A W q9; of-mem = Local.whole-mem 𝓤 H A W q9 }) ∷ (Num.pNum Syntax.w64) ∷ (ShrSlice.pShrS q3 0 tt) ∷ (Num.pNum Syntax.w64) ∷ (Num.pNum Syntax.w64) ∷ (ShrSlice.pShrS q4 1 tt) ∷ (ShrSlice.pShrS q2 2 tt) ∷ (ShrSlice.pShrS q2 3 tt) ∷ (MutSlice.pMutS q4 4 tt) ∷ (MutSlice.pMutS Rec·type.the-row 5 tt) ∷ []
 
 abbrev pub r·5 : Kinds.RK 6
-r·5 = Value.rVal record { ty = q10; one = Path'.refl; val = Laws'8.val Answered.the-type Laws.the-laws; tells = Laws'8.tells Answered.the-type Laws.the-laws; still = Laws'8.still Answered.the-type Laws.the-copy Exit.yes; row = Rows.whole q10; rd = λ x. x; mk = λ x. x } λ M 𝓤 H A W. record { copies = Laws'8.copy Answered.the-type Laws.the-copy 𝓤 H A W; lawful = Laws'8.lawful Answered.the-type Laws.the-laws 𝓤 H A W; makes = Laws'8.makes Answered.the-type Laws.the-plain 𝓤 H A; in-mem = Local.mem-whole 𝓤 H A W q10; of-mem = Local.whole-mem 𝓤 H A W q10 }
+r·5 = Value.rVal record { ty = q10; one = Path'.refl; val = Laws'8.val Answered.the-type Laws'.the-laws; tells = Laws'8.tells Answered.the-type Laws'.the-laws; still = Laws'8.still Answered.the-type Laws'.the-copy Exit.yes; row = Rows.whole q10; rd = λ x. x; mk = λ x. x } λ M 𝓤 H A W. record { copies = Laws'8.copy Answered.the-type Laws'.the-copy 𝓤 H A W; lawful = Laws'8.lawful Answered.the-type Laws'.the-laws 𝓤 H A W; makes = Laws'8.makes Answered.the-type Laws'.the-plain 𝓤 H A; in-mem = Local.mem-whole 𝓤 H A W q10; of-mem = Local.whole-mem 𝓤 H A W q10 }
 
 abbrev pub ps·6 : List.List (Kinds.PK 5)
-ps·6 = (Value.pVal record { ty = q6; one = Path'.refl; val = Laws'8.val Low.the-type Laws'4.the-laws; tells = Laws'8.tells Low.the-type Laws'4.the-laws; still = Laws'8.still Low.the-type Laws'4.the-copy Exit.yes; row = Rows.whole q6; rd = λ x. x; mk = λ x. x } λ M 𝓤 H A W. record { copies = Laws'8.copy Low.the-type Laws'4.the-copy 𝓤 H A W; lawful = Laws'8.lawful Low.the-type Laws'4.the-laws 𝓤 H A W; makes = Laws'8.makes Low.the-type Laws'4.the-plain 𝓤 H A; in-mem = Local.mem-whole 𝓤 H A W q6; of-mem = Local.whole-mem 𝓤 H A W q6 }) ∷ (Value.pVal record { ty = q0; one = Path'.refl; val = Laws'8.val Params.the-type Laws''.the-laws; tells = Laws'8.tells Params.the-type Laws''.the-laws; still = Laws'8.still Params.the-type Laws''.the-copy Exit.yes; row = Rows.whole q0; rd = λ x. x; mk = λ x. x } λ M 𝓤 H A W. record { copies = Laws'8.copy Params.the-type Laws''.the-copy 𝓤 H A W; lawful = Laws'8.lawful Params.the-type Laws''.the-laws 𝓤 H A W; makes = Laws'8.makes Params.the-type Laws''.the-plain 𝓤 H A; in-mem = Local.mem-whole 𝓤 H A W q0; of-mem = Local.whole-mem 𝓤 H A W q0 }) ∷ (Value.pVal record { ty = q5; one = Path'.refl; val = Laws'8.val State.the-type Laws'6.the-laws; tells = Laws'8.tells State.the-type Laws'6.the-laws; still = Laws'8.still State.the-type Laws'6.the-copy Exit.yes; row = Rows.whole q5; rd = λ x. x; mk = λ x. x } λ M 𝓤 H A W. record { copies = Laws'8.copy State.the-type Laws'6.the-copy 𝓤 H A W; lawful = Laws'8.lawful State.the-type Laws'6.the-laws 𝓤 H A W; makes = Laws'8.makes State.the-type Laws'6.the-plain 𝓤 H A; in-mem = Local.mem-whole 𝓤 H A W q5; of-mem = Local.whole-mem 𝓤 H A W q5 }) ∷ (Num.pNum Syntax.w64) ∷ (Num.pNum Syntax.w64) ∷ (ShrSlice.pShrS q3 0 tt) ∷ (ShrSlice.pShrS q4 1 tt) ∷ (ShrSlice.pShrS q2 2 tt) ∷ (ShrSlice.pShrS q2 3 tt) ∷ (MutSlice.pMutS q4 4 tt) ∷ []
+ps·6 = (Value.pVal record { ty = q6; one = Path'.refl; val = Laws'8.val LowSince.the-type Laws'7.the-laws; tells = Laws'8.tells LowSince.the-type Laws'7.the-laws; still = Laws'8.still LowSince.the-type Laws'7.the-copy Exit.yes; row = Rows.whole q6; rd = λ x. x; mk = λ x. x } λ M 𝓤 H A W. record { copies = Laws'8.copy LowSince.the-type Laws'7.the-copy 𝓤 H A W; lawful = Laws'8.lawful LowSince.the-type Laws'7.the-laws 𝓤 H A W; makes = Laws'8.makes LowSince.the-type Laws'7.the-plain 𝓤 H A; in-mem = Local.mem-whole 𝓤 H A W q6; of-mem = Local.whole-mem 𝓤 H A W q6 }) ∷ (Value.pVal record { ty = q0; one = Path'.refl; val = Laws'8.val Params.the-type Laws.the-laws; tells = Laws'8.tells Params.the-type Laws.the-laws; still = Laws'8.still Params.the-type Laws.the-copy Exit.yes; row = Rows.whole q0; rd = λ x. x; mk = λ x. x } λ M 𝓤 H A W. record { copies = Laws'8.copy Params.the-type Laws.the-copy 𝓤 H A W; lawful = Laws'8.lawful Params.the-type Laws.the-laws 𝓤 H A W; makes = Laws'8.makes Params.the-type Laws.the-plain 𝓤 H A; in-mem = Local.mem-whole 𝓤 H A W q0; of-mem = Local.whole-mem 𝓤 H A W q0 }) ∷ (Value.pVal record { ty = q5; one = Path'.refl; val = Laws'8.val State.the-type Laws'5.the-laws; tells = Laws'8.tells State.the-type Laws'5.the-laws; still = Laws'8.still State.the-type Laws'5.the-copy Exit.yes; row = Rows.whole q5; rd = λ x. x; mk = λ x. x } λ M 𝓤 H A W. record { copies = Laws'8.copy State.the-type Laws'5.the-copy 𝓤 H A W; lawful = Laws'8.lawful State.the-type Laws'5.the-laws 𝓤 H A W; makes = Laws'8.makes State.the-type Laws'5.the-plain 𝓤 H A; in-mem = Local.mem-whole 𝓤 H A W q5; of-mem = Local.whole-mem 𝓤 H A W q5 }) ∷ (Num.pNum Syntax.w64) ∷ (Num.pNum Syntax.w64) ∷ (ShrSlice.pShrS q3 0 tt) ∷ (ShrSlice.pShrS q4 1 tt) ∷ (ShrSlice.pShrS q2 2 tt) ∷ (ShrSlice.pShrS q2 3 tt) ∷ (MutSlice.pMutS q4 4 tt) ∷ []
 
 abbrev pub r·6 : Kinds.RK 5
-r·6 = Value.rVal record { ty = q6; one = Path'.refl; val = Laws'8.val Low.the-type Laws'4.the-laws; tells = Laws'8.tells Low.the-type Laws'4.the-laws; still = Laws'8.still Low.the-type Laws'4.the-copy Exit.yes; row = Rows.whole q6; rd = λ x. x; mk = λ x. x } λ M 𝓤 H A W. record { copies = Laws'8.copy Low.the-type Laws'4.the-copy 𝓤 H A W; lawful = Laws'8.lawful Low.the-type Laws'4.the-laws 𝓤 H A W; makes = Laws'8.makes Low.the-type Laws'4.the-plain 𝓤 H A; in-mem = Local.mem-whole 𝓤 H A W q6; of-mem = Local.whole-mem 𝓤 H A W q6 }
+r·6 = Value.rVal record { ty = q6; one = Path'.refl; val = Laws'8.val LowSince.the-type Laws'7.the-laws; tells = Laws'8.tells LowSince.the-type Laws'7.the-laws; still = Laws'8.still LowSince.the-type Laws'7.the-copy Exit.yes; row = Rows.whole q6; rd = λ x. x; mk = λ x. x } λ M 𝓤 H A W. record { copies = Laws'8.copy LowSince.the-type Laws'7.the-copy 𝓤 H A W; lawful = Laws'8.lawful LowSince.the-type Laws'7.the-laws 𝓤 H A W; makes = Laws'8.makes LowSince.the-type Laws'7.the-plain 𝓤 H A; in-mem = Local.mem-whole 𝓤 H A W q6; of-mem = Local.whole-mem 𝓤 H A W q6 }
 
 abbrev pub ps·7 : List.List (Kinds.PK 1)
-ps·7 = (Value.pVal record { ty = q5; one = Path'.refl; val = Laws'8.val State.the-type Laws'6.the-laws; tells = Laws'8.tells State.the-type Laws'6.the-laws; still = Laws'8.still State.the-type Laws'6.the-copy Exit.yes; row = Rows.whole q5; rd = λ x. x; mk = λ x. x } λ M 𝓤 H A W. record { copies = Laws'8.copy State.the-type Laws'6.the-copy 𝓤 H A W; lawful = Laws'8.lawful State.the-type Laws'6.the-laws 𝓤 H A W; makes = Laws'8.makes State.the-type Laws'6.the-plain 𝓤 H A; in-mem = Local.mem-whole 𝓤 H A W q5; of-mem = Local.whole-mem 𝓤 H A W q5 }) ∷ (Value.pVal record { ty = q0; one = Path'.refl; val = Laws'8.val Params.the-type Laws''.the-laws; tells = Laws'8.tells Params.the-type Laws''.the-laws; still = Laws'8.still Params.the-type Laws''.the-copy Exit.yes; row = Rows.whole q0; rd = λ x. x; mk = λ x. x } λ M 𝓤 H A W. record { copies = Laws'8.copy Params.the-type Laws''.the-copy 𝓤 H A W; lawful = Laws'8.lawful Params.the-type Laws''.the-laws 𝓤 H A W; makes = Laws'8.makes Params.the-type Laws''.the-plain 𝓤 H A; in-mem = Local.mem-whole 𝓤 H A W q0; of-mem = Local.whole-mem 𝓤 H A W q0 }) ∷ (Value.pVal record { ty = q11; one = Path'.refl; val = Laws'8.val Scanned.the-type Laws'3.the-laws; tells = Laws'8.tells Scanned.the-type Laws'3.the-laws; still = Laws'8.still Scanned.the-type Laws'3.the-copy Exit.yes; row = Rows.whole q11; rd = λ x. x; mk = λ x. x } λ M 𝓤 H A W. record { copies = Laws'8.copy Scanned.the-type Laws'3.the-copy 𝓤 H A W; lawful = Laws'8.lawful Scanned.the-type Laws'3.the-laws 𝓤 H A W; makes = Laws'8.makes Scanned.the-type Laws'3.the-plain 𝓤 H A; in-mem = Local.mem-whole 𝓤 H A W q11; of-mem = Local.whole-mem 𝓤 H A W q11 }) ∷ (MutSlice.pMutS (Array.Array q3 2) 0 tt) ∷ []
+ps·7 = (Value.pVal record { ty = q5; one = Path'.refl; val = Laws'8.val State.the-type Laws'5.the-laws; tells = Laws'8.tells State.the-type Laws'5.the-laws; still = Laws'8.still State.the-type Laws'5.the-copy Exit.yes; row = Rows.whole q5; rd = λ x. x; mk = λ x. x } λ M 𝓤 H A W. record { copies = Laws'8.copy State.the-type Laws'5.the-copy 𝓤 H A W; lawful = Laws'8.lawful State.the-type Laws'5.the-laws 𝓤 H A W; makes = Laws'8.makes State.the-type Laws'5.the-plain 𝓤 H A; in-mem = Local.mem-whole 𝓤 H A W q5; of-mem = Local.whole-mem 𝓤 H A W q5 }) ∷ (Value.pVal record { ty = q0; one = Path'.refl; val = Laws'8.val Params.the-type Laws.the-laws; tells = Laws'8.tells Params.the-type Laws.the-laws; still = Laws'8.still Params.the-type Laws.the-copy Exit.yes; row = Rows.whole q0; rd = λ x. x; mk = λ x. x } λ M 𝓤 H A W. record { copies = Laws'8.copy Params.the-type Laws.the-copy 𝓤 H A W; lawful = Laws'8.lawful Params.the-type Laws.the-laws 𝓤 H A W; makes = Laws'8.makes Params.the-type Laws.the-plain 𝓤 H A; in-mem = Local.mem-whole 𝓤 H A W q0; of-mem = Local.whole-mem 𝓤 H A W q0 }) ∷ (Value.pVal record { ty = q11; one = Path'.refl; val = Laws'8.val Scanned.the-type Laws'3.the-laws; tells = Laws'8.tells Scanned.the-type Laws'3.the-laws; still = Laws'8.still Scanned.the-type Laws'3.the-copy Exit.yes; row = Rows.whole q11; rd = λ x. x; mk = λ x. x } λ M 𝓤 H A W. record { copies = Laws'8.copy Scanned.the-type Laws'3.the-copy 𝓤 H A W; lawful = Laws'8.lawful Scanned.the-type Laws'3.the-laws 𝓤 H A W; makes = Laws'8.makes Scanned.the-type Laws'3.the-plain 𝓤 H A; in-mem = Local.mem-whole 𝓤 H A W q11; of-mem = Local.whole-mem 𝓤 H A W q11 }) ∷ (MutSlice.pMutS (Array.Array q3 2) 0 tt) ∷ []
 
 abbrev pub r·7 : Kinds.RK 1
-r·7 = Value.rVal record { ty = q5; one = Path'.refl; val = Laws'8.val State.the-type Laws'6.the-laws; tells = Laws'8.tells State.the-type Laws'6.the-laws; still = Laws'8.still State.the-type Laws'6.the-copy Exit.yes; row = Rows.whole q5; rd = λ x. x; mk = λ x. x } λ M 𝓤 H A W. record { copies = Laws'8.copy State.the-type Laws'6.the-copy 𝓤 H A W; lawful = Laws'8.lawful State.the-type Laws'6.the-laws 𝓤 H A W; makes = Laws'8.makes State.the-type Laws'6.the-plain 𝓤 H A; in-mem = Local.mem-whole 𝓤 H A W q5; of-mem = Local.whole-mem 𝓤 H A W q5 }
+r·7 = Value.rVal record { ty = q5; one = Path'.refl; val = Laws'8.val State.the-type Laws'5.the-laws; tells = Laws'8.tells State.the-type Laws'5.the-laws; still = Laws'8.still State.the-type Laws'5.the-copy Exit.yes; row = Rows.whole q5; rd = λ x. x; mk = λ x. x } λ M 𝓤 H A W. record { copies = Laws'8.copy State.the-type Laws'5.the-copy 𝓤 H A W; lawful = Laws'8.lawful State.the-type Laws'5.the-laws 𝓤 H A W; makes = Laws'8.makes State.the-type Laws'5.the-plain 𝓤 H A; in-mem = Local.mem-whole 𝓤 H A W q5; of-mem = Local.whole-mem 𝓤 H A W q5 }
 
 abbrev pub hs : List.List Syntax.Home
 hs = Syntax.valueLocal ∷ Syntax.valueLocal ∷ Syntax.valueLocal ∷ Syntax.valueLocal ∷ Syntax.valueLocal ∷ Syntax.valueLocal ∷ Syntax.valueLocal ∷ Syntax.valueLocal ∷ Syntax.valueLocal ∷ Syntax.valueLocal ∷ Syntax.valueLocal ∷ Syntax.valueLocal ∷ Syntax.valueLocal ∷ Syntax.valueLocal ∷ Syntax.valueLocal ∷ Syntax.valueLocal ∷ Syntax.valueLocal ∷ Syntax.valueLocal ∷ Syntax.valueLocal ∷ Syntax.valueLocal ∷ Syntax.valueLocal ∷ Syntax.valueLocal ∷ Syntax.valueLocal ∷ Syntax.valueLocal ∷ Syntax.valueLocal ∷ Syntax.valueLocal ∷ Syntax.valueLocal ∷ Syntax.valueLocal ∷ Syntax.valueLocal ∷ Syntax.valueLocal ∷ Syntax.valueLocal ∷ Syntax.valueLocal ∷ Syntax.valueLocal ∷ Syntax.valueLocal ∷ Syntax.valueLocal ∷ Syntax.valueLocal ∷ Syntax.valueLocal ∷ Syntax.valueLocal ∷ Syntax.valueLocal ∷ Syntax.valueLocal ∷ Syntax.valueLocal ∷ Syntax.valueLocal ∷ Syntax.valueLocal ∷ Syntax.valueLocal ∷ Syntax.valueLocal ∷ Syntax.valueLocal ∷ Syntax.valueLocal ∷ []
@@ -1021,7 +1021,7 @@ abbrev b4 : Syntax.Body
 b4 = Syntax.call "strand::begin" ((Syntax.copy (Syntax.place 16 List.[])) ∷ (Syntax.copy (Syntax.place 18 List.[])) ∷ []) (Syntax.place 10 List.[])
 
 abbrev b5 : Syntax.Body
-b5 = Syntax.call "strand::Low::none" List.[] (Syntax.place 11 List.[])
+b5 = Syntax.call "strand::known::LowSince::none" List.[] (Syntax.place 11 List.[])
 
 abbrev b6 : Syntax.Body
 b6 = Syntax.assign (Syntax.place 19 List.[]) (Syntax.addrOf (Syntax.place 5 ((Syntax.field 0) ∷ (Syntax.deref y0) ∷ [])))
@@ -1063,7 +1063,7 @@ abbrev b18 : Syntax.Body
 b18 = Syntax.assign (Syntax.place 30 List.[]) (Syntax.aggregate ((Syntax.copy (Syntax.place 29 List.[])) ∷ (Syntax.copy (Syntax.place 9 ((Syntax.field 1) ∷ []))) ∷ []))
 
 abbrev b19 : Syntax.Body
-b19 = Syntax.call "strand::Open::close" ((Syntax.copy (Syntax.place 10 ((Syntax.field 3) ∷ []))) ∷ (Syntax.copy (Syntax.place 30 List.[])) ∷ []) (Syntax.place 0 List.[])
+b19 = Syntax.call "step::hand::Open::close" ((Syntax.copy (Syntax.place 10 ((Syntax.field 3) ∷ []))) ∷ (Syntax.copy (Syntax.place 30 List.[])) ∷ []) (Syntax.place 0 List.[])
 
 abbrev b20 : Syntax.Body
 b20 = Syntax.return
@@ -1084,7 +1084,7 @@ abbrev b25 : Syntax.Body
 b25 = Syntax.cond (Syntax.copy (Syntax.place 28 List.[])) b23 b24
 
 abbrev b26 : Syntax.Body
-b26 = Syntax.call "strand::Window::last_q_index" ((Syntax.copy (Syntax.place 10 ((Syntax.field 2) ∷ []))) ∷ []) (Syntax.place 12 List.[])
+b26 = Syntax.call "step::window::Window::last_q_index" ((Syntax.copy (Syntax.place 10 ((Syntax.field 2) ∷ []))) ∷ []) (Syntax.place 12 List.[])
 
 abbrev b27 : Syntax.Body
 b27 = Syntax.assign (Syntax.place 31 List.[]) (Syntax.addrOf (Syntax.place 5 ((Syntax.field 0) ∷ (Syntax.deref y0) ∷ [])))
@@ -1111,7 +1111,7 @@ abbrev b34 : Syntax.Body
 b34 = Syntax.assign (Syntax.place 38 List.[]) (Syntax.aggregate ((Syntax.copy (Syntax.place 37 List.[])) ∷ (Syntax.copy (Syntax.place 8 ((Syntax.field 1) ∷ []))) ∷ []))
 
 abbrev b35 : Syntax.Body
-b35 = Syntax.call "scans::dust::dust_backward" ((Syntax.copy (Syntax.place 1 List.[])) ∷ (Syntax.copy (Syntax.place 10 ((Syntax.field 2) ∷ (Syntax.field 5) ∷ []))) ∷ (Syntax.copy (Syntax.place 12 List.[])) ∷ (Syntax.copy (Syntax.place 32 List.[])) ∷ (Syntax.copy (Syntax.place 10 ((Syntax.field 2) ∷ (Syntax.field 2) ∷ []))) ∷ (Syntax.copy (Syntax.place 10 ((Syntax.field 2) ∷ (Syntax.field 3) ∷ []))) ∷ (Syntax.copy (Syntax.place 34 List.[])) ∷ (Syntax.copy (Syntax.place 3 List.[])) ∷ (Syntax.copy (Syntax.place 4 List.[])) ∷ (Syntax.copy (Syntax.place 36 List.[])) ∷ (Syntax.copy (Syntax.place 38 List.[])) ∷ []) (Syntax.place 13 List.[])
+b35 = Syntax.call "search::dust::dust_backward" ((Syntax.copy (Syntax.place 1 List.[])) ∷ (Syntax.copy (Syntax.place 10 ((Syntax.field 2) ∷ (Syntax.field 5) ∷ []))) ∷ (Syntax.copy (Syntax.place 12 List.[])) ∷ (Syntax.copy (Syntax.place 32 List.[])) ∷ (Syntax.copy (Syntax.place 10 ((Syntax.field 2) ∷ (Syntax.field 2) ∷ []))) ∷ (Syntax.copy (Syntax.place 10 ((Syntax.field 2) ∷ (Syntax.field 3) ∷ []))) ∷ (Syntax.copy (Syntax.place 34 List.[])) ∷ (Syntax.copy (Syntax.place 3 List.[])) ∷ (Syntax.copy (Syntax.place 4 List.[])) ∷ (Syntax.copy (Syntax.place 36 List.[])) ∷ (Syntax.copy (Syntax.place 38 List.[])) ∷ []) (Syntax.place 13 List.[])
 
 abbrev b36 : Syntax.Body
 b36 = Syntax.assign (Syntax.place 14 List.[]) (Syntax.rvOpd (Syntax.copy (Syntax.place 13 ((Syntax.field 0) ∷ (Syntax.field 0) ∷ []))))
@@ -1135,7 +1135,7 @@ abbrev b42 : Syntax.Body
 b42 = Syntax.assign (Syntax.place 44 List.[]) (Syntax.aggregate ((Syntax.copy (Syntax.place 43 List.[])) ∷ (Syntax.copy (Syntax.place 7 ((Syntax.field 1) ∷ []))) ∷ []))
 
 abbrev b43 : Syntax.Body
-b43 = Syntax.call "strand::Low::renewed" ((Syntax.copy (Syntax.place 11 List.[])) ∷ (Syntax.copy (Syntax.place 1 List.[])) ∷ (Syntax.copy (Syntax.place 10 List.[])) ∷ (Syntax.copy (Syntax.place 14 List.[])) ∷ (Syntax.copy (Syntax.place 13 ((Syntax.field 1) ∷ []))) ∷ (Syntax.copy (Syntax.place 40 List.[])) ∷ (Syntax.copy (Syntax.place 42 List.[])) ∷ (Syntax.copy (Syntax.place 3 List.[])) ∷ (Syntax.copy (Syntax.place 4 List.[])) ∷ (Syntax.copy (Syntax.place 44 List.[])) ∷ []) (Syntax.place 11 List.[])
+b43 = Syntax.call "strand::known::LowSince::renewed" ((Syntax.copy (Syntax.place 11 List.[])) ∷ (Syntax.copy (Syntax.place 1 List.[])) ∷ (Syntax.copy (Syntax.place 10 List.[])) ∷ (Syntax.copy (Syntax.place 14 List.[])) ∷ (Syntax.copy (Syntax.place 13 ((Syntax.field 1) ∷ []))) ∷ (Syntax.copy (Syntax.place 40 List.[])) ∷ (Syntax.copy (Syntax.place 42 List.[])) ∷ (Syntax.copy (Syntax.place 3 List.[])) ∷ (Syntax.copy (Syntax.place 4 List.[])) ∷ (Syntax.copy (Syntax.place 44 List.[])) ∷ []) (Syntax.place 11 List.[])
 
 abbrev b44 : Syntax.Body
 b44 = Syntax.assign (Syntax.place 45 List.[]) (Syntax.addrOf (Syntax.place 9 ((Syntax.field 0) ∷ (Syntax.deref (Syntax.tyArray y0 2)) ∷ [])))
@@ -1144,7 +1144,7 @@ abbrev b45 : Syntax.Body
 b45 = Syntax.assign (Syntax.place 46 List.[]) (Syntax.aggregate ((Syntax.copy (Syntax.place 45 List.[])) ∷ (Syntax.copy (Syntax.place 9 ((Syntax.field 1) ∷ []))) ∷ []))
 
 abbrev b46 : Syntax.Body
-b46 = Syntax.call "strand::State::answered" ((Syntax.copy (Syntax.place 10 List.[])) ∷ (Syntax.copy (Syntax.place 1 List.[])) ∷ (Syntax.copy (Syntax.place 13 ((Syntax.field 0) ∷ []))) ∷ (Syntax.copy (Syntax.place 46 List.[])) ∷ []) (Syntax.place 10 List.[])
+b46 = Syntax.call "step::state::State::answered" ((Syntax.copy (Syntax.place 10 List.[])) ∷ (Syntax.copy (Syntax.place 1 List.[])) ∷ (Syntax.copy (Syntax.place 13 ((Syntax.field 0) ∷ []))) ∷ (Syntax.copy (Syntax.place 46 List.[])) ∷ []) (Syntax.place 10 List.[])
 
 abbrev b47 : Syntax.Body
 b47 = Syntax.seq b45 b46
@@ -1928,10 +1928,10 @@ module _ (claims· : Claims) where
   s50 = Scalar.n-use T50 (Scalar.oFld 2 ((Syntax.field 1) ∷ []) y1 8 Shared.lenV) 27 (Rows.sc-here z0) (Row.sInt Syntax.w64 .of)
 
   abbrev s51 : Typed.Gives T52 T53
-  s51 = Know'.k-struct-known State.the-type Laws'6.the-laws T52 10 λ x. x
+  s51 = Know'.k-struct-known State.the-type Laws'5.the-laws T52 10 λ x. x
 
   abbrev s52 : Typed.Asks T53 T54
-  s52 = Scalar.k-op2 T53 (Syntax.le Syntax.unsigned) (Scalar.oAt 27 y1 (Row.valS z0)) (Scalar.oFld 10 ((Syntax.field 1) ∷ []) y1 16 (Reads.fieldV State.the-type Laws'6.the-laws 1)) 28 (Rows.sc-here Row.sBool) (Row.sBool .of)
+  s52 = Scalar.k-op2 T53 (Syntax.le Syntax.unsigned) (Scalar.oAt 27 y1 (Row.valS z0)) (Scalar.oFld 10 ((Syntax.field 1) ∷ []) y1 16 (Reads.fieldV State.the-type Laws'5.the-laws 1)) 28 (Rows.sc-here Row.sBool) (Row.sBool .of)
 
   abbrev s53 : Typed.Mo T54 → Typed.Mo T56
   s53 = Scalar.n-room T54 27 y1
@@ -2084,7 +2084,7 @@ module _ (claims· : Claims) where
       List.List (Rec·type.the-row .Denot) ×
       List.List (Array.Array (Referent.rtF (Referent.fInt Syntax.w32)) 2 .Denot) ×
       Rows.whole (Declared.row State.the-type) .Mod ×
-      Rows.whole (Declared.row Low.the-type) .Mod →
+      Rows.whole (Declared.row LowSince.the-type) .Mod →
       Typed.Mo T23 →
       Typed.Mo T23
   put0 = λ vs u. Row.set 11 (11, Rows.whole q6) (vs .6) (T23 .locals) (Row.set 10 (10, Rows.whole q5) (vs .5) (T23 .locals) (Row.set 9 (9, Mut.mslice (Array.Array q3 2) y34 7) record { ptr = Row.get 9 (T23 .locals) u .ptr; name = Row.get 9 (T23 .locals) u .name; now = vs .4 } (T23 .locals) (Row.set 8 (8, Mut.mslice Rec·type.the-row y33 6) record { ptr = Row.get 8 (T23 .locals) u .ptr; name = Row.get 8 (T23 .locals) u .name; now = vs .3 } (T23 .locals) (Row.set 7 (7, Mut.mslice q4 y32 5) record { ptr = Row.get 7 (T23 .locals) u .ptr; name = Row.get 7 (T23 .locals) u .name; now = vs .2 } (T23 .locals) (Row.set 6 (6, Mut.mslice q4 y31 4) record { ptr = Row.get 6 (T23 .locals) u .ptr; name = Row.get 6 (T23 .locals) u .name; now = vs .1 } (T23 .locals) (Row.set 5 (5, Mut.mslice q3 y30 3) record { ptr = Row.get 5 (T23 .locals) u .ptr; name = Row.get 5 (T23 .locals) u .name; now = vs .0 } (T23 .locals) u))))))
@@ -2093,7 +2093,7 @@ module _ (claims· : Claims) where
       (Post· : (κs : Lifetimes.Lfts 8) → (a : Kinds.Dens κs ps) → Kinds.Plain 8 ps r κs) where
     module _ (M : Type 1) where
       abbrev pub Closed : Type 2
-      Closed = (𝓤 : URA.URA M) (H : Wp.Heap 𝓤) (A : Atoms.Atoms 𝓤) (W : Kit.Given 𝓤 H A) (𝓣 : Wp.Tables 𝓤 H) (known0 : Plain.Known 𝓤 H A W 𝓣 2 ps·0 r·0 (claims· .0) (claims· .1) "strand::begin") (known1 : Plain.Known 𝓤 H A W 𝓣 0 ps·1 r·1 (claims· .2) (claims· .3) "strand::Low::none") (known2 : Plain.Known 𝓤 H A W 𝓣 7 ps·2 r·2 (claims· .4) (claims· .5) "strand::until_scan") (known3 : Plain.Known 𝓤 H A W 𝓣 1 ps·3 r·3 (claims· .6) (claims· .7) "strand::Open::close") (known4 : Plain.Known 𝓤 H A W 𝓣 0 ps·4 r·4 (claims· .8) (claims· .9) "strand::Window::last_q_index") (known5 : Plain.Known 𝓤 H A W 𝓣 6 ps·5 r·5 (claims· .10) (claims· .11) "scans::dust::dust_backward") (known6 : Plain.Known 𝓤 H A W 𝓣 5 ps·6 r·6 (claims· .12) (claims· .13) "strand::Low::renewed") (known7 : Plain.Known 𝓤 H A W 𝓣 1 ps·7 r·7 (claims· .14) (claims· .15) "strand::State::answered") → Statement.Triple 𝓤 (Wp.WpFn 𝓤 H (𝓣 .C) (𝓣 .Λ) (Function.fnOf 8 ps r xs m hs body)) (Function.plainOf 𝓤 H A 8 ps r Pre· Post·)
+      Closed = (𝓤 : URA.URA M) (H : Wp.Heap 𝓤) (A : Atoms.Atoms 𝓤) (W : Kit.Given 𝓤 H A) (𝓣 : Wp.Tables 𝓤 H) (known0 : Plain.Known 𝓤 H A W 𝓣 2 ps·0 r·0 (claims· .0) (claims· .1) "strand::begin") (known1 : Plain.Known 𝓤 H A W 𝓣 0 ps·1 r·1 (claims· .2) (claims· .3) "strand::known::LowSince::none") (known2 : Plain.Known 𝓤 H A W 𝓣 7 ps·2 r·2 (claims· .4) (claims· .5) "strand::until_scan") (known3 : Plain.Known 𝓤 H A W 𝓣 1 ps·3 r·3 (claims· .6) (claims· .7) "step::hand::Open::close") (known4 : Plain.Known 𝓤 H A W 𝓣 0 ps·4 r·4 (claims· .8) (claims· .9) "step::window::Window::last_q_index") (known5 : Plain.Known 𝓤 H A W 𝓣 6 ps·5 r·5 (claims· .10) (claims· .11) "search::dust::dust_backward") (known6 : Plain.Known 𝓤 H A W 𝓣 5 ps·6 r·6 (claims· .12) (claims· .13) "strand::known::LowSince::renewed") (known7 : Plain.Known 𝓤 H A W 𝓣 1 ps·7 r·7 (claims· .14) (claims· .15) "step::state::State::answered") → Statement.Triple 𝓤 (Wp.WpFn 𝓤 H (𝓣 .C) (𝓣 .Λ) (Function.fnOf 8 ps r xs m hs body)) (Function.plainOf 𝓤 H A 8 ps r Pre· Post·)
 
     module _ (Inv·0 : InvT-loop) (μ·0 : MeasureT-loop) where
       abbrev at0 : Typed.TF T66 O4
@@ -2489,7 +2489,7 @@ module _ (claims· : Claims) where
       module _ {M : Type 1} (𝓤 : URA.URA M) (H : Wp.Heap 𝓤) (A : Atoms.Atoms 𝓤)
           (W : Kit.Given 𝓤 H A) (𝓣 : Wp.Tables 𝓤 H) where
         abbrev Knowns : Type 1
-        Knowns = Plain.Known 𝓤 H A W 𝓣 2 ps·0 r·0 (claims· .0) (claims· .1) "strand::begin" × Plain.Known 𝓤 H A W 𝓣 0 ps·1 r·1 (claims· .2) (claims· .3) "strand::Low::none" × Plain.Known 𝓤 H A W 𝓣 7 ps·2 r·2 (claims· .4) (claims· .5) "strand::until_scan" × Plain.Known 𝓤 H A W 𝓣 1 ps·3 r·3 (claims· .6) (claims· .7) "strand::Open::close" × Plain.Known 𝓤 H A W 𝓣 0 ps·4 r·4 (claims· .8) (claims· .9) "strand::Window::last_q_index" × Plain.Known 𝓤 H A W 𝓣 6 ps·5 r·5 (claims· .10) (claims· .11) "scans::dust::dust_backward" × Plain.Known 𝓤 H A W 𝓣 5 ps·6 r·6 (claims· .12) (claims· .13) "strand::Low::renewed" × Plain.Known 𝓤 H A W 𝓣 1 ps·7 r·7 (claims· .14) (claims· .15) "strand::State::answered"
+        Knowns = Plain.Known 𝓤 H A W 𝓣 2 ps·0 r·0 (claims· .0) (claims· .1) "strand::begin" × Plain.Known 𝓤 H A W 𝓣 0 ps·1 r·1 (claims· .2) (claims· .3) "strand::known::LowSince::none" × Plain.Known 𝓤 H A W 𝓣 7 ps·2 r·2 (claims· .4) (claims· .5) "strand::until_scan" × Plain.Known 𝓤 H A W 𝓣 1 ps·3 r·3 (claims· .6) (claims· .7) "step::hand::Open::close" × Plain.Known 𝓤 H A W 𝓣 0 ps·4 r·4 (claims· .8) (claims· .9) "step::window::Window::last_q_index" × Plain.Known 𝓤 H A W 𝓣 6 ps·5 r·5 (claims· .10) (claims· .11) "search::dust::dust_backward" × Plain.Known 𝓤 H A W 𝓣 5 ps·6 r·6 (claims· .12) (claims· .13) "strand::known::LowSince::renewed" × Plain.Known 𝓤 H A W 𝓣 1 ps·7 r·7 (claims· .14) (claims· .15) "step::state::State::answered"
 
       module _ (κs : Lifetimes.Lfts 8) (qs : Lifetimes.Shares 8) where
         abbrev li0 : Row.Life
@@ -3213,7 +3213,7 @@ module _ (claims· : Claims) where
           d4 = Typed.g-pre 𝓤 H A W 𝓣 E G63 G64 b20 Δ4 (Typed.pass T63 T64 s61) at3 (Scalar.g-room 𝓤 H A W E G63 10 y8 (Local.room-whole 𝓤 H A W q5 y8 Path'.refl)) d3
 
           d5 : Typed.Typed 𝓤 H A 𝓣 E G62 b21 Δ4 at5
-          d5 = Typed.s-seq 𝓤 H A W 𝓣 E G62 G63 b19 b20 Δ4 (Typed.both s60) at4 (Plain.t-call-plain 𝓤 H A W 𝓣 1 ps·3 r·3 (claims· .6) (claims· .7) "strand::Open::close" (known .3) E (λ pos β. β) G62 (record { pos = 10; st = (Syntax.field 3) ∷ []; d = 136; at = λ x. State.struct .as-values x .1 .1 .1 .0 }, (record { pos = 30; ty = y18; ref = λ x. x }, tt)) 0 (14 ∷ []) (Call.sub-id 𝓤 H A W (G62 .slots)) ((Yields'.yields-acc 𝓤 H A W (Rows.whole q5) q7 136 (λ x. State.struct .as-values x .1 .1 .1 .0) Path'.refl (Copies.cStruct Open.the-type Laws'5.the-laws Laws'5.the-copy .copy 𝓤 H A W) (Yields'.acc-record 𝓤 H A W (Rows.whole q5) Open.the-type 136 (λ x. State.struct .as-values x .1 .1 .1 .0) (Yields'.acc-part 𝓤 H A W (Rows.whole q5) q5 (Struct.Struct (Declared.shape Open.the-type)) 0 136 (λ x. x) (λ y. Open.the-type .to (State.struct .as-values y .1 .1 .1 .0)) (Yields'.acc-whole 𝓤 H A W q5) λ y a. Behind.look-at 𝓤 H A W TreeShare.fullShare State.the-type Laws'6.the-laws 3 136 Path'.refl Path'.refl a y (State.struct .as-values y) Path'.refl)), Path'.refl), (Reads'.as-is 𝓤 H A (Mut.mslice (Array.Array q3 2) y18 14), Mut.reads-mslice 𝓤 H A W (Array.Array q3 2) y18 14, Path'.refl, tt)) (Reads'.room-gone 𝓤 H A y1) (tt, tt) Path'.refl) d4
+          d5 = Typed.s-seq 𝓤 H A W 𝓣 E G62 G63 b19 b20 Δ4 (Typed.both s60) at4 (Plain.t-call-plain 𝓤 H A W 𝓣 1 ps·3 r·3 (claims· .6) (claims· .7) "step::hand::Open::close" (known .3) E (λ pos β. β) G62 (record { pos = 10; st = (Syntax.field 3) ∷ []; d = 136; at = λ x. State.struct .as-values x .1 .1 .1 .0 }, (record { pos = 30; ty = y18; ref = λ x. x }, tt)) 0 (14 ∷ []) (Call.sub-id 𝓤 H A W (G62 .slots)) ((Yields'.yields-acc 𝓤 H A W (Rows.whole q5) q7 136 (λ x. State.struct .as-values x .1 .1 .1 .0) Path'.refl (Copies.cStruct Open.the-type Laws'4.the-laws Laws'4.the-copy .copy 𝓤 H A W) (Yields'.acc-record 𝓤 H A W (Rows.whole q5) Open.the-type 136 (λ x. State.struct .as-values x .1 .1 .1 .0) (Yields'.acc-part 𝓤 H A W (Rows.whole q5) q5 (Struct.Struct (Declared.shape Open.the-type)) 0 136 (λ x. x) (λ y. Open.the-type .to (State.struct .as-values y .1 .1 .1 .0)) (Yields'.acc-whole 𝓤 H A W q5) λ y a. Behind.look-at 𝓤 H A W TreeShare.fullShare State.the-type Laws'5.the-laws 3 136 Path'.refl Path'.refl a y (State.struct .as-values y) Path'.refl)), Path'.refl), (Reads'.as-is 𝓤 H A (Mut.mslice (Array.Array q3 2) y18 14), Mut.reads-mslice 𝓤 H A W (Array.Array q3 2) y18 14, Path'.refl, tt)) (Reads'.room-gone 𝓤 H A y1) (tt, tt) Path'.refl) d4
 
           d6 : Typed.Typed 𝓤 H A 𝓣 E G61 b22 Δ4 at6
           d6 = Typed.s-seq 𝓤 H A W 𝓣 E G61 G62 b18 b21 Δ4 (Typed.ask s59) at5 (Relend.t-sl-aggregate 𝓤 H A W E (Array.Array q3 2) 𝓣 (Relend.asMut (Array.Array q3 2)) G61 29 30 14 y18 y18 (λ x. x) (Scalar.oFld 9 ((Syntax.field 1) ∷ []) y1 8 λ v. Shared.lenV (v .0)) (Reads'.as-is 𝓤 H A (Relend.msptr (Array.Array q3 2) y18 14)) (Reads'.room-gone 𝓤 H A y19) (Relend.reads-owed-len 𝓤 H A W (Array.Array q3 2) y34 7 14 li3 8 Path'.refl, Path'.refl) Path'.refl Path'.refl λ b o k. tt) d5
@@ -3246,7 +3246,7 @@ module _ (claims· : Claims) where
           d15 = Typed.g-pre 𝓤 H A W 𝓣 E G54 G56 b25 Δ4 (Typed.pass T54 T56 s53) at14 (Scalar.g-room 𝓤 H A W E G54 27 y1 (Scalar.room-sc 𝓤 H A W z0)) d14
 
           d16 : Typed.Typed 𝓤 H A 𝓣 E G123 b46 Δ3 at16
-          d16 = Typed.s-typed 𝓤 H A W 𝓣 E G123 b46 Δ3 (λ Ψ. Typed.both s121 (Typed.pass T124 T125 s122 (Typed.pass T125 T126 s123 (Typed.pass T126 T127 s124 (Typed.both s126 Ψ))))) tt (Typed.g-post 𝓤 H A W 𝓣 E G123 G129 G130 b46 (λ Ψ. Typed.both s121 (Typed.pass T124 T125 s122 (Typed.pass T125 T126 s123 (Typed.pass T126 T127 s124 (Typed.both s126 Ψ))))) (λ Ψ. Ψ) (Typed.g-post 𝓤 H A W 𝓣 E G123 G128 G129 b46 (λ Ψ. Typed.both s121 (Typed.pass T124 T125 s122 (Typed.pass T125 T126 s123 (Typed.pass T126 T127 s124 Ψ)))) (Typed.both s126) (Typed.g-post 𝓤 H A W 𝓣 E G123 G127 G128 b46 (λ Ψ. Typed.both s121 (Typed.pass T124 T125 s122 (Typed.pass T125 T126 s123 (Typed.pass T126 T127 s124 Ψ)))) (λ Ψ. Ψ) (Typed.g-post 𝓤 H A W 𝓣 E G123 G126 G127 b46 (λ Ψ. Typed.both s121 (Typed.pass T124 T125 s122 (Typed.pass T125 T126 s123 Ψ))) (Typed.pass T126 T127 s124) (Typed.g-post 𝓤 H A W 𝓣 E G123 G125 G126 b46 (λ Ψ. Typed.both s121 (Typed.pass T124 T125 s122 Ψ)) (Typed.pass T125 T126 s123) (Typed.g-post 𝓤 H A W 𝓣 E G123 G124 G125 b46 (Typed.both s121) (Typed.pass T124 T125 s122) (Plain.t-call-plain 𝓤 H A W 𝓣 1 ps·7 r·7 (claims· .14) (claims· .15) "strand::State::answered" (known .7) E (λ pos β. β) G123 (record { pos = 10; st = List.[]; d = 0; at = λ x. x }, (record { pos = 1; st = List.[]; d = 0; at = λ x. x }, (record { pos = 13; st = (Syntax.field 0) ∷ []; d = 0; at = λ x. Answered.struct .as-values x .0 }, (record { pos = 46; ty = y18; ref = λ x. x }, tt)))) 10 (22 ∷ []) (Call.sub-id 𝓤 H A W (G123 .slots)) ((Yields.yields-copy 𝓤 H A W (λ ρ. Unit) q5 Path'.refl (Copies.cStruct State.the-type Laws'6.the-laws Laws'6.the-copy .copy 𝓤 H A W) (Rows.whole q5) (λ x. x) (λ x. x) (λ ρ told. Local.mem-whole 𝓤 H A W q5 ρ) λ ρ told. Local.whole-mem 𝓤 H A W q5 ρ, Path'.refl), ((Yields.yields-copy 𝓤 H A W (λ ρ. Unit) q0 Path'.refl (Copies.cStruct Params.the-type Laws''.the-laws Laws''.the-copy .copy 𝓤 H A W) (Rows.whole q0) (λ x. x) (λ x. x) (λ ρ told. Local.mem-whole 𝓤 H A W q0 ρ) λ ρ told. Local.whole-mem 𝓤 H A W q0 ρ, Path'.refl), ((Yields'.yields-acc 𝓤 H A W (Rows.whole q10) q11 0 (λ x. Answered.struct .as-values x .0) Path'.refl (Copies.cStruct Scanned.the-type Laws'3.the-laws Laws'3.the-copy .copy 𝓤 H A W) (Yields'.acc-record 𝓤 H A W (Rows.whole q10) Scanned.the-type 0 (λ x. Answered.struct .as-values x .0) (Yields'.acc-part 𝓤 H A W (Rows.whole q10) q10 (Struct.Struct (Declared.shape Scanned.the-type)) 0 0 (λ x. x) (λ y. Scanned.the-type .to (Answered.struct .as-values y .0)) (Yields'.acc-whole 𝓤 H A W q10) λ y a. Behind.look-at 𝓤 H A W TreeShare.fullShare Answered.the-type Laws.the-laws 0 0 Path'.refl Path'.refl a y (Answered.struct .as-values y) Path'.refl)), Path'.refl), (Reads'.as-is 𝓤 H A (Mut.mslice (Array.Array q3 2) y18 22), Mut.reads-mslice 𝓤 H A W (Array.Array q3 2) y18 22, Path'.refl, tt)))) (Local.room-whole 𝓤 H A W q5 y8 Path'.refl) (tt, tt) Path'.refl) (Scalar.g-room 𝓤 H A W E G124 12 y1 (Scalar.room-sc 𝓤 H A W z0))) (Scalar.g-room 𝓤 H A W E G125 13 y12 (Local.room-whole 𝓤 H A W q10 y12 Path'.refl))) (Scalar.g-room 𝓤 H A W E G126 14 y1 (Scalar.room-sc 𝓤 H A W z0))) (Lifetime.g-end 𝓤 H A W E G127 22 Path'.refl)) (Relend.g-back-sl 𝓤 H A W E (Array.Array q3 2) G128 46 9 7 22 y34 y18 li3 (λ x. x) (λ x. x) (Reads'.as-is 𝓤 H A (Mut.msleft (Array.Array q3 2) y18)) (Reads'.as-is 𝓤 H A (Relend.mslice-owed (Array.Array q3 2) y34 7 22 li3)) Path'.refl Path'.refl)) (Lifetime.g-forget 𝓤 H A W E G129 22 Row.dead Path'.refl))
+          d16 = Typed.s-typed 𝓤 H A W 𝓣 E G123 b46 Δ3 (λ Ψ. Typed.both s121 (Typed.pass T124 T125 s122 (Typed.pass T125 T126 s123 (Typed.pass T126 T127 s124 (Typed.both s126 Ψ))))) tt (Typed.g-post 𝓤 H A W 𝓣 E G123 G129 G130 b46 (λ Ψ. Typed.both s121 (Typed.pass T124 T125 s122 (Typed.pass T125 T126 s123 (Typed.pass T126 T127 s124 (Typed.both s126 Ψ))))) (λ Ψ. Ψ) (Typed.g-post 𝓤 H A W 𝓣 E G123 G128 G129 b46 (λ Ψ. Typed.both s121 (Typed.pass T124 T125 s122 (Typed.pass T125 T126 s123 (Typed.pass T126 T127 s124 Ψ)))) (Typed.both s126) (Typed.g-post 𝓤 H A W 𝓣 E G123 G127 G128 b46 (λ Ψ. Typed.both s121 (Typed.pass T124 T125 s122 (Typed.pass T125 T126 s123 (Typed.pass T126 T127 s124 Ψ)))) (λ Ψ. Ψ) (Typed.g-post 𝓤 H A W 𝓣 E G123 G126 G127 b46 (λ Ψ. Typed.both s121 (Typed.pass T124 T125 s122 (Typed.pass T125 T126 s123 Ψ))) (Typed.pass T126 T127 s124) (Typed.g-post 𝓤 H A W 𝓣 E G123 G125 G126 b46 (λ Ψ. Typed.both s121 (Typed.pass T124 T125 s122 Ψ)) (Typed.pass T125 T126 s123) (Typed.g-post 𝓤 H A W 𝓣 E G123 G124 G125 b46 (Typed.both s121) (Typed.pass T124 T125 s122) (Plain.t-call-plain 𝓤 H A W 𝓣 1 ps·7 r·7 (claims· .14) (claims· .15) "step::state::State::answered" (known .7) E (λ pos β. β) G123 (record { pos = 10; st = List.[]; d = 0; at = λ x. x }, (record { pos = 1; st = List.[]; d = 0; at = λ x. x }, (record { pos = 13; st = (Syntax.field 0) ∷ []; d = 0; at = λ x. Answered.struct .as-values x .0 }, (record { pos = 46; ty = y18; ref = λ x. x }, tt)))) 10 (22 ∷ []) (Call.sub-id 𝓤 H A W (G123 .slots)) ((Yields.yields-copy 𝓤 H A W (λ ρ. Unit) q5 Path'.refl (Copies.cStruct State.the-type Laws'5.the-laws Laws'5.the-copy .copy 𝓤 H A W) (Rows.whole q5) (λ x. x) (λ x. x) (λ ρ told. Local.mem-whole 𝓤 H A W q5 ρ) λ ρ told. Local.whole-mem 𝓤 H A W q5 ρ, Path'.refl), ((Yields.yields-copy 𝓤 H A W (λ ρ. Unit) q0 Path'.refl (Copies.cStruct Params.the-type Laws.the-laws Laws.the-copy .copy 𝓤 H A W) (Rows.whole q0) (λ x. x) (λ x. x) (λ ρ told. Local.mem-whole 𝓤 H A W q0 ρ) λ ρ told. Local.whole-mem 𝓤 H A W q0 ρ, Path'.refl), ((Yields'.yields-acc 𝓤 H A W (Rows.whole q10) q11 0 (λ x. Answered.struct .as-values x .0) Path'.refl (Copies.cStruct Scanned.the-type Laws'3.the-laws Laws'3.the-copy .copy 𝓤 H A W) (Yields'.acc-record 𝓤 H A W (Rows.whole q10) Scanned.the-type 0 (λ x. Answered.struct .as-values x .0) (Yields'.acc-part 𝓤 H A W (Rows.whole q10) q10 (Struct.Struct (Declared.shape Scanned.the-type)) 0 0 (λ x. x) (λ y. Scanned.the-type .to (Answered.struct .as-values y .0)) (Yields'.acc-whole 𝓤 H A W q10) λ y a. Behind.look-at 𝓤 H A W TreeShare.fullShare Answered.the-type Laws'.the-laws 0 0 Path'.refl Path'.refl a y (Answered.struct .as-values y) Path'.refl)), Path'.refl), (Reads'.as-is 𝓤 H A (Mut.mslice (Array.Array q3 2) y18 22), Mut.reads-mslice 𝓤 H A W (Array.Array q3 2) y18 22, Path'.refl, tt)))) (Local.room-whole 𝓤 H A W q5 y8 Path'.refl) (tt, tt) Path'.refl) (Scalar.g-room 𝓤 H A W E G124 12 y1 (Scalar.room-sc 𝓤 H A W z0))) (Scalar.g-room 𝓤 H A W E G125 13 y12 (Local.room-whole 𝓤 H A W q10 y12 Path'.refl))) (Scalar.g-room 𝓤 H A W E G126 14 y1 (Scalar.room-sc 𝓤 H A W z0))) (Lifetime.g-end 𝓤 H A W E G127 22 Path'.refl)) (Relend.g-back-sl 𝓤 H A W E (Array.Array q3 2) G128 46 9 7 22 y34 y18 li3 (λ x. x) (λ x. x) (Reads'.as-is 𝓤 H A (Mut.msleft (Array.Array q3 2) y18)) (Reads'.as-is 𝓤 H A (Relend.mslice-owed (Array.Array q3 2) y34 7 22 li3)) Path'.refl Path'.refl)) (Lifetime.g-forget 𝓤 H A W E G129 22 Row.dead Path'.refl))
 
           d17 : Typed.Typed 𝓤 H A 𝓣 E G122 b47 Δ3 at17
           d17 = Typed.s-seq 𝓤 H A W 𝓣 E G122 G123 b45 b46 Δ3 (Typed.ask s120) at16 (Relend.t-sl-aggregate 𝓤 H A W E (Array.Array q3 2) 𝓣 (Relend.asMut (Array.Array q3 2)) G122 45 46 22 y18 y18 (λ x. x) (Scalar.oFld 9 ((Syntax.field 1) ∷ []) y1 8 λ v. Shared.lenV (v .0)) (Reads'.as-is 𝓤 H A (Relend.msptr (Array.Array q3 2) y18 22)) (Reads'.room-gone 𝓤 H A y19) (Relend.reads-owed-len 𝓤 H A W (Array.Array q3 2) y34 7 22 li3 8 Path'.refl, Path'.refl) Path'.refl Path'.refl λ b o k. tt) d16
@@ -3294,7 +3294,7 @@ module _ (claims· : Claims) where
           d31 = Typed.g-pre 𝓤 H A W 𝓣 E G108 G109 b48 Δ3 (Typed.pass T108 T109 s106) at30 (Scalar.g-room 𝓤 H A W E G108 40 y21 (Shared.room-sslice 𝓤 H A W q3 y20 19)) d30
 
           d32 : Typed.Typed 𝓤 H A 𝓣 E G107 b49 Δ3 at32
-          d32 = Typed.s-seq 𝓤 H A W 𝓣 E G107 G108 b43 b48 Δ3 (Typed.both s105) at31 (Plain.t-call-plain 𝓤 H A W 𝓣 5 ps·6 r·6 (claims· .12) (claims· .13) "strand::Low::renewed" (known .6) E (λ pos β. β) G107 (record { pos = 11; st = List.[]; d = 0; at = λ x. x }, (record { pos = 1; st = List.[]; d = 0; at = λ x. x }, (record { pos = 10; st = List.[]; d = 0; at = λ x. x }, (Num.vAt 14 λ x. x, (Num.vFld 13 ((Syntax.field 1) ∷ []) 80 λ x. Answered.struct .as-values x .1 .0, (record { pos = 40; ty = y20; ref = λ x. x }, (record { pos = 42; ty = y22; ref = λ x. x }, (record { pos = 3; ty = y28; ref = λ x. x }, (record { pos = 4; ty = y29; ref = λ x. x }, (record { pos = 44; ty = y14; ref = λ x. x }, tt)))))))))) 11 (19 ∷ 20 ∷ 1 ∷ 2 ∷ 21 ∷ []) (Call.sub-id 𝓤 H A W (G107 .slots)) ((Yields.yields-copy 𝓤 H A W (λ ρ. Unit) q6 Path'.refl (Copies.cStruct Low.the-type Laws'4.the-laws Laws'4.the-copy .copy 𝓤 H A W) (Rows.whole q6) (λ x. x) (λ x. x) (λ ρ told. Local.mem-whole 𝓤 H A W q6 ρ) λ ρ told. Local.whole-mem 𝓤 H A W q6 ρ, Path'.refl), ((Yields.yields-copy 𝓤 H A W (λ ρ. Unit) q0 Path'.refl (Copies.cStruct Params.the-type Laws''.the-laws Laws''.the-copy .copy 𝓤 H A W) (Rows.whole q0) (λ x. x) (λ x. x) (λ ρ told. Local.mem-whole 𝓤 H A W q0 ρ) λ ρ told. Local.whole-mem 𝓤 H A W q0 ρ, Path'.refl), ((Yields.yields-copy 𝓤 H A W (λ ρ. Unit) q5 Path'.refl (Copies.cStruct State.the-type Laws'6.the-laws Laws'6.the-copy .copy 𝓤 H A W) (Rows.whole q5) (λ x. x) (λ x. x) (λ ρ told. Local.mem-whole 𝓤 H A W q5 ρ) λ ρ told. Local.whole-mem 𝓤 H A W q5 ρ, Path'.refl), ((Scalar.reads-sc 𝓤 H A W z0, Path'.refl), ((Reads.reads-field 𝓤 H A W Answered.the-type Laws.the-laws 1 y1 80 Path'.refl, Path'.refl), (ShrSlice.spares-sslice 𝓤 H A W q3 y20 19, Shared.reads-sslice 𝓤 H A W q3 y20 19, Path'.refl, (ShrSlice.spares-sslice 𝓤 H A W q4 y22 20, Shared.reads-sslice 𝓤 H A W q4 y22 20, Path'.refl, (ShrSlice.spares-sslice 𝓤 H A W q2 y28 1, Shared.reads-sslice 𝓤 H A W q2 y28 1, Path'.refl, (ShrSlice.spares-sslice 𝓤 H A W q2 y29 2, Shared.reads-sslice 𝓤 H A W q2 y29 2, Path'.refl, (Reads'.as-is 𝓤 H A (Mut.mslice q4 y14 21), Mut.reads-mslice 𝓤 H A W q4 y14 21, Path'.refl, tt)))))))))) (Local.room-whole 𝓤 H A W q6 y10 Path'.refl) (tt, (tt, (tt, (tt, (tt, tt))))) Path'.refl) d31
+          d32 = Typed.s-seq 𝓤 H A W 𝓣 E G107 G108 b43 b48 Δ3 (Typed.both s105) at31 (Plain.t-call-plain 𝓤 H A W 𝓣 5 ps·6 r·6 (claims· .12) (claims· .13) "strand::known::LowSince::renewed" (known .6) E (λ pos β. β) G107 (record { pos = 11; st = List.[]; d = 0; at = λ x. x }, (record { pos = 1; st = List.[]; d = 0; at = λ x. x }, (record { pos = 10; st = List.[]; d = 0; at = λ x. x }, (Num.vAt 14 λ x. x, (Num.vFld 13 ((Syntax.field 1) ∷ []) 80 λ x. Answered.struct .as-values x .1 .0, (record { pos = 40; ty = y20; ref = λ x. x }, (record { pos = 42; ty = y22; ref = λ x. x }, (record { pos = 3; ty = y28; ref = λ x. x }, (record { pos = 4; ty = y29; ref = λ x. x }, (record { pos = 44; ty = y14; ref = λ x. x }, tt)))))))))) 11 (19 ∷ 20 ∷ 1 ∷ 2 ∷ 21 ∷ []) (Call.sub-id 𝓤 H A W (G107 .slots)) ((Yields.yields-copy 𝓤 H A W (λ ρ. Unit) q6 Path'.refl (Copies.cStruct LowSince.the-type Laws'7.the-laws Laws'7.the-copy .copy 𝓤 H A W) (Rows.whole q6) (λ x. x) (λ x. x) (λ ρ told. Local.mem-whole 𝓤 H A W q6 ρ) λ ρ told. Local.whole-mem 𝓤 H A W q6 ρ, Path'.refl), ((Yields.yields-copy 𝓤 H A W (λ ρ. Unit) q0 Path'.refl (Copies.cStruct Params.the-type Laws.the-laws Laws.the-copy .copy 𝓤 H A W) (Rows.whole q0) (λ x. x) (λ x. x) (λ ρ told. Local.mem-whole 𝓤 H A W q0 ρ) λ ρ told. Local.whole-mem 𝓤 H A W q0 ρ, Path'.refl), ((Yields.yields-copy 𝓤 H A W (λ ρ. Unit) q5 Path'.refl (Copies.cStruct State.the-type Laws'5.the-laws Laws'5.the-copy .copy 𝓤 H A W) (Rows.whole q5) (λ x. x) (λ x. x) (λ ρ told. Local.mem-whole 𝓤 H A W q5 ρ) λ ρ told. Local.whole-mem 𝓤 H A W q5 ρ, Path'.refl), ((Scalar.reads-sc 𝓤 H A W z0, Path'.refl), ((Reads.reads-field 𝓤 H A W Answered.the-type Laws'.the-laws 1 y1 80 Path'.refl, Path'.refl), (ShrSlice.spares-sslice 𝓤 H A W q3 y20 19, Shared.reads-sslice 𝓤 H A W q3 y20 19, Path'.refl, (ShrSlice.spares-sslice 𝓤 H A W q4 y22 20, Shared.reads-sslice 𝓤 H A W q4 y22 20, Path'.refl, (ShrSlice.spares-sslice 𝓤 H A W q2 y28 1, Shared.reads-sslice 𝓤 H A W q2 y28 1, Path'.refl, (ShrSlice.spares-sslice 𝓤 H A W q2 y29 2, Shared.reads-sslice 𝓤 H A W q2 y29 2, Path'.refl, (Reads'.as-is 𝓤 H A (Mut.mslice q4 y14 21), Mut.reads-mslice 𝓤 H A W q4 y14 21, Path'.refl, tt)))))))))) (Local.room-whole 𝓤 H A W q6 y10 Path'.refl) (tt, (tt, (tt, (tt, (tt, tt))))) Path'.refl) d31
 
           d33 : Typed.Typed 𝓤 H A 𝓣 E G106 b50 Δ3 at33
           d33 = Typed.s-seq 𝓤 H A W 𝓣 E G106 G107 b42 b49 Δ3 (Typed.ask s104) at32 (Relend.t-sl-aggregate 𝓤 H A W E q4 𝓣 (Relend.asMut q4) G106 43 44 21 y14 y14 (λ x. x) (Scalar.oFld 7 ((Syntax.field 1) ∷ []) y1 8 λ v. Shared.lenV (v .0)) (Reads'.as-is 𝓤 H A (Relend.msptr q4 y14 21)) (Reads'.room-gone 𝓤 H A y15) (Relend.reads-owed-len 𝓤 H A W q4 y32 5 21 li1 8 Path'.refl, Path'.refl) Path'.refl Path'.refl λ b o k. tt) d32
@@ -3324,7 +3324,7 @@ module _ (claims· : Claims) where
           d41 = Typed.g-pre 𝓤 H A W 𝓣 E G98 G99 b55 Δ3 (λ Ψ. Ψ) at40 (Lifetime.g-begin 𝓤 H A W E G98 19 (tt, (tt, (tt, (tt, (tt, (tt, (tt, (tt, (tt, (tt, (tt, (tt, (tt, (tt, (tt, (tt, (tt, (tt, (tt, (tt, (tt, (tt, (tt, (tt, (tt, (tt, (tt, (tt, (tt, (tt, (tt, (tt, (tt, (tt, (tt, (tt, (tt, (tt, (tt, (tt, (tt, (tt, (tt, (tt, (tt, (tt, (tt, tt)))))))))))))))))))))))))))))))))))))))))))))))) d40
 
           d42 : Typed.Typed 𝓤 H A 𝓣 E G97 b56 Δ3 at42
-          d42 = Typed.s-seq 𝓤 H A W 𝓣 E G97 G98 b36 b55 Δ3 (Typed.pass T96 T98 s95) at41 (Scalar.t-use 𝓤 H A W E 𝓣 G97 (Scalar.oFld 13 ((Syntax.field 0) ∷ (Syntax.field 0) ∷ []) y1 0 λ x. Reads.fieldV Scanned.the-type Laws'3.the-laws 0 (Answered.struct .as-values x .0)) 14 (Rows.sc-here z0) y1 (Row.valS z0) (Row.sInt Syntax.w64 .of) (Reads.reads-inner 𝓤 H A W Scanned.the-type Laws'3.the-laws (Rows.whole q10) 0 (λ x. Answered.struct .as-values x .0) (Reads.reads-field 𝓤 H A W Answered.the-type Laws.the-laws 0 y11 0 Path'.refl) 0 y1 0 Path'.refl, Path'.refl) (Reads'.room-gone 𝓤 H A y1) (Scalar.holds-sc 𝓤 H A W z0) Path'.refl (λ u. Path'.refl) λ u. tt) d41
+          d42 = Typed.s-seq 𝓤 H A W 𝓣 E G97 G98 b36 b55 Δ3 (Typed.pass T96 T98 s95) at41 (Scalar.t-use 𝓤 H A W E 𝓣 G97 (Scalar.oFld 13 ((Syntax.field 0) ∷ (Syntax.field 0) ∷ []) y1 0 λ x. Reads.fieldV Scanned.the-type Laws'3.the-laws 0 (Answered.struct .as-values x .0)) 14 (Rows.sc-here z0) y1 (Row.valS z0) (Row.sInt Syntax.w64 .of) (Reads.reads-inner 𝓤 H A W Scanned.the-type Laws'3.the-laws (Rows.whole q10) 0 (λ x. Answered.struct .as-values x .0) (Reads.reads-field 𝓤 H A W Answered.the-type Laws'.the-laws 0 y11 0 Path'.refl) 0 y1 0 Path'.refl, Path'.refl) (Reads'.room-gone 𝓤 H A y1) (Scalar.holds-sc 𝓤 H A W z0) Path'.refl (λ u. Path'.refl) λ u. tt) d41
 
           d43 : Typed.Typed 𝓤 H A 𝓣 E G96 b56 Δ3 at43
           d43 = Typed.g-pre 𝓤 H A W 𝓣 E G96 G97 b56 Δ3 (λ Ψ. Ψ) at42 (Lifetime.g-forget 𝓤 H A W E G96 18 Row.dead Path'.refl) d42
@@ -3372,7 +3372,7 @@ module _ (claims· : Claims) where
           d57 = Typed.g-pre 𝓤 H A W 𝓣 E G82 G83 b56 Δ3 (Typed.pass T82 T83 s80) at56 (Scalar.g-room 𝓤 H A W E G82 32 y21 (Shared.room-sslice 𝓤 H A W q3 y20 15)) d56
 
           d58 : Typed.Typed 𝓤 H A 𝓣 E G81 b57 Δ3 at58
-          d58 = Typed.s-seq 𝓤 H A W 𝓣 E G81 G82 b35 b56 Δ3 (Typed.both s79) at57 (Plain.t-call-plain 𝓤 H A W 𝓣 6 ps·5 r·5 (claims· .10) (claims· .11) "scans::dust::dust_backward" (known .5) E (λ pos β. β) G81 (record { pos = 1; st = List.[]; d = 0; at = λ x. x }, (record { pos = 10; st = (Syntax.field 2) ∷ (Syntax.field 5) ∷ []; d = 64; at = λ x. Window.struct .as-values (State.struct .as-values x .1 .1 .0) .1 .1 .1 .1 .1 .0 }, (Num.vAt 12 λ x. x, (record { pos = 32; ty = y20; ref = λ x. x }, (Num.vFld 10 ((Syntax.field 2) ∷ (Syntax.field 2) ∷ []) 40 λ x. Window.struct .as-values (State.struct .as-values x .1 .1 .0) .1 .1 .0, (Num.vFld 10 ((Syntax.field 2) ∷ (Syntax.field 3) ∷ []) 48 λ x. Window.struct .as-values (State.struct .as-values x .1 .1 .0) .1 .1 .1 .0, (record { pos = 34; ty = y22; ref = λ x. x }, (record { pos = 3; ty = y28; ref = λ x. x }, (record { pos = 4; ty = y29; ref = λ x. x }, (record { pos = 36; ty = y14; ref = λ x. x }, (record { pos = 38; ty = y24; ref = λ x. x }, tt))))))))))) 13 (15 ∷ 16 ∷ 1 ∷ 2 ∷ 17 ∷ 18 ∷ []) (Call.sub-id 𝓤 H A W (G81 .slots)) ((Yields.yields-copy 𝓤 H A W (λ ρ. Unit) q0 Path'.refl (Copies.cStruct Params.the-type Laws''.the-laws Laws''.the-copy .copy 𝓤 H A W) (Rows.whole q0) (λ x. x) (λ x. x) (λ ρ told. Local.mem-whole 𝓤 H A W q0 ρ) λ ρ told. Local.whole-mem 𝓤 H A W q0 ρ, Path'.refl), ((Yields'.yields-acc 𝓤 H A W (Rows.whole q5) q9 64 (λ x. Window.struct .as-values (State.struct .as-values x .1 .1 .0) .1 .1 .1 .1 .1 .0) Path'.refl (Copies.cStruct Carry.the-type Laws'.the-laws Laws'.the-copy .copy 𝓤 H A W) (Yields'.acc-record 𝓤 H A W (Rows.whole q5) Carry.the-type 64 (λ x. Window.struct .as-values (State.struct .as-values x .1 .1 .0) .1 .1 .1 .1 .1 .0) (Yields'.acc-part 𝓤 H A W (Rows.whole q5) q8 (Struct.Struct (Declared.shape Carry.the-type)) 24 40 (λ x. State.struct .as-values x .1 .1 .0) (λ y. Carry.the-type .to (Window.struct .as-values y .1 .1 .1 .1 .1 .0)) (Yields'.acc-record 𝓤 H A W (Rows.whole q5) Window.the-type 24 (λ x. State.struct .as-values x .1 .1 .0) (Yields'.acc-part 𝓤 H A W (Rows.whole q5) q5 (Struct.Struct (Declared.shape Window.the-type)) 0 24 (λ x. x) (λ y. Window.the-type .to (State.struct .as-values y .1 .1 .0)) (Yields'.acc-whole 𝓤 H A W q5) λ y a. Behind.look-at 𝓤 H A W TreeShare.fullShare State.the-type Laws'6.the-laws 2 24 Path'.refl Path'.refl a y (State.struct .as-values y) Path'.refl)) λ y a. Behind.look-at 𝓤 H A W TreeShare.fullShare Window.the-type Laws'7.the-laws 5 40 Path'.refl Path'.refl a y (Window.struct .as-values y) Path'.refl)), Path'.refl), ((Scalar.reads-sc 𝓤 H A W z0, Path'.refl), (ShrSlice.spares-sslice 𝓤 H A W q3 y20 15, Shared.reads-sslice 𝓤 H A W q3 y20 15, Path'.refl, ((Reads.reads-inner 𝓤 H A W Window.the-type Laws'7.the-laws (Rows.whole q5) 24 (λ x. State.struct .as-values x .1 .1 .0) (Reads.reads-field 𝓤 H A W State.the-type Laws'6.the-laws 2 y6 24 Path'.refl) 2 y1 16 Path'.refl, Path'.refl), ((Reads.reads-inner 𝓤 H A W Window.the-type Laws'7.the-laws (Rows.whole q5) 24 (λ x. State.struct .as-values x .1 .1 .0) (Reads.reads-field 𝓤 H A W State.the-type Laws'6.the-laws 2 y6 24 Path'.refl) 3 y1 24 Path'.refl, Path'.refl), (ShrSlice.spares-sslice 𝓤 H A W q4 y22 16, Shared.reads-sslice 𝓤 H A W q4 y22 16, Path'.refl, (ShrSlice.spares-sslice 𝓤 H A W q2 y28 1, Shared.reads-sslice 𝓤 H A W q2 y28 1, Path'.refl, (ShrSlice.spares-sslice 𝓤 H A W q2 y29 2, Shared.reads-sslice 𝓤 H A W q2 y29 2, Path'.refl, (Reads'.as-is 𝓤 H A (Mut.mslice q4 y14 17), Mut.reads-mslice 𝓤 H A W q4 y14 17, Path'.refl, (Reads'.as-is 𝓤 H A (Mut.mslice Rec·type.the-row y24 18), Mut.reads-mslice 𝓤 H A W Rec·type.the-row y24 18, Path'.refl, tt))))))))))) (Reads'.room-gone 𝓤 H A y12) (tt, (tt, (tt, (tt, (tt, (tt, tt)))))) Path'.refl) d57
+          d58 = Typed.s-seq 𝓤 H A W 𝓣 E G81 G82 b35 b56 Δ3 (Typed.both s79) at57 (Plain.t-call-plain 𝓤 H A W 𝓣 6 ps·5 r·5 (claims· .10) (claims· .11) "search::dust::dust_backward" (known .5) E (λ pos β. β) G81 (record { pos = 1; st = List.[]; d = 0; at = λ x. x }, (record { pos = 10; st = (Syntax.field 2) ∷ (Syntax.field 5) ∷ []; d = 64; at = λ x. Window.struct .as-values (State.struct .as-values x .1 .1 .0) .1 .1 .1 .1 .1 .0 }, (Num.vAt 12 λ x. x, (record { pos = 32; ty = y20; ref = λ x. x }, (Num.vFld 10 ((Syntax.field 2) ∷ (Syntax.field 2) ∷ []) 40 λ x. Window.struct .as-values (State.struct .as-values x .1 .1 .0) .1 .1 .0, (Num.vFld 10 ((Syntax.field 2) ∷ (Syntax.field 3) ∷ []) 48 λ x. Window.struct .as-values (State.struct .as-values x .1 .1 .0) .1 .1 .1 .0, (record { pos = 34; ty = y22; ref = λ x. x }, (record { pos = 3; ty = y28; ref = λ x. x }, (record { pos = 4; ty = y29; ref = λ x. x }, (record { pos = 36; ty = y14; ref = λ x. x }, (record { pos = 38; ty = y24; ref = λ x. x }, tt))))))))))) 13 (15 ∷ 16 ∷ 1 ∷ 2 ∷ 17 ∷ 18 ∷ []) (Call.sub-id 𝓤 H A W (G81 .slots)) ((Yields.yields-copy 𝓤 H A W (λ ρ. Unit) q0 Path'.refl (Copies.cStruct Params.the-type Laws.the-laws Laws.the-copy .copy 𝓤 H A W) (Rows.whole q0) (λ x. x) (λ x. x) (λ ρ told. Local.mem-whole 𝓤 H A W q0 ρ) λ ρ told. Local.whole-mem 𝓤 H A W q0 ρ, Path'.refl), ((Yields'.yields-acc 𝓤 H A W (Rows.whole q5) q9 64 (λ x. Window.struct .as-values (State.struct .as-values x .1 .1 .0) .1 .1 .1 .1 .1 .0) Path'.refl (Copies.cStruct Carry.the-type Laws''.the-laws Laws''.the-copy .copy 𝓤 H A W) (Yields'.acc-record 𝓤 H A W (Rows.whole q5) Carry.the-type 64 (λ x. Window.struct .as-values (State.struct .as-values x .1 .1 .0) .1 .1 .1 .1 .1 .0) (Yields'.acc-part 𝓤 H A W (Rows.whole q5) q8 (Struct.Struct (Declared.shape Carry.the-type)) 24 40 (λ x. State.struct .as-values x .1 .1 .0) (λ y. Carry.the-type .to (Window.struct .as-values y .1 .1 .1 .1 .1 .0)) (Yields'.acc-record 𝓤 H A W (Rows.whole q5) Window.the-type 24 (λ x. State.struct .as-values x .1 .1 .0) (Yields'.acc-part 𝓤 H A W (Rows.whole q5) q5 (Struct.Struct (Declared.shape Window.the-type)) 0 24 (λ x. x) (λ y. Window.the-type .to (State.struct .as-values y .1 .1 .0)) (Yields'.acc-whole 𝓤 H A W q5) λ y a. Behind.look-at 𝓤 H A W TreeShare.fullShare State.the-type Laws'5.the-laws 2 24 Path'.refl Path'.refl a y (State.struct .as-values y) Path'.refl)) λ y a. Behind.look-at 𝓤 H A W TreeShare.fullShare Window.the-type Laws'6.the-laws 5 40 Path'.refl Path'.refl a y (Window.struct .as-values y) Path'.refl)), Path'.refl), ((Scalar.reads-sc 𝓤 H A W z0, Path'.refl), (ShrSlice.spares-sslice 𝓤 H A W q3 y20 15, Shared.reads-sslice 𝓤 H A W q3 y20 15, Path'.refl, ((Reads.reads-inner 𝓤 H A W Window.the-type Laws'6.the-laws (Rows.whole q5) 24 (λ x. State.struct .as-values x .1 .1 .0) (Reads.reads-field 𝓤 H A W State.the-type Laws'5.the-laws 2 y6 24 Path'.refl) 2 y1 16 Path'.refl, Path'.refl), ((Reads.reads-inner 𝓤 H A W Window.the-type Laws'6.the-laws (Rows.whole q5) 24 (λ x. State.struct .as-values x .1 .1 .0) (Reads.reads-field 𝓤 H A W State.the-type Laws'5.the-laws 2 y6 24 Path'.refl) 3 y1 24 Path'.refl, Path'.refl), (ShrSlice.spares-sslice 𝓤 H A W q4 y22 16, Shared.reads-sslice 𝓤 H A W q4 y22 16, Path'.refl, (ShrSlice.spares-sslice 𝓤 H A W q2 y28 1, Shared.reads-sslice 𝓤 H A W q2 y28 1, Path'.refl, (ShrSlice.spares-sslice 𝓤 H A W q2 y29 2, Shared.reads-sslice 𝓤 H A W q2 y29 2, Path'.refl, (Reads'.as-is 𝓤 H A (Mut.mslice q4 y14 17), Mut.reads-mslice 𝓤 H A W q4 y14 17, Path'.refl, (Reads'.as-is 𝓤 H A (Mut.mslice Rec·type.the-row y24 18), Mut.reads-mslice 𝓤 H A W Rec·type.the-row y24 18, Path'.refl, tt))))))))))) (Reads'.room-gone 𝓤 H A y12) (tt, (tt, (tt, (tt, (tt, (tt, tt)))))) Path'.refl) d57
 
           d59 : Typed.Typed 𝓤 H A 𝓣 E G80 b58 Δ3 at59
           d59 = Typed.s-seq 𝓤 H A W 𝓣 E G80 G81 b34 b57 Δ3 (Typed.ask s78) at58 (Relend.t-sl-aggregate 𝓤 H A W E Rec·type.the-row 𝓣 (Relend.asMut Rec·type.the-row) G80 37 38 18 y24 y24 (λ x. x) (Scalar.oFld 8 ((Syntax.field 1) ∷ []) y1 8 λ v. Shared.lenV (v .0)) (Reads'.as-is 𝓤 H A (Relend.msptr Rec·type.the-row y24 18)) (Reads'.room-gone 𝓤 H A y25) (Relend.reads-owed-len 𝓤 H A W Rec·type.the-row y33 6 18 li4 8 Path'.refl, Path'.refl) Path'.refl Path'.refl λ b o k. tt) d58
@@ -3411,16 +3411,16 @@ module _ (claims· : Claims) where
           d70 = Typed.g-pre 𝓤 H A W 𝓣 E G69 G70 b65 Δ3 (λ Ψ. Ψ) at69 (Lifetime.g-begin 𝓤 H A W E G69 15 (tt, (tt, (tt, (tt, (tt, (tt, (tt, (tt, (tt, (tt, (tt, (tt, (tt, (tt, (tt, (tt, (tt, (tt, (tt, (tt, (tt, (tt, (tt, (tt, (tt, (tt, (tt, (tt, (tt, (tt, (tt, (tt, (tt, (tt, (tt, (tt, (tt, (tt, (tt, (tt, (tt, (tt, (tt, (tt, (tt, (tt, (tt, tt)))))))))))))))))))))))))))))))))))))))))))))))) d69
 
           d71 : Typed.Typed 𝓤 H A 𝓣 E G55 b66 Δ3 at71
-          d71 = Typed.s-seq 𝓤 H A W 𝓣 E G55 G69 b26 b65 Δ3 (Typed.both s66) at70 (Plain.t-call-plain 𝓤 H A W 𝓣 0 ps·4 r·4 (claims· .8) (claims· .9) "strand::Window::last_q_index" (known .4) E (λ pos β. β) G55 (record { pos = 10; st = (Syntax.field 2) ∷ []; d = 24; at = λ x. State.struct .as-values x .1 .1 .0 }, tt) 12 List.[] (Call.sub-id 𝓤 H A W (G55 .slots)) ((Yields'.yields-acc 𝓤 H A W (Rows.whole q5) q8 24 (λ x. State.struct .as-values x .1 .1 .0) Path'.refl (Copies.cStruct Window.the-type Laws'7.the-laws Laws'7.the-copy .copy 𝓤 H A W) (Yields'.acc-record 𝓤 H A W (Rows.whole q5) Window.the-type 24 (λ x. State.struct .as-values x .1 .1 .0) (Yields'.acc-part 𝓤 H A W (Rows.whole q5) q5 (Struct.Struct (Declared.shape Window.the-type)) 0 24 (λ x. x) (λ y. Window.the-type .to (State.struct .as-values y .1 .1 .0)) (Yields'.acc-whole 𝓤 H A W q5) λ y a. Behind.look-at 𝓤 H A W TreeShare.fullShare State.the-type Laws'6.the-laws 2 24 Path'.refl Path'.refl a y (State.struct .as-values y) Path'.refl)), Path'.refl), tt) (Reads'.room-gone 𝓤 H A y1) tt Path'.refl) d70
+          d71 = Typed.s-seq 𝓤 H A W 𝓣 E G55 G69 b26 b65 Δ3 (Typed.both s66) at70 (Plain.t-call-plain 𝓤 H A W 𝓣 0 ps·4 r·4 (claims· .8) (claims· .9) "step::window::Window::last_q_index" (known .4) E (λ pos β. β) G55 (record { pos = 10; st = (Syntax.field 2) ∷ []; d = 24; at = λ x. State.struct .as-values x .1 .1 .0 }, tt) 12 List.[] (Call.sub-id 𝓤 H A W (G55 .slots)) ((Yields'.yields-acc 𝓤 H A W (Rows.whole q5) q8 24 (λ x. State.struct .as-values x .1 .1 .0) Path'.refl (Copies.cStruct Window.the-type Laws'6.the-laws Laws'6.the-copy .copy 𝓤 H A W) (Yields'.acc-record 𝓤 H A W (Rows.whole q5) Window.the-type 24 (λ x. State.struct .as-values x .1 .1 .0) (Yields'.acc-part 𝓤 H A W (Rows.whole q5) q5 (Struct.Struct (Declared.shape Window.the-type)) 0 24 (λ x. x) (λ y. Window.the-type .to (State.struct .as-values y .1 .1 .0)) (Yields'.acc-whole 𝓤 H A W q5) λ y a. Behind.look-at 𝓤 H A W TreeShare.fullShare State.the-type Laws'5.the-laws 2 24 Path'.refl Path'.refl a y (State.struct .as-values y) Path'.refl)), Path'.refl), tt) (Reads'.room-gone 𝓤 H A y1) tt Path'.refl) d70
 
           d72 : Typed.Typed 𝓤 H A 𝓣 E G54 b67 Δ3 at72
           d72 = Typed.t-seq 𝓤 H A W 𝓣 E G54 G55 b25 b66 Δ3 at15 at71 d15 d71
 
           d73 : Typed.Typed 𝓤 H A 𝓣 E G53 b68 Δ3 at73
-          d73 = Typed.s-seq 𝓤 H A W 𝓣 E G53 G54 b16 b67 Δ3 (Typed.ask s52) at72 (Scalar.t-op2 𝓤 H A W E 𝓣 G53 (Syntax.le Syntax.unsigned) (Scalar.oAt 27 y1 (Row.valS z0)) (Scalar.oFld 10 ((Syntax.field 1) ∷ []) y1 16 (Reads.fieldV State.the-type Laws'6.the-laws 1)) 28 (Rows.sc-here Row.sBool) Syntax.tyBool (Row.valS Row.sBool) (Row.sBool .of) (Scalar.reads-sc 𝓤 H A W z0, Path'.refl) (Reads.reads-field 𝓤 H A W State.the-type Laws'6.the-laws 1 y1 16 Path'.refl, Path'.refl) (Reads'.room-gone 𝓤 H A Syntax.tyBool) (Scalar.holds-sc 𝓤 H A W Row.sBool) Path'.refl (λ u. Path'.refl) λ u. tt) d72
+          d73 = Typed.s-seq 𝓤 H A W 𝓣 E G53 G54 b16 b67 Δ3 (Typed.ask s52) at72 (Scalar.t-op2 𝓤 H A W E 𝓣 G53 (Syntax.le Syntax.unsigned) (Scalar.oAt 27 y1 (Row.valS z0)) (Scalar.oFld 10 ((Syntax.field 1) ∷ []) y1 16 (Reads.fieldV State.the-type Laws'5.the-laws 1)) 28 (Rows.sc-here Row.sBool) Syntax.tyBool (Row.valS Row.sBool) (Row.sBool .of) (Scalar.reads-sc 𝓤 H A W z0, Path'.refl) (Reads.reads-field 𝓤 H A W State.the-type Laws'5.the-laws 1 y1 16 Path'.refl, Path'.refl) (Reads'.room-gone 𝓤 H A Syntax.tyBool) (Scalar.holds-sc 𝓤 H A W Row.sBool) Path'.refl (λ u. Path'.refl) λ u. tt) d72
 
           d74 : Typed.Typed 𝓤 H A 𝓣 E G52 b68 Δ3 at74
-          d74 = Typed.g-pre 𝓤 H A W 𝓣 E G52 G53 b68 Δ3 (Typed.give s51) at73 (Know'.g-struct-known 𝓤 H A W E State.the-type Laws'6.the-laws G52 10 (λ x. x) (Reads'.as-is 𝓤 H A (Rows.whole q5))) d73
+          d74 = Typed.g-pre 𝓤 H A W 𝓣 E G52 G53 b68 Δ3 (Typed.give s51) at73 (Know'.g-struct-known 𝓤 H A W E State.the-type Laws'5.the-laws G52 10 (λ x. x) (Reads'.as-is 𝓤 H A (Rows.whole q5))) d73
 
           d75 : Typed.Typed 𝓤 H A 𝓣 E G51 b69 Δ3 at75
           d75 = Typed.s-seq 𝓤 H A W 𝓣 E G51 G52 b15 b68 Δ3 (Typed.pass T50 T52 s50) at74 (Scalar.t-use 𝓤 H A W E 𝓣 G51 (Scalar.oFld 2 ((Syntax.field 1) ∷ []) y1 8 Shared.lenV) 27 (Rows.sc-here z0) y1 (Row.valS z0) (Row.sInt Syntax.w64 .of) (Shared.reads-sslice-len 𝓤 H A W q1 y27 0 8 Path'.refl, Path'.refl) (Reads'.room-gone 𝓤 H A y1) (Scalar.holds-sc 𝓤 H A W z0) Path'.refl (λ u. Path'.refl) λ u. tt) d74
@@ -3471,7 +3471,7 @@ module _ (claims· : Claims) where
           d90 = Typed.g-pre 𝓤 H A W 𝓣 E G36 G37 b69 Δ3 (λ Ψ. Ψ) at89 (Lifetime.g-end 𝓤 H A W E G36 10 Path'.refl) d89
 
           d91 : Typed.Typed 𝓤 H A 𝓣 E G35 b70 Δ3 at91
-          d91 = Typed.s-seq 𝓤 H A W 𝓣 E G35 G36 b14 b69 Δ3 (Typed.both s34) at90 (Plain.t-call-plain 𝓤 H A W 𝓣 7 ps·2 r·2 (claims· .4) (claims· .5) "strand::until_scan" (known .2) E (λ pos β. β) G35 (record { pos = 1; st = List.[]; d = 0; at = λ x. x }, (record { pos = 10; st = List.[]; d = 0; at = λ x. x }, (record { pos = 11; st = List.[]; d = 0; at = λ x. x }, (record { pos = 2; ty = y27; ref = λ x. x }, (record { pos = 3; ty = y28; ref = λ x. x }, (record { pos = 4; ty = y29; ref = λ x. x }, (record { pos = 20; ty = y16; ref = λ x. x }, (record { pos = 22; ty = y14; ref = λ x. x }, (record { pos = 24; ty = y14; ref = λ x. x }, (record { pos = 26; ty = y18; ref = λ x. x }, tt)))))))))) 10 (0 ∷ 1 ∷ 2 ∷ 10 ∷ 11 ∷ 12 ∷ 13 ∷ []) (Call.sub-id 𝓤 H A W (G35 .slots)) ((Yields.yields-copy 𝓤 H A W (λ ρ. Unit) q0 Path'.refl (Copies.cStruct Params.the-type Laws''.the-laws Laws''.the-copy .copy 𝓤 H A W) (Rows.whole q0) (λ x. x) (λ x. x) (λ ρ told. Local.mem-whole 𝓤 H A W q0 ρ) λ ρ told. Local.whole-mem 𝓤 H A W q0 ρ, Path'.refl), ((Yields.yields-copy 𝓤 H A W (λ ρ. Unit) q5 Path'.refl (Copies.cStruct State.the-type Laws'6.the-laws Laws'6.the-copy .copy 𝓤 H A W) (Rows.whole q5) (λ x. x) (λ x. x) (λ ρ told. Local.mem-whole 𝓤 H A W q5 ρ) λ ρ told. Local.whole-mem 𝓤 H A W q5 ρ, Path'.refl), ((Yields.yields-copy 𝓤 H A W (λ ρ. Unit) q6 Path'.refl (Copies.cStruct Low.the-type Laws'4.the-laws Laws'4.the-copy .copy 𝓤 H A W) (Rows.whole q6) (λ x. x) (λ x. x) (λ ρ told. Local.mem-whole 𝓤 H A W q6 ρ) λ ρ told. Local.whole-mem 𝓤 H A W q6 ρ, Path'.refl), (ShrSlice.spares-sslice 𝓤 H A W q1 y27 0, Shared.reads-sslice 𝓤 H A W q1 y27 0, Path'.refl, (ShrSlice.spares-sslice 𝓤 H A W q2 y28 1, Shared.reads-sslice 𝓤 H A W q2 y28 1, Path'.refl, (ShrSlice.spares-sslice 𝓤 H A W q2 y29 2, Shared.reads-sslice 𝓤 H A W q2 y29 2, Path'.refl, (Reads'.as-is 𝓤 H A (Mut.mslice q3 y16 10), Mut.reads-mslice 𝓤 H A W q3 y16 10, Path'.refl, (Reads'.as-is 𝓤 H A (Mut.mslice q4 y14 11), Mut.reads-mslice 𝓤 H A W q4 y14 11, Path'.refl, (Reads'.as-is 𝓤 H A (Mut.mslice q4 y14 12), Mut.reads-mslice 𝓤 H A W q4 y14 12, Path'.refl, (Reads'.as-is 𝓤 H A (Mut.mslice (Array.Array q3 2) y18 13), Mut.reads-mslice 𝓤 H A W (Array.Array q3 2) y18 13, Path'.refl, tt)))))))))) (Local.room-whole 𝓤 H A W q5 y8 Path'.refl) (tt, (tt, (tt, (tt, (tt, (tt, (tt, tt))))))) Path'.refl) d90
+          d91 = Typed.s-seq 𝓤 H A W 𝓣 E G35 G36 b14 b69 Δ3 (Typed.both s34) at90 (Plain.t-call-plain 𝓤 H A W 𝓣 7 ps·2 r·2 (claims· .4) (claims· .5) "strand::until_scan" (known .2) E (λ pos β. β) G35 (record { pos = 1; st = List.[]; d = 0; at = λ x. x }, (record { pos = 10; st = List.[]; d = 0; at = λ x. x }, (record { pos = 11; st = List.[]; d = 0; at = λ x. x }, (record { pos = 2; ty = y27; ref = λ x. x }, (record { pos = 3; ty = y28; ref = λ x. x }, (record { pos = 4; ty = y29; ref = λ x. x }, (record { pos = 20; ty = y16; ref = λ x. x }, (record { pos = 22; ty = y14; ref = λ x. x }, (record { pos = 24; ty = y14; ref = λ x. x }, (record { pos = 26; ty = y18; ref = λ x. x }, tt)))))))))) 10 (0 ∷ 1 ∷ 2 ∷ 10 ∷ 11 ∷ 12 ∷ 13 ∷ []) (Call.sub-id 𝓤 H A W (G35 .slots)) ((Yields.yields-copy 𝓤 H A W (λ ρ. Unit) q0 Path'.refl (Copies.cStruct Params.the-type Laws.the-laws Laws.the-copy .copy 𝓤 H A W) (Rows.whole q0) (λ x. x) (λ x. x) (λ ρ told. Local.mem-whole 𝓤 H A W q0 ρ) λ ρ told. Local.whole-mem 𝓤 H A W q0 ρ, Path'.refl), ((Yields.yields-copy 𝓤 H A W (λ ρ. Unit) q5 Path'.refl (Copies.cStruct State.the-type Laws'5.the-laws Laws'5.the-copy .copy 𝓤 H A W) (Rows.whole q5) (λ x. x) (λ x. x) (λ ρ told. Local.mem-whole 𝓤 H A W q5 ρ) λ ρ told. Local.whole-mem 𝓤 H A W q5 ρ, Path'.refl), ((Yields.yields-copy 𝓤 H A W (λ ρ. Unit) q6 Path'.refl (Copies.cStruct LowSince.the-type Laws'7.the-laws Laws'7.the-copy .copy 𝓤 H A W) (Rows.whole q6) (λ x. x) (λ x. x) (λ ρ told. Local.mem-whole 𝓤 H A W q6 ρ) λ ρ told. Local.whole-mem 𝓤 H A W q6 ρ, Path'.refl), (ShrSlice.spares-sslice 𝓤 H A W q1 y27 0, Shared.reads-sslice 𝓤 H A W q1 y27 0, Path'.refl, (ShrSlice.spares-sslice 𝓤 H A W q2 y28 1, Shared.reads-sslice 𝓤 H A W q2 y28 1, Path'.refl, (ShrSlice.spares-sslice 𝓤 H A W q2 y29 2, Shared.reads-sslice 𝓤 H A W q2 y29 2, Path'.refl, (Reads'.as-is 𝓤 H A (Mut.mslice q3 y16 10), Mut.reads-mslice 𝓤 H A W q3 y16 10, Path'.refl, (Reads'.as-is 𝓤 H A (Mut.mslice q4 y14 11), Mut.reads-mslice 𝓤 H A W q4 y14 11, Path'.refl, (Reads'.as-is 𝓤 H A (Mut.mslice q4 y14 12), Mut.reads-mslice 𝓤 H A W q4 y14 12, Path'.refl, (Reads'.as-is 𝓤 H A (Mut.mslice (Array.Array q3 2) y18 13), Mut.reads-mslice 𝓤 H A W (Array.Array q3 2) y18 13, Path'.refl, tt)))))))))) (Local.room-whole 𝓤 H A W q5 y8 Path'.refl) (tt, (tt, (tt, (tt, (tt, (tt, (tt, tt))))))) Path'.refl) d90
 
           d92 : Typed.Typed 𝓤 H A 𝓣 E G34 b71 Δ3 at92
           d92 = Typed.s-seq 𝓤 H A W 𝓣 E G34 G35 b13 b70 Δ3 (Typed.ask s33) at91 (Relend.t-sl-aggregate 𝓤 H A W E (Array.Array q3 2) 𝓣 (Relend.asMut (Array.Array q3 2)) G34 25 26 13 y18 y18 (λ x. x) (Scalar.oFld 9 ((Syntax.field 1) ∷ []) y1 8 λ v. Shared.lenV (v .0)) (Reads'.as-is 𝓤 H A (Relend.msptr (Array.Array q3 2) y18 13)) (Reads'.room-gone 𝓤 H A y19) (Relend.reads-owed-len 𝓤 H A W (Array.Array q3 2) y34 7 13 li3 8 Path'.refl, Path'.refl) Path'.refl Path'.refl λ b o k. tt) d91
@@ -3519,7 +3519,7 @@ module _ (claims· : Claims) where
           d106 = Dead.t-seq-dead 𝓤 H A W 𝓣 E G23 b80 b81 Δ0 at105 d105
 
           d107 : Typed.Typed 𝓤 H A 𝓣 E G22 b83 Δ0 at107
-          d107 = Typed.s-seq 𝓤 H A W 𝓣 E G22 G23 b5 b82 Δ0 (Typed.both s21) at106 (Plain.t-call-plain 𝓤 H A W 𝓣 0 ps·1 r·1 (claims· .2) (claims· .3) "strand::Low::none" (known .1) E (λ pos β. β) G22 tt 11 List.[] (Call.sub-id 𝓤 H A W (G22 .slots)) tt (Reads'.room-gone 𝓤 H A y10) tt Path'.refl) d106
+          d107 = Typed.s-seq 𝓤 H A W 𝓣 E G22 G23 b5 b82 Δ0 (Typed.both s21) at106 (Plain.t-call-plain 𝓤 H A W 𝓣 0 ps·1 r·1 (claims· .2) (claims· .3) "strand::known::LowSince::none" (known .1) E (λ pos β. β) G22 tt 11 List.[] (Call.sub-id 𝓤 H A W (G22 .slots)) tt (Reads'.room-gone 𝓤 H A y10) tt Path'.refl) d106
 
           d108 : Typed.Typed 𝓤 H A 𝓣 E G21 b83 Δ0 at108
           d108 = Typed.g-pre 𝓤 H A W 𝓣 E G21 G22 b83 Δ0 (λ Ψ. Ψ) at107 (Lifetime.g-forget 𝓤 H A W E G21 9 Row.dead Path'.refl) d107
@@ -3602,16 +3602,16 @@ module _ (claims· : Claims) where
           pub p : Kinds.Den {n = 8} κs (Value.pVal record {
             ty = Declared.row Params.the-type;
             one = Path'.refl;
-            val = Laws'8.val Params.the-type Laws''.the-laws;
-            tells = Laws'8.tells Params.the-type Laws''.the-laws;
-            still = Laws'8.still Params.the-type Laws''.the-copy Exit.yes;
+            val = Laws'8.val Params.the-type Laws.the-laws;
+            tells = Laws'8.tells Params.the-type Laws.the-laws;
+            still = Laws'8.still Params.the-type Laws.the-copy Exit.yes;
             row = Rows.whole (Declared.row Params.the-type);
             rd = λ x. x;
             mk = λ x. x;
           } λ M 𝓤 H A W. record {
-            copies = Laws'8.copy Params.the-type Laws''.the-copy 𝓤 H A W;
-            lawful = Laws'8.lawful Params.the-type Laws''.the-laws 𝓤 H A W;
-            makes = Laws'8.makes Params.the-type Laws''.the-plain 𝓤 H A;
+            copies = Laws'8.copy Params.the-type Laws.the-copy 𝓤 H A W;
+            lawful = Laws'8.lawful Params.the-type Laws.the-laws 𝓤 H A W;
+            makes = Laws'8.makes Params.the-type Laws.the-plain 𝓤 H A;
             in-mem = Local.mem-whole 𝓤 H A W (Declared.row Params.the-type);
             of-mem = Local.whole-mem 𝓤 H A W (Declared.row Params.the-type);
           })
@@ -3899,7 +3899,7 @@ module _ (claims· : Claims) where
           (Rec·type.the-row .Denot)) →
           (list : List.List (Array.Array (Referent.rtF (Referent.fInt Syntax.w32)) 2 .Denot)) →
           (st : Rows.whole (Declared.row State.the-type) .Mod) →
-          (low : Rows.whole (Declared.row Low.the-type) .Mod) →
+          (low : Rows.whole (Declared.row LowSince.the-type) .Mod) →
           Typed.Mo T23
       m17 = λ before queue window-counts scan-counts candidates list st low. Row.set 11 (11, Rows.whole q6) low (Row.setRow 10 (10, Rows.whole q5) (Row.setRow 9 (9, Mut.mslice (Array.Array q3 2) y34 7) (Row.setRow 8 (8, Mut.mslice Rec·type.the-row y33 6) (Row.setRow 7 (7, Mut.mslice q4 y32 5) (Row.setRow 6 (6, Mut.mslice q4 y31 4) (Row.setRow 5 (5, Mut.mslice q3 y30 3) (T23 .locals))))))) (Row.set 10 (10, Rows.whole q5) st (Row.setRow 9 (9, Mut.mslice (Array.Array q3 2) y34 7) (Row.setRow 8 (8, Mut.mslice Rec·type.the-row y33 6) (Row.setRow 7 (7, Mut.mslice q4 y32 5) (Row.setRow 6 (6, Mut.mslice q4 y31 4) (Row.setRow 5 (5, Mut.mslice q3 y30 3) (T23 .locals)))))) (Row.set 9 (9, Mut.mslice (Array.Array q3 2) y34 7) record { ptr = Row.get 9 (T23 .locals) (m16 (before .before) (After-none·gave before)) .ptr; name = Row.get 9 (T23 .locals) (m16 (before .before) (After-none·gave before)) .name; now = list } (Row.setRow 8 (8, Mut.mslice Rec·type.the-row y33 6) (Row.setRow 7 (7, Mut.mslice q4 y32 5) (Row.setRow 6 (6, Mut.mslice q4 y31 4) (Row.setRow 5 (5, Mut.mslice q3 y30 3) (T23 .locals))))) (Row.set 8 (8, Mut.mslice Rec·type.the-row y33 6) record { ptr = Row.get 8 (T23 .locals) (m16 (before .before) (After-none·gave before)) .ptr; name = Row.get 8 (T23 .locals) (m16 (before .before) (After-none·gave before)) .name; now = candidates } (Row.setRow 7 (7, Mut.mslice q4 y32 5) (Row.setRow 6 (6, Mut.mslice q4 y31 4) (Row.setRow 5 (5, Mut.mslice q3 y30 3) (T23 .locals)))) (Row.set 7 (7, Mut.mslice q4 y32 5) record { ptr = Row.get 7 (T23 .locals) (m16 (before .before) (After-none·gave before)) .ptr; name = Row.get 7 (T23 .locals) (m16 (before .before) (After-none·gave before)) .name; now = scan-counts } (Row.setRow 6 (6, Mut.mslice q4 y31 4) (Row.setRow 5 (5, Mut.mslice q3 y30 3) (T23 .locals))) (Row.set 6 (6, Mut.mslice q4 y31 4) record { ptr = Row.get 6 (T23 .locals) (m16 (before .before) (After-none·gave before)) .ptr; name = Row.get 6 (T23 .locals) (m16 (before .before) (After-none·gave before)) .name; now = window-counts } (Row.setRow 5 (5, Mut.mslice q3 y30 3) (T23 .locals)) (Row.set 5 (5, Mut.mslice q3 y30 3) record { ptr = Row.get 5 (T23 .locals) (m16 (before .before) (After-none·gave before)) .ptr; name = Row.get 5 (T23 .locals) (m16 (before .before) (After-none·gave before)) .name; now = queue } (T23 .locals) (m16 (before .before) (After-none·gave before))))))))
 
@@ -3912,7 +3912,7 @@ module _ (claims· : Claims) where
           (Rec·type.the-row .Denot)) →
           (list : List.List (Array.Array (Referent.rtF (Referent.fInt Syntax.w32)) 2 .Denot)) →
           (st : Rows.whole (Declared.row State.the-type) .Mod) →
-          (low : Rows.whole (Declared.row Low.the-type) .Mod) →
+          (low : Rows.whole (Declared.row LowSince.the-type) .Mod) →
           Typed.Want O3
       W3 = λ before queue window-counts scan-counts candidates list st low. Typed.inLoop T23 O2 (Typed.Round T23 O2 put0 (λ u vs. Inv·0 (Row.get 1 (T23 .locals) u) (Row.get 2 (T23 .locals) u .now) (Row.get 3 (T23 .locals) u .now) (Row.get 4 (T23 .locals) u .now) (Row.get 5 (T23 .locals) u .now) (Row.get 6 (T23 .locals) u .now) (Row.get 7 (T23 .locals) u .now) (Row.get 8 (T23 .locals) u .now) (Row.get 9 (T23 .locals) u .now) (Row.get 10 (T23 .locals) u) (Row.get 11 (T23 .locals) u) (vs .0) (vs .1) (vs .2) (vs .3) (vs .4) (vs .5) (vs .6)) (λ u vs. μ·0 (Row.get 1 (T23 .locals) u) (Row.get 2 (T23 .locals) u .now) (Row.get 3 (T23 .locals) u .now) (Row.get 4 (T23 .locals) u .now) (Row.get 5 (T23 .locals) u .now) (Row.get 6 (T23 .locals) u .now) (Row.get 7 (T23 .locals) u .now) (Row.get 8 (T23 .locals) u .now) (Row.get 9 (T23 .locals) u .now) (Row.get 10 (T23 .locals) u) (Row.get 11 (T23 .locals) u) (vs .0) (vs .1) (vs .2) (vs .3) (vs .4) (vs .5) (vs .6)) at103 (m16 (before .before) (After-none·gave before)) (queue, window-counts, scan-counts, candidates, list, st, low)) (W2 (before .before) (After-none·gave before))
 
@@ -3925,7 +3925,7 @@ module _ (claims· : Claims) where
               (Rec·type.the-row .Denot)
           pub list : List.List (Array.Array (Referent.rtF (Referent.fInt Syntax.w32)) 2 .Denot)
           pub st : Rows.whole (Declared.row State.the-type) .Mod
-          pub low : Rows.whole (Declared.row Low.the-type) .Mod
+          pub low : Rows.whole (Declared.row LowSince.the-type) .Mod
           pub inv : Inv·0
               (Row.get 1 (T23 .locals) (m16 (before· .before) (After-none·gave before·)))
               (Row.get 2 (T23 .locals) (m16 (before· .before) (After-none·gave before·)) .now)
@@ -4925,7 +4925,7 @@ module _ (claims· : Claims) where
             r·1
             (claims· .2)
             (claims· .3)
-            "strand::Low::none")
+            "strand::known::LowSince::none")
             (known2 : Plain.Known
             𝓤
             H
@@ -4949,7 +4949,7 @@ module _ (claims· : Claims) where
             r·3
             (claims· .6)
             (claims· .7)
-            "strand::Open::close")
+            "step::hand::Open::close")
             (known4 : Plain.Known
             𝓤
             H
@@ -4961,7 +4961,7 @@ module _ (claims· : Claims) where
             r·4
             (claims· .8)
             (claims· .9)
-            "strand::Window::last_q_index")
+            "step::window::Window::last_q_index")
             (known5 : Plain.Known
             𝓤
             H
@@ -4973,7 +4973,7 @@ module _ (claims· : Claims) where
             r·5
             (claims· .10)
             (claims· .11)
-            "scans::dust::dust_backward")
+            "search::dust::dust_backward")
             (known6 : Plain.Known
             𝓤
             H
@@ -4985,7 +4985,7 @@ module _ (claims· : Claims) where
             r·6
             (claims· .12)
             (claims· .13)
-            "strand::Low::renewed")
+            "strand::known::LowSince::renewed")
             (known7 : Plain.Known
             𝓤
             H
@@ -4997,7 +4997,7 @@ module _ (claims· : Claims) where
             r·7
             (claims· .14)
             (claims· .15)
-            "strand::State::answered") where
+            "step::state::State::answered") where
           pub spec :
               Statement.Triple
               𝓤

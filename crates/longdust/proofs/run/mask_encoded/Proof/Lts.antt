@@ -916,7 +916,7 @@ abbrev b32 : Syntax.Body
 b32 = Syntax.assign (Syntax.place 45 List.[]) (Syntax.aggregate ((Syntax.copy (Syntax.place 44 List.[])) ∷ (Syntax.copy (Syntax.place 18 List.[])) ∷ []))
 
 abbrev b33 : Syntax.Body
-b33 = Syntax.call "longdust::run::both_strands" ((Syntax.copy (Syntax.place 22 List.[])) ∷ (Syntax.copy (Syntax.place 1 ((Syntax.field 7) ∷ []))) ∷ (Syntax.copy (Syntax.place 2 List.[])) ∷ (Syntax.copy (Syntax.place 19 List.[])) ∷ (Syntax.copy (Syntax.place 20 List.[])) ∷ (Syntax.copy (Syntax.place 29 List.[])) ∷ (Syntax.copy (Syntax.place 31 List.[])) ∷ (Syntax.copy (Syntax.place 33 List.[])) ∷ (Syntax.copy (Syntax.place 35 List.[])) ∷ (Syntax.copy (Syntax.place 37 List.[])) ∷ (Syntax.copy (Syntax.place 39 List.[])) ∷ (Syntax.copy (Syntax.place 41 List.[])) ∷ (Syntax.copy (Syntax.place 43 List.[])) ∷ (Syntax.copy (Syntax.place 45 List.[])) ∷ []) (Syntax.place 23 List.[])
+b33 = Syntax.call "mask::both_strands" ((Syntax.copy (Syntax.place 22 List.[])) ∷ (Syntax.copy (Syntax.place 1 ((Syntax.field 7) ∷ []))) ∷ (Syntax.copy (Syntax.place 2 List.[])) ∷ (Syntax.copy (Syntax.place 19 List.[])) ∷ (Syntax.copy (Syntax.place 20 List.[])) ∷ (Syntax.copy (Syntax.place 29 List.[])) ∷ (Syntax.copy (Syntax.place 31 List.[])) ∷ (Syntax.copy (Syntax.place 33 List.[])) ∷ (Syntax.copy (Syntax.place 35 List.[])) ∷ (Syntax.copy (Syntax.place 37 List.[])) ∷ (Syntax.copy (Syntax.place 39 List.[])) ∷ (Syntax.copy (Syntax.place 41 List.[])) ∷ (Syntax.copy (Syntax.place 43 List.[])) ∷ (Syntax.copy (Syntax.place 45 List.[])) ∷ []) (Syntax.place 23 List.[])
 
 abbrev b34 : Syntax.Body
 b34 = Syntax.call "longdust::run::accepted" ((Syntax.copy (Syntax.place 23 List.[])) ∷ (Syntax.copy (Syntax.place 21 List.[])) ∷ []) (Syntax.place 0 List.[])
@@ -1718,7 +1718,7 @@ module _ (claims· : Claims) where
       (Post· : (κs : Lifetimes.Lfts 12) → (a : Kinds.Dens κs ps) → Kinds.Plain 12 ps r κs) where
     module _ (M : Type 1) where
       abbrev pub Closed : Type 2
-      Closed = (𝓤 : URA.URA M) (H : Wp.Heap 𝓤) (A : Atoms.Atoms 𝓤) (W : Kit.Given 𝓤 H A) (𝓣 : Wp.Tables 𝓤 H) (known0 : Plain.Known 𝓤 H A W 𝓣 0 ps·0 r·0 (claims· .0) (claims· .1) "letters::n_kmers") (known1 : Plain.Known 𝓤 H A W 𝓣 2 ps·1 r·1 (claims· .2) (claims· .3) "longdust::run::in_range") (known2 : Plain.Known 𝓤 H A W 𝓣 2 ps·2 r·2 (claims· .4) (claims· .5) "longdust::run::prepare") (known3 : Plain.Known 𝓤 H A W 𝓣 12 ps·3 r·3 (claims· .6) (claims· .7) "longdust::run::both_strands") (known4 : Plain.Known 𝓤 H A W 𝓣 0 ps·4 r·4 (claims· .8) (claims· .9) "longdust::run::accepted") → Statement.Triple 𝓤 (Wp.WpFn 𝓤 H (𝓣 .C) (𝓣 .Λ) (Function.fnOf 12 ps r xs m hs body)) (Function.plainOf 𝓤 H A 12 ps r Pre· Post·)
+      Closed = (𝓤 : URA.URA M) (H : Wp.Heap 𝓤) (A : Atoms.Atoms 𝓤) (W : Kit.Given 𝓤 H A) (𝓣 : Wp.Tables 𝓤 H) (known0 : Plain.Known 𝓤 H A W 𝓣 0 ps·0 r·0 (claims· .0) (claims· .1) "letters::n_kmers") (known1 : Plain.Known 𝓤 H A W 𝓣 2 ps·1 r·1 (claims· .2) (claims· .3) "longdust::run::in_range") (known2 : Plain.Known 𝓤 H A W 𝓣 2 ps·2 r·2 (claims· .4) (claims· .5) "longdust::run::prepare") (known3 : Plain.Known 𝓤 H A W 𝓣 12 ps·3 r·3 (claims· .6) (claims· .7) "mask::both_strands") (known4 : Plain.Known 𝓤 H A W 𝓣 0 ps·4 r·4 (claims· .8) (claims· .9) "longdust::run::accepted") → Statement.Triple 𝓤 (Wp.WpFn 𝓤 H (𝓣 .C) (𝓣 .Λ) (Function.fnOf 12 ps r xs m hs body)) (Function.plainOf 𝓤 H A 12 ps r Pre· Post·)
 
     module _ where
       abbrev at0 : Typed.TF T100 O0
@@ -2027,7 +2027,7 @@ module _ (claims· : Claims) where
       module _ {M : Type 1} (𝓤 : URA.URA M) (H : Wp.Heap 𝓤) (A : Atoms.Atoms 𝓤)
           (W : Kit.Given 𝓤 H A) (𝓣 : Wp.Tables 𝓤 H) where
         abbrev Knowns : Type 1
-        Knowns = Plain.Known 𝓤 H A W 𝓣 0 ps·0 r·0 (claims· .0) (claims· .1) "letters::n_kmers" × Plain.Known 𝓤 H A W 𝓣 2 ps·1 r·1 (claims· .2) (claims· .3) "longdust::run::in_range" × Plain.Known 𝓤 H A W 𝓣 2 ps·2 r·2 (claims· .4) (claims· .5) "longdust::run::prepare" × Plain.Known 𝓤 H A W 𝓣 12 ps·3 r·3 (claims· .6) (claims· .7) "longdust::run::both_strands" × Plain.Known 𝓤 H A W 𝓣 0 ps·4 r·4 (claims· .8) (claims· .9) "longdust::run::accepted"
+        Knowns = Plain.Known 𝓤 H A W 𝓣 0 ps·0 r·0 (claims· .0) (claims· .1) "letters::n_kmers" × Plain.Known 𝓤 H A W 𝓣 2 ps·1 r·1 (claims· .2) (claims· .3) "longdust::run::in_range" × Plain.Known 𝓤 H A W 𝓣 2 ps·2 r·2 (claims· .4) (claims· .5) "longdust::run::prepare" × Plain.Known 𝓤 H A W 𝓣 12 ps·3 r·3 (claims· .6) (claims· .7) "mask::both_strands" × Plain.Known 𝓤 H A W 𝓣 0 ps·4 r·4 (claims· .8) (claims· .9) "longdust::run::accepted"
 
       module _ (κs : Lifetimes.Lfts 12) (qs : Lifetimes.Shares 12) where
         abbrev li0 : Row.Life
@@ -2709,7 +2709,7 @@ module _ (claims· : Claims) where
           d44 = Typed.g-pre 𝓤 H A W 𝓣 E G56 G57 b36 Δ0 (Typed.pass T56 T57 s55) at43 (Scalar.g-room 𝓤 H A W E G56 19 y3 (Shared.room-sslice 𝓤 H A W q2 y2 1)) d43
 
           d45 : Typed.Typed 𝓤 H A 𝓣 E G55 b37 Δ0 at45
-          d45 = Typed.s-seq 𝓤 H A W 𝓣 E G55 G56 b33 b36 Δ0 (Typed.both s54) at44 (Plain.t-call-plain 𝓤 H A W 𝓣 12 ps·3 r·3 (claims· .6) (claims· .7) "longdust::run::both_strands" (known .3) E (λ pos β. β) G55 (record { pos = 22; st = List.[]; d = 0; at = λ x. x }, (Bool.bFld 1 ((Syntax.field 7) ∷ []) 51 λ x. LongdustOptions.struct .as-values x .1 .1 .1 .1 .1 .1 .1 .0, (record { pos = 2; ty = y19; ref = λ x. x }, (record { pos = 19; ty = y2; ref = λ x. x }, (record { pos = 20; ty = y2; ref = λ x. x }, (record { pos = 29; ty = y7; ref = λ x. x }, (record { pos = 31; ty = y9; ref = λ x. x }, (record { pos = 33; ty = y9; ref = λ x. x }, (record { pos = 35; ty = y11; ref = λ x. x }, (record { pos = 37; ty = y14; ref = λ x. x }, (record { pos = 39; ty = y16; ref = λ x. x }, (record { pos = 41; ty = y16; ref = λ x. x }, (record { pos = 43; ty = y16; ref = λ x. x }, (record { pos = 45; ty = y14; ref = λ x. x }, tt)))))))))))))) 23 (0 ∷ 1 ∷ 2 ∷ 12 ∷ 13 ∷ 14 ∷ 15 ∷ 16 ∷ 17 ∷ 18 ∷ 19 ∷ 20 ∷ []) (Call.sub-id 𝓤 H A W (G55 .slots)) ((Yields.yields-copy 𝓤 H A W (λ ρ. Unit) q6 Path'.refl (Copies.cStruct Params.the-type Laws''.the-laws Laws''.the-copy .copy 𝓤 H A W) (Rows.whole q6) (λ x. x) (λ x. x) (λ ρ told. Local.mem-whole 𝓤 H A W q6 ρ) λ ρ told. Local.whole-mem 𝓤 H A W q6 ρ, Path'.refl), ((Reads.reads-field 𝓤 H A W LongdustOptions.the-type Laws'.the-laws 7 Syntax.tyBool 51 Path'.refl, Path'.refl), (ShrSlice.spares-sslice 𝓤 H A W q1 y19 0, Shared.reads-sslice 𝓤 H A W q1 y19 0, Path'.refl, (ShrSlice.spares-sslice 𝓤 H A W q2 y2 1, Shared.reads-sslice 𝓤 H A W q2 y2 1, Path'.refl, (ShrSlice.spares-sslice 𝓤 H A W q2 y2 2, Shared.reads-sslice 𝓤 H A W q2 y2 2, Path'.refl, (Reads'.as-is 𝓤 H A (Mut.mslice q3 y7 12), Mut.reads-mslice 𝓤 H A W q3 y7 12, Path'.refl, (Reads'.as-is 𝓤 H A (Mut.mslice q4 y9 13), Mut.reads-mslice 𝓤 H A W q4 y9 13, Path'.refl, (Reads'.as-is 𝓤 H A (Mut.mslice q4 y9 14), Mut.reads-mslice 𝓤 H A W q4 y9 14, Path'.refl, (Reads'.as-is 𝓤 H A (Mut.mslice Rec·type.the-row y11 15), Mut.reads-mslice 𝓤 H A W Rec·type.the-row y11 15, Path'.refl, (Reads'.as-is 𝓤 H A (Mut.mslice q1 y14 16), Mut.reads-mslice 𝓤 H A W q1 y14 16, Path'.refl, (Reads'.as-is 𝓤 H A (Mut.mslice (Array.Array q3 2) y16 17), Mut.reads-mslice 𝓤 H A W (Array.Array q3 2) y16 17, Path'.refl, (Reads'.as-is 𝓤 H A (Mut.mslice (Array.Array q3 2) y16 18), Mut.reads-mslice 𝓤 H A W (Array.Array q3 2) y16 18, Path'.refl, (Reads'.as-is 𝓤 H A (Mut.mslice (Array.Array q3 2) y16 19), Mut.reads-mslice 𝓤 H A W (Array.Array q3 2) y16 19, Path'.refl, (Reads'.as-is 𝓤 H A (Mut.mslice q1 y14 20), Mut.reads-mslice 𝓤 H A W q1 y14 20, Path'.refl, tt)))))))))))))) (Reads'.room-gone 𝓤 H A y0) (tt, (tt, (tt, (tt, (tt, (tt, (tt, (tt, (tt, (tt, (tt, (tt, tt)))))))))))) Path'.refl) d44
+          d45 = Typed.s-seq 𝓤 H A W 𝓣 E G55 G56 b33 b36 Δ0 (Typed.both s54) at44 (Plain.t-call-plain 𝓤 H A W 𝓣 12 ps·3 r·3 (claims· .6) (claims· .7) "mask::both_strands" (known .3) E (λ pos β. β) G55 (record { pos = 22; st = List.[]; d = 0; at = λ x. x }, (Bool.bFld 1 ((Syntax.field 7) ∷ []) 51 λ x. LongdustOptions.struct .as-values x .1 .1 .1 .1 .1 .1 .1 .0, (record { pos = 2; ty = y19; ref = λ x. x }, (record { pos = 19; ty = y2; ref = λ x. x }, (record { pos = 20; ty = y2; ref = λ x. x }, (record { pos = 29; ty = y7; ref = λ x. x }, (record { pos = 31; ty = y9; ref = λ x. x }, (record { pos = 33; ty = y9; ref = λ x. x }, (record { pos = 35; ty = y11; ref = λ x. x }, (record { pos = 37; ty = y14; ref = λ x. x }, (record { pos = 39; ty = y16; ref = λ x. x }, (record { pos = 41; ty = y16; ref = λ x. x }, (record { pos = 43; ty = y16; ref = λ x. x }, (record { pos = 45; ty = y14; ref = λ x. x }, tt)))))))))))))) 23 (0 ∷ 1 ∷ 2 ∷ 12 ∷ 13 ∷ 14 ∷ 15 ∷ 16 ∷ 17 ∷ 18 ∷ 19 ∷ 20 ∷ []) (Call.sub-id 𝓤 H A W (G55 .slots)) ((Yields.yields-copy 𝓤 H A W (λ ρ. Unit) q6 Path'.refl (Copies.cStruct Params.the-type Laws''.the-laws Laws''.the-copy .copy 𝓤 H A W) (Rows.whole q6) (λ x. x) (λ x. x) (λ ρ told. Local.mem-whole 𝓤 H A W q6 ρ) λ ρ told. Local.whole-mem 𝓤 H A W q6 ρ, Path'.refl), ((Reads.reads-field 𝓤 H A W LongdustOptions.the-type Laws'.the-laws 7 Syntax.tyBool 51 Path'.refl, Path'.refl), (ShrSlice.spares-sslice 𝓤 H A W q1 y19 0, Shared.reads-sslice 𝓤 H A W q1 y19 0, Path'.refl, (ShrSlice.spares-sslice 𝓤 H A W q2 y2 1, Shared.reads-sslice 𝓤 H A W q2 y2 1, Path'.refl, (ShrSlice.spares-sslice 𝓤 H A W q2 y2 2, Shared.reads-sslice 𝓤 H A W q2 y2 2, Path'.refl, (Reads'.as-is 𝓤 H A (Mut.mslice q3 y7 12), Mut.reads-mslice 𝓤 H A W q3 y7 12, Path'.refl, (Reads'.as-is 𝓤 H A (Mut.mslice q4 y9 13), Mut.reads-mslice 𝓤 H A W q4 y9 13, Path'.refl, (Reads'.as-is 𝓤 H A (Mut.mslice q4 y9 14), Mut.reads-mslice 𝓤 H A W q4 y9 14, Path'.refl, (Reads'.as-is 𝓤 H A (Mut.mslice Rec·type.the-row y11 15), Mut.reads-mslice 𝓤 H A W Rec·type.the-row y11 15, Path'.refl, (Reads'.as-is 𝓤 H A (Mut.mslice q1 y14 16), Mut.reads-mslice 𝓤 H A W q1 y14 16, Path'.refl, (Reads'.as-is 𝓤 H A (Mut.mslice (Array.Array q3 2) y16 17), Mut.reads-mslice 𝓤 H A W (Array.Array q3 2) y16 17, Path'.refl, (Reads'.as-is 𝓤 H A (Mut.mslice (Array.Array q3 2) y16 18), Mut.reads-mslice 𝓤 H A W (Array.Array q3 2) y16 18, Path'.refl, (Reads'.as-is 𝓤 H A (Mut.mslice (Array.Array q3 2) y16 19), Mut.reads-mslice 𝓤 H A W (Array.Array q3 2) y16 19, Path'.refl, (Reads'.as-is 𝓤 H A (Mut.mslice q1 y14 20), Mut.reads-mslice 𝓤 H A W q1 y14 20, Path'.refl, tt)))))))))))))) (Reads'.room-gone 𝓤 H A y0) (tt, (tt, (tt, (tt, (tt, (tt, (tt, (tt, (tt, (tt, (tt, (tt, tt)))))))))))) Path'.refl) d44
 
           d46 : Typed.Typed 𝓤 H A 𝓣 E G54 b38 Δ0 at46
           d46 = Typed.s-seq 𝓤 H A W 𝓣 E G54 G55 b32 b37 Δ0 (Typed.ask s53) at45 (Relend.t-sl-aggregate 𝓤 H A W E q1 𝓣 (Relend.asMut q1) G54 44 45 20 y14 y14 (λ x. x) (Scalar.oAt 18 y0 (Row.valS z0)) (Reads'.as-is 𝓤 H A (Relend.msptr q1 y14 20)) (Reads'.room-gone 𝓤 H A y15) (Scalar.reads-sc 𝓤 H A W z0, Path'.refl) Path'.refl Path'.refl λ b o k. tt) d45
@@ -3985,7 +3985,7 @@ module _ (claims· : Claims) where
             r·3
             (claims· .6)
             (claims· .7)
-            "longdust::run::both_strands")
+            "mask::both_strands")
             (known4 : Plain.Known
             𝓤
             H

@@ -1,0 +1,4 @@
+pub mod Certified
+pub mod Carry
+pub mod Search
+pub mod Fails

@@ -1,0 +1,4 @@
+pub mod Step
+pub mod ScanFind
+pub mod Dropping
+pub mod Terms
