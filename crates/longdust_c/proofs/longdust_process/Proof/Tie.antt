@@ -2,21 +2,21 @@
 use Rattle.longdust.proofs.process.Met
 use Rattle.longdust.proofs.CallsProcessProcessReads as Reads
 use Rattle.longdust.proofs.process.Symbol
-use Rattle.longdust_c.proofs.count_or_refusal.Met as Met'
-use Rattle.longdust_c.proofs.count_or_refusal.Reads as Reads'
-use Rattle.longdust_c.proofs.count_or_refusal.Symbol as Symbol'
-use Rattle.longdust_c.proofs.flag_of.Met as Met''
-use Rattle.longdust_c.proofs.flag_of.Reads as Reads''
-use Rattle.longdust_c.proofs.flag_of.Symbol as Symbol''
+use Rattle.c_numbers.proofs.count_or_refusal.Met as Met'
+use Rattle.c_numbers.proofs.count_or_refusal.Reads as Reads'
+use Rattle.c_numbers.proofs.count_or_refusal.Symbol as Symbol'
+use Rattle.c_numbers.proofs.flag_of.Met as Met''
+use Rattle.c_numbers.proofs.flag_of.Reads as Reads''
+use Rattle.c_numbers.proofs.flag_of.Symbol as Symbol''
 use Rattle.longdust_c.proofs.longdust_process.Code
 use Rattle.longdust_c.proofs.longdust_process.Key
 use Rattle.longdust_c.proofs.LongdustProcessKinds as Kinds
 use Rattle.longdust_c.proofs.longdust_process.Proof.Lts
 use Rattle.longdust_c.proofs.LongdustProcessReads as Reads'3
 use Rattle.longdust_c.proofs.longdust_process.Statement
-use Rattle.longdust_c.proofs.options_of.Met as Met'3
-use Rattle.longdust_c.proofs.options_of.Reads as Reads'4
-use Rattle.longdust_c.proofs.options_of.Symbol as Symbol'3
+use Rattle.c_numbers.proofs.options_of.Met as Met'3
+use Rattle.c_numbers.proofs.options_of.Reads as Reads'4
+use Rattle.c_numbers.proofs.options_of.Symbol as Symbol'3
 use borrow.Fn.Run
 use borrow.Fn.Written
 use contract.Running
@@ -880,7 +880,7 @@ module _ {M : Type 1} where
       Code.env
       Symbol'3.name
       Symbol'3.routine
-      Code.calls-longdust-c·options-of
+      Code.calls-c-numbers·options-of
       (Met'3.met 𝓤 H 𝓜 𝓖 𝓡))
       (Reads.known
       record { M = M; 𝓤 = 𝓤; H = H; 𝓜 = 𝓜; 𝓖 = 𝓖; 𝓡 = 𝓡 }
@@ -894,12 +894,12 @@ module _ {M : Type 1} where
       Code.env
       Symbol''.name
       Symbol''.routine
-      Code.calls-longdust-c·flag-of
+      Code.calls-c-numbers·flag-of
       (Met''.met 𝓤 H 𝓜 𝓖 𝓡))
       (Reads'.known
       record { M = M; 𝓤 = 𝓤; H = H; 𝓜 = 𝓜; 𝓖 = 𝓖; 𝓡 = 𝓡 }
       Code.env
       Symbol'.name
       Symbol'.routine
-      Code.calls-longdust-c·count-or-refusal
+      Code.calls-c-numbers·count-or-refusal
       (Met'.met 𝓤 H 𝓜 𝓖 𝓡))

@@ -2,21 +2,21 @@
 use Rattle.longdust.proofs.process_tables.Met
 use Rattle.longdust.proofs.CallsProcessTablesProcessTablesReads as Reads
 use Rattle.longdust.proofs.process_tables.Symbol
-use Rattle.longdust_c.proofs.count_or_refusal.Met as Met'
-use Rattle.longdust_c.proofs.count_or_refusal.Reads as Reads'
-use Rattle.longdust_c.proofs.count_or_refusal.Symbol as Symbol'
-use Rattle.longdust_c.proofs.flag_of.Met as Met''
-use Rattle.longdust_c.proofs.flag_of.Reads as Reads''
-use Rattle.longdust_c.proofs.flag_of.Symbol as Symbol''
+use Rattle.c_numbers.proofs.count_or_refusal.Met as Met'
+use Rattle.c_numbers.proofs.count_or_refusal.Reads as Reads'
+use Rattle.c_numbers.proofs.count_or_refusal.Symbol as Symbol'
+use Rattle.c_numbers.proofs.flag_of.Met as Met''
+use Rattle.c_numbers.proofs.flag_of.Reads as Reads''
+use Rattle.c_numbers.proofs.flag_of.Symbol as Symbol''
 use Rattle.longdust_c.proofs.longdust_process_tables.Code
 use Rattle.longdust_c.proofs.longdust_process_tables.Key
 use Rattle.longdust_c.proofs.LongdustProcessTablesKinds as Kinds
 use Rattle.longdust_c.proofs.longdust_process_tables.Proof.Lts
 use Rattle.longdust_c.proofs.LongdustProcessTablesReads as Reads'3
 use Rattle.longdust_c.proofs.longdust_process_tables.Statement
-use Rattle.longdust_c.proofs.options_of.Met as Met'3
-use Rattle.longdust_c.proofs.options_of.Reads as Reads'4
-use Rattle.longdust_c.proofs.options_of.Symbol as Symbol'3
+use Rattle.c_numbers.proofs.options_of.Met as Met'3
+use Rattle.c_numbers.proofs.options_of.Reads as Reads'4
+use Rattle.c_numbers.proofs.options_of.Symbol as Symbol'3
 use borrow.Fn.Run
 use borrow.Fn.Written
 use contract.Running
@@ -780,7 +780,7 @@ module _ {M : Type 1} where
       Code.env
       Symbol'3.name
       Symbol'3.routine
-      Code.calls-longdust-c·options-of
+      Code.calls-c-numbers·options-of
       (Met'3.met 𝓤 H 𝓜 𝓖 𝓡))
       (Reads.known
       record { M = M; 𝓤 = 𝓤; H = H; 𝓜 = 𝓜; 𝓖 = 𝓖; 𝓡 = 𝓡 }
@@ -794,12 +794,12 @@ module _ {M : Type 1} where
       Code.env
       Symbol''.name
       Symbol''.routine
-      Code.calls-longdust-c·flag-of
+      Code.calls-c-numbers·flag-of
       (Met''.met 𝓤 H 𝓜 𝓖 𝓡))
       (Reads'.known
       record { M = M; 𝓤 = 𝓤; H = H; 𝓜 = 𝓜; 𝓖 = 𝓖; 𝓡 = 𝓡 }
       Code.env
       Symbol'.name
       Symbol'.routine
-      Code.calls-longdust-c·count-or-refusal
+      Code.calls-c-numbers·count-or-refusal
       (Met'.met 𝓤 H 𝓜 𝓖 𝓡))
