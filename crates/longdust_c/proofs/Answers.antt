@@ -18,7 +18,8 @@ use Rattle.longdust.specs.declared.Answer.{Answer}
 use Rattle.longdust.specs.Buffers.{Buffers, lengths}
 use Rattle.longdust.specs.Call.{listed, Answered}
 use Rattle.longdust.proofs.Accept.{admitted}
-use Rattle.longdust_c.specs.Exported.{countOr, flag, Exported}
+use Rattle.c_numbers.specs.Numbers.{countOr, flag}
+use Rattle.longdust_c.specs.Exported.{Exported}
 
 module _ {Tables : LongdustOptions → List ℕ → Buffers → Buffers → Type 0} {o : LongdustOptions} {s : List ℕ} {b b′ : Buffers} {a : Answer} (r : Answered Tables o s b b′ a) where
   pub count-small : a .count < 9223372036854775808

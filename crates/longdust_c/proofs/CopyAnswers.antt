@@ -12,7 +12,7 @@ use Rattle.intervals.specs.Interval.{Interval}
 use Rattle.masked_copy.specs.declared.Masking.{Masking}
 use Rattle.masked_copy.specs.declared.Copied.{Copied}
 use Rattle.masked_copy.specs.Copy.{Copies}
-use Rattle.longdust_c.specs.Exported.{countOr}
+use Rattle.c_numbers.specs.Numbers.{countOr}
 use Rattle.longdust_c.specs.Copies.{ExportedCopy}
 
 module _ {m : Masking} {is : List Interval} {s d d′ : List ℕ} {a : Copied} (r : Copies m is s d d′ a) where

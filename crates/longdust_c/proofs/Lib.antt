@@ -1,4 +1,3 @@
-pub mod Numbers
 pub mod Answers
 pub mod CopyAnswers
 pub mod QuestionAnswers

@@ -11,7 +11,7 @@ use mir.ValLaws.{toZ-ofZ}
 use Rattle.intervals.specs.Interval.{Interval}
 use Rattle.questions.specs.declared.Answered.{Answered}
 use Rattle.questions.specs.Batch.{Answers}
-use Rattle.longdust_c.specs.Exported.{countOr}
+use Rattle.c_numbers.specs.Numbers.{countOr}
 use Rattle.longdust_c.specs.Questions.{ExportedAnswers}
 
 module _ {n : ℕ} {is : List Interval} {qs : List (List ℕ)} {s s′ : List ℕ} {r r′ : List (List ℕ)} {a : Answered} (A : Answers n is qs s s′ r r′ a) where

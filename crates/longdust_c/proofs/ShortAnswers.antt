@@ -11,7 +11,7 @@ use Rattle.short_sequences.specs.declared.Tallied.{Tallied}
 use Rattle.short_sequences.specs.Tallies.{Tallies}
 use Rattle.short_sequences.proofs.Refusals.{accepted}
 use Rattle.short_sequences.proofs.Sequences.{few-sequences}
-use Rattle.longdust_c.specs.Exported.{countOr}
+use Rattle.c_numbers.specs.Numbers.{countOr}
 use Rattle.longdust_c.specs.Short.{ExportedTallies}
 
 module _ {m : ℕ} {d d′ : List ℕ} {a : Tallied} (r : Tallies m d d′ a) where

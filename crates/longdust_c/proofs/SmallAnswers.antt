@@ -9,7 +9,7 @@ use mir.ValLaws.{toZ-ofZ}
 use Rattle.longdust.specs.declared.LongdustOptions.{LongdustOptions}
 use Rattle.small.specs.declared.Written.{Written}
 use Rattle.small.specs.Call.{Writes}
-use Rattle.longdust_c.specs.Exported.{countOr}
+use Rattle.c_numbers.specs.Numbers.{countOr}
 use Rattle.longdust_c.specs.Small.{ExportedSmall}
 
 module _ {o : LongdustOptions} {s d d′ : List ℕ} {a : Written} (r : Writes o s d d′ a) where

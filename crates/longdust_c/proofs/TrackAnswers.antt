@@ -14,7 +14,7 @@ use Rattle.tracks.specs.declared.Joining.{Joining}
 use Rattle.tracks.specs.Tracks.{joined, Joins}
 use Rattle.tracks.proofs.Refusals.{accepted}
 use Rattle.tracks.proofs.Theorems.{joined-canonical}
-use Rattle.longdust_c.specs.Exported.{countOr}
+use Rattle.c_numbers.specs.Numbers.{countOr}
 use Rattle.longdust_c.specs.Tracks.{ExportedJoin}
 
 module _ {kind : Joined} {n : ℕ} {ours : List Interval} {ms : List ℕ} {theirs : List Interval} {xs xs′ : List (List ℕ)} {ys ys′ : List ℕ}

@@ -1,18 +1,13 @@
 -- The terms of the exported call for masked copies.
 use Prim.Native.Nat.{ℕ}
 use mathlib.Core.Path.{_≡_}
-use mathlib.Core.Bool.{cond}
 use mathlib.Core.List.{List}
 use lib.IntN.{ℤ}
 use Rattle.intervals.specs.Interval.{Interval}
 use Rattle.masked_copy.specs.declared.Masking.{Masking}
-use Rattle.masked_copy.specs.declared.Masking.the-variants.{LowerCase, Replace}
 use Rattle.masked_copy.specs.declared.Copied.{Copied}
 use Rattle.masked_copy.specs.Copy.{Copies}
-use Rattle.longdust_c.specs.Exported.{yes, countOr}
-
-abbrev pub maskingOf : ℕ → ℕ → Masking
-maskingOf lower-case replacement = cond (yes lower-case) LowerCase (Replace replacement)
+use Rattle.c_numbers.specs.Numbers.{countOr}
 
 -- The number that the call returns is that of its answer, and the answer is that of the call of crate masked_copy.
 pub record ExportedCopy (m : Masking) (is : List Interval) (s d d′ : List ℕ) (result : ℤ) : Type 0 where

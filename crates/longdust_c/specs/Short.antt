@@ -5,7 +5,7 @@ use mathlib.Core.List.{List}
 use lib.IntN.{ℤ}
 use Rattle.short_sequences.specs.declared.Tallied.{Tallied}
 use Rattle.short_sequences.specs.Tallies.{Tallies}
-use Rattle.longdust_c.specs.Exported.{countOr}
+use Rattle.c_numbers.specs.Numbers.{countOr}
 
 -- The number that the call returns and that of the refused are those of its answer, and the answer is that of the call of crate short_sequences.
 pub record ExportedTallies (m : ℕ) (d d′ : List ℕ) (result : ℤ) (refused : ℕ) : Type 0 where

@@ -6,7 +6,7 @@ use lib.IntN.{ℤ}
 use Rattle.strongest.specs.declared.Strongest.{Strongest}
 use Rattle.strongest.specs.Strongest.{Asked}
 use Rattle.strongest.specs.Call.{Answers}
-use Rattle.longdust_c.specs.Exported.{countOr}
+use Rattle.c_numbers.specs.Numbers.{countOr}
 
 -- The numbers that the call returns and sets are those of its answer, and the answer is that of the call of crate strongest.
 pub record ExportedStretch (Q : Asked) (cs cs′ counts counts′ : List ℕ) (result : ℤ) (start : ℕ) (score : ℤ) (gap : ℕ) : Type 0 where

@@ -1,18 +1,10 @@
 // The call for masked copies.
 
-ghost use mathlib.Core.Path.{_≡_};
+ghost use Rattle.c_numbers.specs.Numbers.{maskingOf};
 ghost use Rattle.intervals.specs.Interval.{listOf};
-ghost use Rattle.longdust_c.specs.Copies.{maskingOf, ExportedCopy};
-use masked_copy::Masking;
-
-fn masking_of(lower_case: u32, replacement: u8) -> Masking
-    ensures { λ r. ⌜ r ≡ maskingOf «lower_case» replacement ⌝ }
-{
-    if lower_case == 0 {
-        return Masking::Replace(replacement);
-    }
-    Masking::LowerCase
-}
+ghost use Rattle.longdust_c.specs.Copies.{ExportedCopy};
+use c_numbers::count_or_refusal;
+use c_numbers::masking_of;
 
 // The sequence over the front of `copy`, its letters masked that an interval of the list holds.
 #[no_mangle]
@@ -28,5 +20,5 @@ pub extern "C" fn longdust_masked_copy(
 {
     let masking = masking_of(lower_case, replacement);
     let copied = masked_copy::masked_copy(sequence, list, masking, copy);
-    crate::count_or_refusal(copied.refusal, copied.count)
+    count_or_refusal(copied.refusal, copied.count)
 }

@@ -1,21 +1,10 @@
 // The call for joining tracks.
 
-ghost use mathlib.Core.Path.{_≡_};
+ghost use Rattle.c_numbers.specs.Numbers.{kindOf};
 ghost use Rattle.intervals.specs.Interval.{listOf};
-ghost use Rattle.longdust_c.specs.Tracks.{kindOf, ExportedJoin};
-use tracks::Joined;
-
-fn kind_of(kind: u32) -> Joined
-    ensures { λ r. ⌜ r ≡ kindOf kind ⌝ }
-{
-    if kind == 0 {
-        return Joined::Either;
-    }
-    if kind == 1 {
-        return Joined::Both;
-    }
-    Joined::Outside
-}
+ghost use Rattle.longdust_c.specs.Tracks.{ExportedJoin};
+use c_numbers::count_or_refusal;
+use c_numbers::kind_of;
 
 // The letters of our list and of theirs that are wanted, and the marks of our intervals, over the fronts of `list` and `list_marks`.
 #[no_mangle]
@@ -33,5 +22,5 @@ pub extern "C" fn longdust_join_tracks(
 {
     let wanted = kind_of(kind);
     let joining = tracks::join_tracks(wanted, n, ours, marks, theirs, list, list_marks);
-    crate::count_or_refusal(joining.refusal, joining.count)
+    count_or_refusal(joining.refusal, joining.count)
 }

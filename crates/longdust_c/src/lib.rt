@@ -7,88 +7,13 @@ mod profile;
 mod short;
 mod stretches;
 
-ghost use mathlib.Core.Path.{_≡_};
-ghost use Prim.Native.Nat.{_<_};
+ghost use Rattle.c_numbers.specs.Numbers.{optionsOf};
 ghost use Rattle.longdust.specs.Buffers.{buffers};
 ghost use Rattle.longdust.specs.Call.{Kept, Filled};
-ghost use Rattle.longdust_c.specs.Exported.{gcChoice, xdropChoice, optionsOf, countOr, flag, Exported};
-use longdust::LongdustOptions;
-use scans::Xdrop;
-use tables::GcOption;
-
-// The GC choice that two numbers stand for.
-fn gc_choice(gc_kind: u32, gc_value: f64) -> GcOption
-    ensures { λ r. ⌜ r ≡ gcChoice «gc_kind» «gc_value» ⌝ }
-{
-    if gc_kind == 0 {
-        return GcOption::Uniform;
-    }
-    if gc_kind == 1 {
-        return GcOption::Fixed(gc_value);
-    }
-    if gc_kind == 2 {
-        return GcOption::Auto;
-    }
-    GcOption::Fixed(0.0 / 0.0)
-}
-
-// The xdrop that two numbers stand for.
-fn xdrop_choice(xdrop_set: u32, xdrop_length: u32) -> Xdrop
-    ensures { λ r. ⌜ r ≡ xdropChoice «xdrop_set» «xdrop_length» ⌝ }
-{
-    if xdrop_set == 0 {
-        return Xdrop::Off;
-    }
-    Xdrop::Length(xdrop_length)
-}
-
-// The options that the numbers of a call stand for.
-fn options_of(
-    kmer: usize,
-    window_size: usize,
-    score_threshold: f64,
-    gc_kind: u32,
-    gc_value: f64,
-    xdrop_set: u32,
-    xdrop_length: u32,
-    min_start_cnt: u16,
-    approx: u32,
-    forward_only: u32,
-) -> LongdustOptions
-    ensures { λ r. ⌜ r ≡ optionsOf kmer «window_size» «score_threshold» «gc_kind» «gc_value» «xdrop_set» «xdrop_length»
-        «min_start_cnt» approx «forward_only» ⌝ }
-{
-    let gc = gc_choice(gc_kind, gc_value);
-    let xdrop = xdrop_choice(xdrop_set, xdrop_length);
-    LongdustOptions {
-        window_size,
-        score_threshold,
-        kmer,
-        gc,
-        xdrop,
-        min_start_cnt,
-        approx: approx != 0,
-        forward_only: forward_only != 0,
-    }
-}
-
-// The count, or minus the refusal number.
-fn count_or_refusal(refusal: u32, count: usize) -> i64
-    requires { ⌜ count < 9223372036854775808 ⌝ }
-    ensures { λ r. ⌜ r ≡ countOr refusal count ⌝ }
-{
-    if refusal == 0 {
-        return count as i64;
-    }
-    -(refusal as i64)
-}
-
-// The flag as a number.
-fn flag_of(in_range: bool) -> u32
-    ensures { λ r. ⌜ r ≡ flag «in_range» ⌝ }
-{
-    if in_range { 1 } else { 0 }
-}
+ghost use Rattle.longdust_c.specs.Exported.{Exported};
+use c_numbers::count_or_refusal;
+use c_numbers::flag_of;
+use c_numbers::options_of;
 
 // `longdust::process_tables` on numbers and slices: answers the interval count or minus the refusal number, and sets the flag.
 #[no_mangle]

@@ -2,6 +2,7 @@
 
 ghost use Rattle.intervals.specs.Interval.{listOf};
 ghost use Rattle.longdust_c.specs.Questions.{ExportedAnswers};
+use c_numbers::count_or_refusal;
 
 // A summary of the list and a result for each question, over the fronts of `summary` and `results`.
 #[no_mangle]
@@ -16,5 +17,5 @@ pub extern "C" fn longdust_questions(
         (now (summary .entry)) (now (summary .exit)) (now (results .entry)) (now (results .exit)) r ⌝ }
 {
     let answered = questions::answer_questions(n, list, questions, summary, results);
-    crate::count_or_refusal(answered.refusal, answered.count)
+    count_or_refusal(answered.refusal, answered.count)
 }

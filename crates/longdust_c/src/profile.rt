@@ -1,6 +1,9 @@
 // The small profile's call: numbers and byte slices alone, in work space of its own.
 
-ghost use Rattle.longdust_c.specs.Small.{smallOptions, ExportedSmall};
+ghost use Rattle.c_numbers.specs.Numbers.{smallOptions};
+ghost use Rattle.longdust_c.specs.Small.{ExportedSmall};
+use c_numbers::count_or_refusal;
+use c_numbers::small_options;
 
 // The mask of the sequence over the front of `out`, each interval as its start and its end, four bytes each, lowest first.
 #[no_mangle]
@@ -20,12 +23,10 @@ pub extern "C" fn longdust_small(
         (smallOptions kmer «window_size» «score_threshold» «xdrop_set» «xdrop_length» «min_start_cnt» approx «forward_only»)
         (now (sequence .entry)) (now (out .entry)) (now (out .exit)) r ⌝ }
 {
-    let options = crate::options_of(
+    let options = small_options(
         kmer,
         window_size,
         score_threshold,
-        0,
-        0.0,
         xdrop_set,
         xdrop_length,
         min_start_cnt,
@@ -33,5 +34,5 @@ pub extern "C" fn longdust_small(
         forward_only,
     );
     let written = small::write_mask(sequence, options, out);
-    crate::count_or_refusal(written.refusal, written.count)
+    count_or_refusal(written.refusal, written.count)
 }

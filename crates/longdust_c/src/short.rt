@@ -1,6 +1,7 @@
 // The call for all short sequences.
 
 ghost use Rattle.longdust_c.specs.Short.{ExportedTallies};
+use c_numbers::count_or_refusal;
 
 // Fills the front of `tallies` for all sequences of m letters over A C G T N, and sets how many are refused.
 #[no_mangle]
@@ -9,5 +10,5 @@ pub extern "C" fn longdust_short_sequences(m: usize, tallies: &mut [u32], refuse
 {
     let tallied = short_sequences::short_sequences(m, tallies);
     *refused = tallied.refused;
-    crate::count_or_refusal(tallied.refusal, tallied.sequences)
+    count_or_refusal(tallied.refusal, tallied.sequences)
 }

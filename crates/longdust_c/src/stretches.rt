@@ -2,6 +2,7 @@
 
 ghost use Rattle.strongest.specs.Call.{asked};
 ghost use Rattle.longdust_c.specs.Stretches.{ExportedStretch};
+use c_numbers::count_or_refusal;
 
 // The best stretch up to `place` within the budget of steps: answers the steps or minus the refusal number, and sets start, score and gap.
 #[no_mangle]
@@ -41,5 +42,5 @@ pub extern "C" fn longdust_strongest_stretch(
     *start = found.start as u64;
     *score = best;
     *gap = found.gap;
-    crate::count_or_refusal(found.refusal, found.steps)
+    count_or_refusal(found.refusal, found.steps)
 }

@@ -3,8 +3,8 @@
 // | the Rust | here |
 // |---|---|
 // | `process`, its max_test | limits: `max_test` |
-// | `extend` | step: `extend` |
-// | `if_backward` | step: `if_backward`, with `window_value` of counts and `Params::max_steps` of limits |
+// | `extend` | letter: `extend` |
+// | `if_backward` | letter: `if_backward`, with `window_value` of counts and `Params::max_steps` of limits |
 // | `dust_forward` | forward: `dust_forward`, a `forward_part` for each straight part of the ring |
 // | `dust_backward`, its xdrop | limits: `drop_limit` |
 // | `dust_backward`, its clearing of the scan counts | queue: `clear_from`, where a scan touched them |
@@ -15,9 +15,9 @@
 mod backward;
 mod counts;
 mod forward;
+mod letter;
 mod limits;
 mod queue;
-mod step;
 
 pub use backward::BackwardState;
 pub use backward::backward_on;
@@ -28,6 +28,8 @@ pub use counts::window_value;
 pub use forward::ForwardState;
 pub use forward::SLACK;
 pub use forward::dust_forward;
+pub use letter::extend;
+pub use letter::if_backward;
 pub use limits::drop_limit;
 pub use limits::is_usual;
 pub use limits::max_test;
@@ -35,8 +37,6 @@ pub use queue::clear_from;
 pub use queue::newest_entry;
 pub use queue::ring_index;
 pub use queue::uncount;
-pub use step::extend;
-pub use step::if_backward;
 
 // The backward scan stops where its score lies more than this many thresholds below the best; `Off`: as many as the window has places.
 pub enum Xdrop {

@@ -28,7 +28,7 @@ use Rattle.scans.proofs.Evidence.{evidence}
 use Rattle.scans.proofs.ForwardScore.{forward-inside, forward-find}
 use Rattle.step.specs.Step.{Run, begin, sumWithout, withoutOldest, leave, join, search, firstLetter, startAfter, whole, saveFrom, savedAfter, foundBy, found, look, step, runFrom, run, intervalsOfPlaces}
 use Rattle.step.proofs.Finds.{search-facts}
-use Rattle.step.specs.Terms.Finding.{Shaped}
+use Rattle.step.specs.Terms.Finding.{ShapedList}
 use Rattle.step.proofs.Shape.{ShapedAt, first-is, begin-shaped, leave-shaped, join-shaped, join-some, step-shaped}
 use Rattle.step.proofs.WindowSum.{leave-near, join-near, window-above}
 use Rattle.step.proofs.Placing.{Placed, placed-room, placed-leave, placed-join, placed-below, placed-lengths, placed-stretch}
@@ -144,7 +144,7 @@ module _ (S : Setup) (R : InRange S) (ps : List Place) (B : Below (kmers S) ps) 
   From (pos s) x = s ≤ x
   From (negsuc s) x = Unit {0}
 
-  saved-evidence : (k i : ℕ) (start end : ℤ) (saved : List Interval) → Shaped k i start end saved → Evidenced start end saved → (x : ℕ) → Covers (saveFrom saved start end) x → Evidence S ps x
+  saved-evidence : (k i : ℕ) (start end : ℤ) (saved : List Interval) → ShapedList k i start end saved → Evidenced start end saved → (x : ℕ) → Covers (saveFrom saved start end) x → Evidence S ps x
   saved-evidence k i (pos s) end saved h g x c =
       ⊎-elim (λ d. g .in-saved x d) (λ d. g .in-open x d) (save-covers i k s (whole end) saved x (h .canonical) (h .ends-below) .0 c)
   saved-evidence k i (negsuc s) end saved h g x c = g .in-saved x c
@@ -164,7 +164,7 @@ module _ (S : Setup) (R : InRange S) (ps : List Place) (B : Below (kmers S) ps) 
     open-old (pos b) (pos a) (negsuc e) t f g x c = absurd t
     open-old (pos b) (pos a) (pos e) t f g x c = ⊎-elim (λ (l : x < a). g x (c .0, omega (arith, ltb→lt a e t))) (λ (l : a ≤ x). f x l (c .1)) (lt-or-le x a)
 
-    evidenced-find : (k : ℕ) (start end s : ℤ) (saved : List Interval) → Shaped k i start end saved → Evidenced start end saved → Letters s
+    evidenced-find : (k : ℕ) (start end s : ℤ) (saved : List Interval) → ShapedList k i start end saved → Evidenced start end saved → Letters s
         → Evidenced (startAfter start end s) (pos (i + 1)) (savedAfter saved start end s)
     evidenced-find k start end s saved h g f =
         record {

@@ -20,7 +20,7 @@ use Rattle.scans.specs.Scans.{Find, none, at, Outcome}
 use Rattle.scans.proofs.Test.{by-test}
 use Rattle.scans.proofs.ForwardScore.{forward-inside}
 use Rattle.step.specs.Step.{Run, begin, withoutOldest, leave, join, search, st2, firstLetter, startAfter, whole, saveFrom, savedAfter, foundBy, found, look, step, runFrom, run, intervalsOfPlaces}
-use Rattle.step.specs.Terms.Finding.{StartOk, Shaped}
+use Rattle.step.specs.Terms.Finding.{StartOk, ShapedList}
 use Rattle.step.proofs.Finds.{search-facts}
 
 -- ---- st2 is (i + j + 2) - (len + k).
@@ -48,17 +48,17 @@ start-more k (pos s) e e′ h r = omega arith
 start-more k (negsuc s) e e′ h r = tt
 
 -- The interval from start to end is saved.
-pub saved-canonical : (k i : ℕ) (start end : ℤ) (saved : List Interval) → Shaped k i start end saved → Canonical i k (saveFrom saved start end)
+pub saved-canonical : (k i : ℕ) (start end : ℤ) (saved : List Interval) → ShapedList k i start end saved → Canonical i k (saveFrom saved start end)
 saved-canonical k i (pos s) end saved h = save-canonical i k s (whole end) saved (h .start-ok) (h .end-in) (h .canonical)
 saved-canonical k i (negsuc s) end saved h = h .canonical
 
-saved-ends : (k i : ℕ) (start end : ℤ) (saved : List Interval) → Shaped k i start end saved → EndsBelow (i + 1) (saveFrom saved start end)
+saved-ends : (k i : ℕ) (start end : ℤ) (saved : List Interval) → ShapedList k i start end saved → EndsBelow (i + 1) (saveFrom saved start end)
 saved-ends k i (pos s) end saved h =
     save-ends i k s (whole end) (i + 1) saved (h .canonical) (omega (arith, h .end-in)) (ends-more (whole end) (i + 1) saved (omega (arith, h .end-in)) (h .ends-below))
 saved-ends k i (negsuc s) end saved h = ends-more (whole end) (i + 1) saved (omega (arith, h .end-in)) (h .ends-below)
 
 -- At every letter what is saved fits R rows, also after a save.
-pub saved-room : (n k i : ℕ) (start end : ℤ) (saved : List Interval) → i ≤ n → Shaped k i start end saved
+pub saved-room : (n k i : ℕ) (start end : ℤ) (saved : List Interval) → i ≤ n → ShapedList k i start end saved
     → (length saved ≤ (n + 1) / (k + 1)) × (length (saveFrom saved start end) ≤ (n + 1) / (k + 1))
 saved-room n k i start end saved l h = (
   canonical-room n k saved (ascending-more i n k 0 saved l (h .canonical)),
@@ -66,13 +66,13 @@ saved-room n k i start end saved l h = (
 )
 
 -- More letters, without a find.
-pub shaped-more : (k i i′ : ℕ) (start end : ℤ) (saved : List Interval) → i ≤ i′ → Shaped k i start end saved → Shaped k i′ start end saved
+pub shaped-more : (k i i′ : ℕ) (start end : ℤ) (saved : List Interval) → i ≤ i′ → ShapedList k i start end saved → ShapedList k i′ start end saved
 shaped-more k i i′ start end saved l h =
     record { canonical = ascending-more i i′ k 0 saved l (h .canonical); ends-below = h .ends-below; end-in = omega (arith, h .end-in); start-ok = h .start-ok }
 
 -- With a find whose letters start at s.
-shaped-find : (k i : ℕ) (start end s : ℤ) (saved : List Interval) → Shaped k i start end saved → StartOk k s (i + 1)
-    → Shaped k (i + 1) (startAfter start end s) (pos (i + 1)) (savedAfter saved start end s)
+shaped-find : (k i : ℕ) (start end s : ℤ) (saved : List Interval) → ShapedList k i start end saved → StartOk k s (i + 1)
+    → ShapedList k (i + 1) (startAfter start end s) (pos (i + 1)) (savedAfter saved start end s)
 shaped-find k i start end s saved h w =
     let kept : List Interval = saveFrom saved start end in
     record {
@@ -92,7 +92,7 @@ start-of k i len j l r = subst (λ (z : ℤ). StartOk k z (i + 1)) (sym (first-i
 
 -- ---- The letters, one by one.
 abbrev pub ShapedAt : Setup → ℕ → Run → Type 0
-ShapedAt S i a = Shaped (S .kmer) i (a .start) (a .end) (a .saved)
+ShapedAt S i a = ShapedList (S .kmer) i (a .start) (a .end) (a .saved)
 
 abbrev pub InWindow : List Place → Find → Type 0
 InWindow q none = Unit {0}

@@ -32,7 +32,7 @@ use Rattle.step.specs.Terms.KnownCounts.{KnownCounts, Sought, sought, Passing, 
 use Rattle.step.specs.Terms.Like.{Like}
 use Rattle.step.specs.Terms.Entering.{held, newestOf, Entered, unread}
 use Rattle.step.specs.Terms.Searching.{Looks}
-use Rattle.step.specs.Terms.Finding.{Closing, savedIn, Saving, TakesFind, PassedOn, StartOk, Shaped}
+use Rattle.step.specs.Terms.Finding.{Closing, savedIn, Saving, TakesFind, PassedOn, StartOk, ShapedList}
 use Rattle.strand.specs.Terms.ReadingOn.{runTo, Skims, Stops}
 use Rattle.strand.specs.Terms.Running.{PartLent, StrandLent, Finished, Before, ScanAnswer, Asking, Due, StrandList}
 use Rattle.step.proofs.Shape.{ShapedAt, shaped-more, saved-room, begin-shaped, step-shaped}
@@ -51,7 +51,7 @@ closing-of k i (pos s) (negsuc e) a b c d = absurd (let b : ⊥ = omega arith in
 closing-of k i (negsuc s) end a b c d = tt
 
 pub saving : {k i : ℕ} {o : Open} {list : List (List ℕ)} (n : ℕ) → 0 < k → n < 2147483648 → i ≤ n → (n + 1) / (k + 1) ≤ length list → o .count ≤ length list
-    → Shaped k i (o .start) (o .end) (savedIn (o .count) list) → Saving o list
+    → ShapedList k i (o .start) (o .end) (savedIn (o .count) list) → Saving o list
 saving {k} {i} {o} {list} n some small l long count-in h =
     let r = saved-room n k i (o .start) (o .end) (savedIn (o .count) list) l h in
     record {
@@ -150,7 +150,7 @@ module _ {p : Params} {codes : List ℕ} {ln f : List Float} {a : State} {ring w
         subst (λ (o : Open). Like (r .i + 1) (held a′ ring′ counts′ saved′) (look S (r .i) (held r ring′ counts₁ (savedIn (o .count) list)) (newestOf p r))) stopped-hand (t .like) in
         let code = stepped saved (s .enters) at-end now (like-refl {a = b}) in
         let i-after : a′ .i ≡ i + 1 = t .i-is ∙ ap (λ (i : ℕ). i + 1) (s .enters .i-is) in
-        let shaped = subst (λ (o : Open). Shaped (p .kmer) (a .i) (o .start) (o .end) saved) (sym (s .skims .hand-is)) (v .shaped) in
+        let shaped = subst (λ (o : Open). ShapedList (p .kmer) (a .i) (o .start) (o .end) saved) (sym (s .skims .hand-is)) (v .shaped) in
         record {
           read = record { i-in = omega (arith, t .i-is, l); kmer-is = t .kmer-is ∙ s .enters .kmer-is ∙ ap (kmerAfter (p .kmer) codes) (sym i-after); windowed = t .windowed; known = t .known };
           shaped = rw i-after

@@ -61,7 +61,7 @@ abbrev pub StartOk : ℕ → ℤ → ℕ → Type 0
 StartOk k (pos s) e = s + k ≤ e
 StartOk k (negsuc s) e = Unit {0}
 
-pub record Shaped (k i : ℕ) (start end : ℤ) (saved : List Interval) : Type 0 where
+pub record ShapedList (k i : ℕ) (start end : ℤ) (saved : List Interval) : Type 0 where
   pub canonical : Canonical i k saved
   pub ends-below : EndsBelow (whole end) saved
   pub end-in : whole end ≤ i

@@ -22,7 +22,7 @@ use Rattle.search.specs.declared.Scanned.{Scanned}
 use Rattle.step.specs.Terms.Like.{Like}
 use Rattle.step.specs.Terms.KnownCounts.{KnownCounts, Clearing, answeredBy}
 use Rattle.step.specs.Terms.Entering.{held}
-use Rattle.step.specs.Terms.Finding.{savedIn, Saving, Shaped, TakesFind}
+use Rattle.step.specs.Terms.Finding.{savedIn, Saving, ShapedList, TakesFind}
 use Rattle.strand.specs.Terms.ReadingOn.{Read, runTo}
 
 -- ---- What is lent.
@@ -48,7 +48,7 @@ pub record StrandLent (p : Params) (n n-ln n-f n-ring n-window-counts n-counts n
 -- ---- Before a letter.
 pub record Before (p : Params) (codes : List ℕ) (ln f : List Float) (a : State) (ring window-counts counts : List ℕ) (list : List (List ℕ)) : Type 0 where
   pub read : Read p codes ln f a ring window-counts counts
-  pub shaped : Shaped (p .kmer) (a .i) (a .hand .start) (a .hand .end) (savedIn (a .hand .count) list)
+  pub shaped : ShapedList (p .kmer) (a .i) (a .hand .start) (a .hand .end) (savedIn (a .hand .count) list)
   pub count-in : a .hand .count ≤ length list
   pub like : Like (a .i) (held a ring counts (savedIn (a .hand .count) list)) (runTo (setupOf p ln f) codes (a .i))
 

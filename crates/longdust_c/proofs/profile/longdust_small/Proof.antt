@@ -12,7 +12,7 @@ count-or-refusal-requires c κs = omega (arith, count-few (c .before .before .wr
 returns : tie.Need-returns
 returns c =
     let W = c .before .before .before in
-    exported-small (W .write-mask .ensures) (W .before .before .options-of .ensures) (record { sfits = c .count-or-refusal .ok }) (c .count-or-refusal .ensures)
+    exported-small (W .write-mask .ensures) (W .before .before .small-options .ensures) (record { sfits = c .count-or-refusal .ok }) (c .count-or-refusal .ensures)
 
 pub longdust-small-spec : {M : Type 1} → statement M
 longdust-small-spec =

@@ -1,7 +1,7 @@
 -- `xdrop_choice` meets its contract: each return is a case of the definition.
 use borrow.Author.Tests.{eq-eqb, ne-eqb}
-use Rattle.longdust_c.proofs.xdrop_choice.Statement.{statement}
-use Rattle.longdust_c.proofs.xdrop_choice.Tie as tie
+use Rattle.c_numbers.proofs.xdrop_choice.Statement.{statement}
+use Rattle.c_numbers.proofs.xdrop_choice.Tie as tie
 
 pub xdrop-choice-spec : {M : Type 1} → statement M
 xdrop-choice-spec = tie.close (tie.spec (λ c. rw (eq-eqb _ 0 (c .if1 .taken))) (λ c. rw (ne-eqb _ 0 (c .if1 .left))))

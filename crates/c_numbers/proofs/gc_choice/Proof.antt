@@ -1,8 +1,8 @@
 -- `gc_choice` meets its contract: each return is a case of the definition.
 use borrow.Author.Tests.{eq-eqb, ne-eqb}
 use lib.Ieee.{ofBits, div}
-use Rattle.longdust_c.proofs.gc_choice.Statement.{statement}
-use Rattle.longdust_c.proofs.gc_choice.Tie as tie
+use Rattle.c_numbers.proofs.gc_choice.Statement.{statement}
+use Rattle.c_numbers.proofs.gc_choice.Tie as tie
 
 returns-4 : tie.Need-returns-4
 unfolding ofBits div

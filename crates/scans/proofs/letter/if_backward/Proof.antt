@@ -6,8 +6,8 @@ use Rattle.scans.specs.Terms.Window.{At, window}
 use Rattle.scans.proofs.Ring.{ring-index-at}
 use Rattle.scans.proofs.Windows.{long, count-in, entry-in}
 use Rattle.scans.proofs.BackCheck.{Checking, checking-start, checking-turn, checking-no, checking-yes}
-use Rattle.scans.proofs.step.if_backward.Statement.{statement}
-use Rattle.scans.proofs.step.if_backward.Tie as tie
+use Rattle.scans.proofs.letter.if_backward.Statement.{statement}
+use Rattle.scans.proofs.letter.if_backward.Tie as tie
 
 abbrev Inv-loop : tie.InvT-loop
 Inv-loop p queue head len window-counts ln s₀ left₀ i₀ s left i = Checking p ln (window queue head len) left i s

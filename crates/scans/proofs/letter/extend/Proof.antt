@@ -3,8 +3,8 @@ use native.Mathlib.Omega.{arith}
 use borrow.Author.Tests.{le-leb, lt-leb}
 use Rattle.scans.specs.Scans.{extends}
 use borrow.Author.Needs.{needs}
-use Rattle.scans.proofs.step.extend.Statement.{statement}
-use Rattle.scans.proofs.step.extend.Tie as tie
+use Rattle.scans.proofs.letter.extend.Statement.{statement}
+use Rattle.scans.proofs.letter.extend.Tie as tie
 
 cast-n : tie.Need-cast-n
 cast-n c = omega (arith, c .slice-known .given (c .before .args .kmer))

@@ -1,7 +1,7 @@
 -- `options_of` meets its contract: the GC and the xdrop are those of its callees.
 use borrow.Author.Needs.{needs}
-use Rattle.longdust_c.proofs.options_of.Statement.{statement}
-use Rattle.longdust_c.proofs.options_of.Tie as tie
+use Rattle.c_numbers.proofs.options_of.Statement.{statement}
+use Rattle.c_numbers.proofs.options_of.Tie as tie
 
 pub options-of-spec : {M : Type 1} → statement M
 options-of-spec =

@@ -1,9 +1,9 @@
 -- `count_or_refusal` meets its contract.
 use native.Mathlib.Omega.{arith}
 use borrow.Author.Needs.{needs}
-use Rattle.longdust_c.proofs.Numbers.{counted, negation-fits, negated}
-use Rattle.longdust_c.proofs.count_or_refusal.Statement.{statement}
-use Rattle.longdust_c.proofs.count_or_refusal.Tie as tie
+use Rattle.c_numbers.proofs.Numbers.{counted, negation-fits, negated}
+use Rattle.c_numbers.proofs.count_or_refusal.Statement.{statement}
+use Rattle.c_numbers.proofs.count_or_refusal.Tie as tie
 
 pub count-or-refusal-spec : {M : Type 1} → statement M
 count-or-refusal-spec =

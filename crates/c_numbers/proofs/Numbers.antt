@@ -7,7 +7,7 @@ use lib.IntN.{ℤ, pos, negsuc, _-ℤ_, +ℤ-idl}
 use mir.Syntax.{w64}
 use mir.Val.{SFits, toZ, ofZ}
 use mir.ValLaws.{toZ-pos, toZ-ofZ}
-use Rattle.longdust_c.specs.Exported.{countOr}
+use Rattle.c_numbers.specs.Numbers.{countOr}
 
 pub counted : (refusal count : ℕ) → refusal ≡ 0 → count < 9223372036854775808 → toZ w64 count ≡ countOr refusal count
 counted refusal count e h = toZ-pos w64 count h ∙ rw e
