@@ -1,2 +1,3 @@
 pub mod CallAnswerKinds
 pub mod CallAnswerReads
+pub mod Following

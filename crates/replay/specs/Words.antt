@@ -2,7 +2,7 @@
 use Prim.Native.Nat.{ℕ, _+_, _-_}
 use mathlib.Core.Bool.{Bool, false, _&&_, _||_, cond}
 use mathlib.Core.List.{List}
-use lib.Dec.{eqb, leb}
+use lib.Dec.{T, eqb, leb}
 use lib.ListN.{length, getD}
 use Rattle.replay.specs.declared.words.Cursor.{Cursor}
 
@@ -16,6 +16,10 @@ after text at word sound =
     (leb (length text) at)
     (cursor at 0 false)
     (cursor (at + 1) word (sound && (eqb (getD text at 0) 32 || eqb (getD text at 0) 10)))
+
+-- A place later in the list is sound only if the earlier one is: a record with a word that lacks its form is never taken for a whole one.
+pub record Follows (c r : Cursor) : Type 0 where
+  pub sound : T (r .sound) → T (c .sound)
 
 -- The value of a hex digit, 16 for any other byte.
 unfoldable pub digitOf : ℕ → ℕ

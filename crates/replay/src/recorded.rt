@@ -5,6 +5,7 @@ ghost use mathlib.Core.Bool.{_&&_};
 ghost use mathlib.Core.List.{[]};
 ghost use lib.Dec.{ltb, eqb};
 ghost use lib.ListN.{length, getD};
+ghost use Rattle.replay.specs.Words.{Follows};
 use crate::words;
 use crate::words::Cursor;
 use longdust::Answer;
@@ -49,7 +50,9 @@ fn has_mark(marks: &[u8], i: usize, mark: u64) -> bool
 }
 
 // Reads `c.word` intervals with their marks and compares them with the first ones of a list.
-fn intervals(text: &[u8], c: Cursor, alike: bool, list: &[[u32; 2]], marks: &[u8]) -> Compared {
+fn intervals(text: &[u8], c: Cursor, alike: bool, list: &[[u32; 2]], marks: &[u8]) -> Compared
+    ensures { λ r. ⌜ Follows c (r .cursor) ⌝ }
+{
     let count = c.word;
     let mut cursor = c;
     let mut same = alike;
@@ -65,13 +68,9 @@ fn intervals(text: &[u8], c: Cursor, alike: bool, list: &[[u32; 2]], marks: &[u8
 }
 
 // Reads the recorded answer and compares: refusal, flag, count, intervals and marks.
-pub fn compare(
-    text: &[u8],
-    c: Cursor,
-    answer: Answer,
-    list: &[[u32; 2]],
-    marks: &[u8],
-) -> Compared {
+pub fn compare(text: &[u8], c: Cursor, answer: Answer, list: &[[u32; 2]], marks: &[u8]) -> Compared
+    ensures { λ r. ⌜ Follows c (r .cursor) ⌝ }
+{
     let refusal = words::number(text, c, 13);
     let alike = answer.refusal as u64 == refusal.word;
     if refusal.word != 0 {

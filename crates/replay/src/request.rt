@@ -5,6 +5,7 @@ ghost use Prim.Native.Nat.{_≤_};
 ghost use lib.ListN.{length};
 ghost use Rattle.io.specs.Counts.{Counts};
 ghost use Rattle.replay.specs.Request.{xdropOf, gcKind, letterOf};
+ghost use Rattle.replay.specs.Words.{Follows};
 use crate::words;
 use crate::words::Cursor;
 use longdust::LongdustOptions;
@@ -93,7 +94,9 @@ fn fill(table: &mut [f64], from: usize, times: usize, entry: f64) -> usize
 }
 
 // Reads a table: the number of runs, and for each run how often its entry stands and the entry.
-fn table(text: &[u8], c: Cursor, table: &mut [f64]) -> Cursor {
+fn table(text: &[u8], c: Cursor, table: &mut [f64]) -> Cursor
+    ensures { λ r. ⌜ Follows c r ⌝ }
+{
     let mut cursor = words::number(text, c, 66);
     let mut runs = cursor.word;
     let mut filled = 0;
@@ -112,7 +115,9 @@ fn table(text: &[u8], c: Cursor, table: &mut [f64]) -> Cursor {
 }
 
 // Reads both tables if they are lent.
-pub fn tables(text: &[u8], c: Cursor, lent: bool, ln: &mut [f64], f: &mut [f64]) -> Cursor {
+pub fn tables(text: &[u8], c: Cursor, lent: bool, ln: &mut [f64], f: &mut [f64]) -> Cursor
+    ensures { λ r. ⌜ Follows c r ⌝ }
+{
     if lent {
         let after_ln = table(text, c, ln);
         return table(text, after_ln, f);

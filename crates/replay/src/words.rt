@@ -4,7 +4,7 @@ ghost use mathlib.Core.Path.{_≡_};
 ghost use Prim.Native.Nat.{_≤_};
 ghost use mathlib.Core.Bool.{true, false};
 ghost use lib.Ieee.{binary64, ofBits};
-ghost use Rattle.replay.specs.Words.{cursor, after, digitOf};
+ghost use Rattle.replay.specs.Words.{cursor, after, digitOf, Follows};
 
 // A place in the list, the value of the word before it, and whether every word so far has its form.
 pub struct Cursor {
@@ -61,7 +61,7 @@ fn digit(byte: u8) -> u64
 
 // Reads a decimal number of at most `most`.
 pub fn number(text: &[u8], c: Cursor, most: u32) -> Cursor
-    ensures { λ r. ⌜ r .word ≤ most ⌝ }
+    ensures { λ r. ⌜ (r .word ≤ most) × Follows c r ⌝ }
 {
     let from = c.at;
     let mut at = from;
@@ -81,7 +81,9 @@ pub fn number(text: &[u8], c: Cursor, most: u32) -> Cursor
 }
 
 // Reads the bits of a float: at most 16 hex digits from the top.
-pub fn bits(text: &[u8], c: Cursor) -> Cursor {
+pub fn bits(text: &[u8], c: Cursor) -> Cursor
+    ensures { λ r. ⌜ Follows c r ⌝ }
+{
     let from = c.at;
     let mut at = from;
     let mut word: u64 = 0;

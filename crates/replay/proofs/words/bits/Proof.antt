@@ -1,7 +1,8 @@
--- `replay::words::bits` is safe: a shift is below 64, since at most 16 digits are taken.
+-- `replay::words::bits` meets its contract; a shift is below 64, since at most 16 digits are taken.
 use Prim.Native.Nat.{_-_, _≤_}
 use borrow.Author.Needs.{needs}
 use lib.ListN.{length}
+use Rattle.replay.proofs.Following.{unsound-follows, ended-follows}
 use Rattle.replay.proofs.words.bits.Statement.{statement}
 use Rattle.replay.proofs.words.bits.Tie as tie
 
@@ -21,14 +22,14 @@ bits-spec =
     (λ c. search needs)
     (λ c κs. search needs)
     (λ c κs. search needs)
+    (λ c. ended-follows _ _ _ _ (c .ended .ensures .0))
+    (λ c κs. search needs)
+    (λ c. unsound-follows _ (c .unsound .ensures))
+    (λ c. search needs)
+    (λ c. search needs)
+    (λ c. search needs)
+    (λ c. search needs)
+    (λ c. search needs)
     (λ c. search needs)
     (λ c κs. search needs)
-    (λ c. search needs)
-    (λ c. search needs)
-    (λ c. search needs)
-    (λ c. search needs)
-    (λ c. search needs)
-    (λ c. search needs)
-    (λ c. search needs)
-    (λ c κs. search needs)
-    (λ c. search needs))
+    (λ c. unsound-follows _ (c .unsound2 .ensures)))

@@ -3,6 +3,7 @@ use Prim.Native.Nat.{_-_, _≤_}
 use native.Mathlib.Omega.{arith}
 use borrow.Author.Needs.{needs}
 use lib.ListN.{length}
+use Rattle.replay.proofs.Following.{unsound-follows, ended-follows}
 use Rattle.replay.proofs.words.number.Statement.{statement}
 use Rattle.replay.proofs.words.number.Tie as tie
 
@@ -22,13 +23,13 @@ number-spec =
     (λ c. search needs)
     (λ c κs. search needs)
     (λ c κs. search needs)
+    (λ c. (search needs, ended-follows _ _ _ _ (c .ended .ensures .0)))
+    (λ c. search needs)
+    (λ c. search needs)
+    (λ c κs. search needs)
+    (λ c. (rw (c .unsound .ensures) (omega arith), unsound-follows _ (c .unsound .ensures)))
     (λ c. search needs)
     (λ c. search needs)
     (λ c. search needs)
     (λ c κs. search needs)
-    (λ c. rw (c .unsound .ensures) (omega arith))
-    (λ c. search needs)
-    (λ c. search needs)
-    (λ c. search needs)
-    (λ c κs. search needs)
-    (λ c. rw (c .unsound2 .ensures) (omega arith)))
+    (λ c. (rw (c .unsound2 .ensures) (omega arith), unsound-follows _ (c .unsound2 .ensures))))
