@@ -1,5 +1,7 @@
 // Lent buffers.
 
+#![tactic(auto)]
+
 ghost use Rattle.std.specs.Prelude.{◌≡◌, length, replicate};
 
 // Sets every count to 0.

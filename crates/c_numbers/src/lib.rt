@@ -1,5 +1,7 @@
 // What the numbers of the calls for C stand for, and the number that such a call returns.
 
+#![tactic(auto)]
+
 ghost use Rattle.std.specs.Prelude.{◌≡◌, ◌<◌};
 ghost use Rattle.c_numbers.specs.Numbers.{gc_choice, xdrop_choice, options_of, small_options, masking_of, kind_of, count_or, flag};
 

@@ -1,6 +1,6 @@
 -- The find that a carried scan and a certificate of its start tell, in a ring (`certain_found`), and where they tell none.
 use mathlib.Core.Path.{◌≡◌, refl, sym, ap, ◌∙◌, subst}
-use mathlib.Core.Bool.{Bool, true, false, not, ◌&&◌}
+use mathlib.Core.Bool.{Bool, true, ◌&&◌}
 use mathlib.Core.List.{List, [], ◌∷◌, ◌++◌}
 use Prim.Native.Nat.{ℕ, ◌+◌, ◌-◌, ◌^◌, ◌<◌}
 use native.Mathlib.Omega.{arith}
@@ -29,12 +29,11 @@ use Rattle.search.specs.Terms.Carry.{Carried, newest_score, CarriesOn}
 use Rattle.certificates.specs.Terms.Certain.{FindsCertain}
 use Rattle.scans.proofs.Counting.{count_le, below_right, raise_counted}
 use Rattle.scans.proofs.Ring.{window_length, window_newest}
-use Rattle.scans.proofs.Windows.{long}
 use Rattle.scans.proofs.Touched.{touched_cleared, counted_touched, touched_more}
 use Rattle.scans.proofs.Shape.{usual_range}
 use Rattle.search.proofs.CarriedScan.{counted_unique}
 use Rattle.certificates.proofs.CertificateCarried.{start_find}
-use Rattle.search.proofs.CertificateRing.{was_on, below_window, entry_place}
+use Rattle.search.proofs.CertificateRing.{below_window, entry_place}
 
 module _ (p : Params) (ring : List ℕ) (head len : ℕ) (wc : List ℕ) (ln f : List Float) (counts : List ℕ) (W : Windowed p ring head len wc (length ln)) (start : ℕ) (inside : start < len)
     (n : Counted (4 ^ p.kmer) counts (drop start (window ring head (len - 1)))) where
@@ -96,7 +95,7 @@ module _ (p : Params) (ring : List ℕ) (head len : ℕ) (wc : List ℕ) (ln f :
 
   -- The start is the find.
   module _ (c : Carry) (on : c.on ≡ true) (k : Carried S q₀ start c) (entry : ℕ) (is : entry ≡ newest_in ring head len) (b : Bool)
-      (leads : b ≡ le (c.best ⊕ distance) (newest_score S (len - start) counts (decode entry) c) && le distance (newest_score S (len - start) counts (decode entry) c)) (led : not b ≡ false) where
+      (leads : b ≡ le (c.best ⊕ distance) (newest_score S (len - start) counts (decode entry) c) && le distance (newest_score S (len - start) counts (decode entry) c)) (led : b ≡ true) where
     place : decode entry ≡ e
     place = entry_place p ring head len wc ln counts joining entry is q₀ e joins
 
@@ -109,7 +108,7 @@ module _ (p : Params) (ring : List ℕ) (head len : ℕ) (wc : List ℕ) (ln f :
     tests : T (le (c.best ⊕ distance) (newest_score S (length (q₀ ++ e ∷ []) - start) counts e c) && le distance (newest_score S (length (q₀ ++ e ∷ []) - start) counts e c))
     tests =
         subst (λ (x : Float). T (le (c.best ⊕ distance) x && le distance x)) score
-        (subst T (sym (was_on b led) ∙ leads) tt)
+        (subst T (sym led ∙ leads) tt)
 
     pub next_carried : {c' : Carry} {counts' : List ℕ} → CarriesOn S q₀ e start c c' counts counts' → Carried S q start c'
     next_carried {c'} next = subst (λ (z : List Place). Carried S z start c') (sym joins) (next.carries on n k)

@@ -47,7 +47,6 @@ use Rattle.scans.proofs.Touched.{counted_touched}
 use Rattle.certificates.proofs.CertainFind.{err_few, margin_one}
 use Rattle.search.proofs.CertificateLow.{count_later, order_of}
 use Rattle.certificates.proofs.Making.{lowest_kept, not_less}
-use Rattle.search.proofs.CertificateRing.{was_on}
 use Rattle.certificates.proofs.NewestSums.{newest_score_lem, second_score_lem, newest_none, newest_next}
 use Rattle.certificates.proofs.LowScan.{x, y, R, x_near, y_near, low_made, nothing_stops, nothing_low}
 
@@ -255,11 +254,11 @@ module _ (p : Params) (ring : List ℕ) (head len : ℕ) (window_counts : List �
         pub near_high : ReadsNear S q (record { told = false; at = len - (l + 1) }) counts'
         near_high = record { inside = omega (arith, long w); counted = counted_here l a counts k.newest in_len at i b counts' adds; told = λ e. absurd (true≢false (sym e)) }
 
-        module _ (test : not (lt (b.s ⊖ f_at S (l + 1)) (neg distance)) ≡ false) where
+        module _ (test : lt (b.s ⊖ f_at S (l + 1)) (neg distance) ≡ true) where
           below_next : (j : ℕ) → 0 < j → j ≤ l + 1 → T (lt (x S q j) (neg distance))
           below_next j some h =
               let x_is = x_here l a counts k.newest in_len at i b counts' adds in
-              one_more (λ (j : ℕ). T (lt (x S q j) (neg distance))) l j h (k.below j some) (subst (λ (z : Float). T (lt z (neg distance))) x_is (so _ (was_on (lt (b.s ⊖ f_at S (l + 1)) (neg distance)) test)))
+              one_more (λ (j : ℕ). T (lt (x S q j) (neg distance))) l j h (k.below j some) (subst (λ (z : Float). T (lt z (neg distance))) x_is (so _ test))
 
           pub near_next : (l + 1 ≡ age → ⊥) → Near' (l + 1) b bound counts'
           near_next apart =

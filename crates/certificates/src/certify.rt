@@ -65,7 +65,7 @@ fn read_entry(
 
 // What is known of the entries from `at` on: the sum, a bound of all their scores, one of those of the entries that are not near,
 // where the near ones begin, and the sum of the near ones' ln entries.
-#[derive(Drop)]
+#[derive(Clone, Copy)]
 struct Reading {
     at: usize,
     s: f64,
@@ -108,7 +108,7 @@ impl Reading {
 
 // The low entries, each below 0: where the near ones begin, the sum of their ln entries, and a bound of the other ones' scores;
 // and a bound of the scores, with the f entries of m places more, of the entries older than these. Off where a certificate cannot be made.
-#[derive(Drop)]
+#[derive(Clone, Copy)]
 struct Middle {
     on: bool,
     near: usize,

@@ -5,6 +5,8 @@
 // | one that would find the last find's start again | certain: `find_certain`, by a certificate of that start; certify: `certify` makes one, `scans` keeps it letter by letter |
 // | one that would find nothing | low: `low_tells`, by the low starts that `find_low` makes after a search that found nothing |
 
+#![tactic(auto)]
+
 mod certain;
 mod certify;
 mod low;
@@ -14,7 +16,7 @@ pub use low::{find_low, low_tells};
 
 // While `on`, what a search that found nothing says of the window: each start of more than 32 and at most `reach` places scores `score` or less,
 // and so does the second sum over `reach` places.
-#[derive(Drop)]
+#[derive(Clone, Copy)]
 pub struct LowStarts {
     pub on: bool,
     pub reach: usize,

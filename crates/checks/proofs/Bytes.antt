@@ -21,3 +21,6 @@ module _ (test : ℕ → Bool) (s : List ℕ) (i : ℕ) (a : Bool) where
   pub any_end : length s ≤ i → (a || any_byte test (drop i s)) ≡ a
   unfolding any_byte
   any_end h = ap (λ (l : List ℕ). a || any_byte test l) (drop_of_length-le s h) ∙ or-false a
+
+-- for `using`
+pub ruleset of_bytes = (any_more, any_end)

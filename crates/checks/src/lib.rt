@@ -2,6 +2,8 @@
 // `let r = next_check(0, 1, kmer_outside(k)); let r = next_check(r, 2, any_high(sequence));` and so on, a line for each check.
 // Every test is total, so that a line needs nothing of the lines before it.
 
+#![tactic(auto)]
+
 ghost use Rattle.std.specs.Prelude.{◌≡◌, ◌+◌, ltb};
 ghost use Rattle.checks.specs.Tests.{kmer_outside, is_other, any_high, any_other, too_few_letters, window_below, window_above, threshold_bad};
 ghost use Rattle.checks.specs.Tests.{min_start_below, too_many_letters, most_intervals};
@@ -14,6 +16,7 @@ pub const MAX_WINDOW: usize = 65535;
 pub const MAX_LETTERS: usize = 2147483647;
 
 // The refusal r of the checks before, if there is one; else the number, if this check fails.
+#[tactic(auto, unfolding(crate::specs::Terms::Next::next_check))]
 pub fn next_check(r: u32, number: u32, fails: bool) -> u32
     ensures { result ≡ next_check r number fails }
 {
@@ -49,6 +52,7 @@ fn is_other(b: u8) -> bool
 }
 
 // One pass for both tests.
+#[tactic(auto, using(crate::proofs::Bytes::of_bytes))]
 pub fn find_bytes(sequence: &[u8]) -> BytesFound
     ensures { (result.high ≡ any_high sequence.now) × (result.other ≡ any_other sequence.now) }
 {

@@ -1,4 +1,2 @@
 pub mod Run
 pub mod Printed
-pub mod MaskLettersKinds
-pub mod MaskLettersReads

@@ -1,5 +1,7 @@
 // A contig of at most 32,768 letters, masked with the default options, and what `track` prints for it.
 
+#![tactic(auto)]
+
 ghost use Rattle.std.specs.Prelude.{◌≡◌, ℕ, ◌≤◌, ◌<◌, List, length};
 ghost use Rattle.io.specs.Counts.{IsPrefixLen};
 ghost use Rattle.report.specs.Terms.Held.{Held};
@@ -99,7 +101,7 @@ pub fn write_answer(letters: &[u8], text: &mut [u8]) -> usize
 // Writes what `track` prints for bytes that were read block by block: a buffer that would show too many holds `count` letters of them.
 pub fn write_held(letters: &[u8], count: usize, text: &mut [u8]) -> usize
     requires { (most_letters < length letters.now) × (count ≤ length letters.now) × (text_room ≤ length text.old) }
-    ensures by_index { (bytes : List ℕ) → Held bytes letters.now count
+    ensures written { (bytes : List ℕ) → Held bytes letters.now count
         → Written (text_of bytes) text.old 0 text.new result }
     ensures prefix_len { IsPrefixLen result text.new }
 {

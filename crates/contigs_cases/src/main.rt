@@ -1,84 +1,102 @@
 // What `contigs` prints for files at the bounds of the format and of the sizes: a title, the text, and how many bytes it has.
 
-fn print_case(title: &[u8], file: &[u8]) {
-    io::write_all(libc::STDOUT_FILENO, title);
-    let printed = contigs_text::print_file(file);
-    io::write_all(libc::STDOUT_FILENO, b"bytes ");
-    io::print_decimal(libc::STDOUT_FILENO, printed.count as u64);
-    io::write_all(libc::STDOUT_FILENO, b"\n");
+#![tactic(auto)]
+
+use std::io;
+
+fn print_case(rt: &impl Print, title: &[u8], file: &[u8]) -> io::Result<()> {
+    rt.write_all(title)?;
+    let count = contigs_text::print_file(file, &mut io::writer(rt))?;
+    println!(rt; "bytes {count}")
 }
 
-fn print_lines() {
-    print_case(b"# an empty file\n", b"");
-    print_case(b"# only line ends\n", b"\n\n\n");
-    print_case(b"# no line end at the end\n", b">a\nAAAAAAAAAAAA");
-    print_case(b"# headers only\n", b">a\n>b");
+fn print_lines(rt: &impl Print) -> io::Result<()> {
+    print_case(rt, b"# an empty file\n", b"")?;
+    print_case(rt, b"# only line ends\n", b"\n\n\n")?;
+    print_case(rt, b"# no line end at the end\n", b">a\nAAAAAAAAAAAA")?;
+    print_case(rt, b"# headers only\n", b">a\n>b")?;
     print_case(
+        rt,
         b"# names up to a tab and a blank\n",
         b">a\tb\nAAAAAAAAAAAA\n>c d\nAAAAAAAAAAAA\n",
-    );
+    )?;
     print_case(
+        rt,
         b"# > in mid-line\n",
         b">a\nAAAAAA>b\nAAAAAA\n>b>c\nAAAAAAAAAAAA\n",
-    );
-    print_case(b"# line ends of two bytes\n", b">a\r\nAAAAAAAAAAAA\r\n");
+    )?;
+    print_case(rt, b"# line ends of two bytes\n", b">a\r\nAAAAAAAAAAAA\r\n")?;
     print_case(
+        rt,
         b"# empty lines between letters\n",
         b"\n>a\n\nAAAAAA\n\nAAAAAA\n\n",
-    );
+    )?;
     print_case(
+        rt,
         b"# bytes from 128 on in a name, and in letters\n",
         b">\x80\xff\nAAAAAAAAAAAA\n>b\nAAAAAAAAAAA\x80\n",
-    );
+    )?;
     print_case(
+        rt,
         b"# no interval, and U\n",
         b">a\nACGTTGCATC\n>b\nACGUACGTACGUACGTACGT\n",
-    );
+    )?;
+    Ok(())
 }
 
-fn print_refusals() {
-    print_case(b"# an empty name first\n", b">\nAAAAAAAAAAAA\n");
-    print_case(b"# an empty name before a blank\n", b"> a\nAAAAAAAAAAAA\n");
+fn print_refusals(rt: &impl Print) -> io::Result<()> {
+    print_case(rt, b"# an empty name first\n", b">\nAAAAAAAAAAAA\n")?;
     print_case(
+        rt,
+        b"# an empty name before a blank\n",
+        b"> a\nAAAAAAAAAAAA\n",
+    )?;
+    print_case(
+        rt,
         b"# an empty name later\n",
         b">a\nAAAAAAAAAAAA\n>\tb\nAAAAAAAAAAAA\n",
-    );
-    print_case(b"# an empty name at the end\n", b">a\nAAAAAAAAAAAA\n>");
-    print_case(b"# letters first\n", b"ACGT\n>a\nAAAAAAAAAAAA\n");
-    print_case(b"# a blank first\n", b"\n \n>a\nAAAAAAAAAAAA\n");
+    )?;
+    print_case(rt, b"# an empty name at the end\n", b">a\nAAAAAAAAAAAA\n>")?;
+    print_case(rt, b"# letters first\n", b"ACGT\n>a\nAAAAAAAAAAAA\n")?;
+    print_case(rt, b"# a blank first\n", b"\n \n>a\nAAAAAAAAAAAA\n")?;
     print_case(
+        rt,
         b"# letters first, then an empty name\n",
         b"A\n>\nAAAAAAAAAAAA\n",
-    );
+    )?;
     print_case(
+        rt,
         b"# digits in one record of three\n",
         b">a\nAAAAAAAAAAAA\n>b\nAAAAAA 12\nAAAAAA\n>c\nAAAAAAAAAAAA\n",
-    );
+    )?;
     print_case(
+        rt,
         b"# too few letters in one record of three\n",
         b">a\nAAAAAAAAAAAA\n>b\nACG\nTACG\n>c\nAAAAAAAAAAAA\n",
-    );
+    )?;
+    Ok(())
 }
 
 // One record, then two.
-fn print_sizes() {
+fn print_sizes(rt: &impl Print) -> io::Result<()> {
     let mut file = [b'A'; contigs_text::FILE_ROOM];
     file[0] = b'>';
     file[1] = b'a';
     file[2] = b'\n';
-    print_case(b"# 32,768 letters\n", &file[..32771]);
-    print_case(b"# 32,769 letters\n", &file[..32772]);
+    print_case(rt, b"# 32,768 letters\n", &file[..32771])?;
+    print_case(rt, b"# 32,769 letters\n", &file[..32772])?;
     file[2000] = b'1';
-    print_case(b"# 32,769 letters and a digit\n", &file[..32772]);
+    print_case(rt, b"# 32,769 letters and a digit\n", &file[..32772])?;
     file[2000] = b'A';
     file[32771] = b'\n';
     file[32772] = b'>';
     file[32773] = b'b';
     file[32774] = b'\n';
-    print_case(b"# 65,536 bytes\n", &file[..contigs_text::MOST_BYTES]);
-    print_case(b"# 65,537 bytes\n", &file);
+    print_case(rt, b"# 65,536 bytes\n", &file[..contigs_text::MOST_BYTES])?;
+    print_case(rt, b"# 65,537 bytes\n", &file)?;
     file[0] = b'A';
-    print_case(b"# 65,537 bytes, letters first\n", &file);
+    print_case(rt, b"# 65,537 bytes, letters first\n", &file)?;
+    Ok(())
 }
 
 // A header whose name has 30,000 bytes, then 18 letters A between each 282 letters n.
@@ -107,15 +125,17 @@ fn put_long_name(file: &mut [u8]) {
 }
 
 // More lines than fit into the text that the program lends its writer at once.
-fn print_long_name() {
+fn print_long_name(rt: &impl Print) -> io::Result<()> {
     let mut file = [0u8; 31502];
     put_long_name(&mut file);
-    print_case(b"# a name of 30,000 bytes and five intervals\n", &file);
+    print_case(rt, b"# a name of 30,000 bytes and five intervals\n", &file)?;
+    Ok(())
 }
 
-fn main() {
-    print_lines();
-    print_refusals();
-    print_sizes();
-    print_long_name();
+fn main(rt: HostRuntime) -> io::Result<()> {
+    print_lines(&rt)?;
+    print_refusals(&rt)?;
+    print_sizes(&rt)?;
+    print_long_name(&rt)?;
+    Ok(())
 }

@@ -1,10 +1,14 @@
 -- The parts that are written, one after the other, are the file's text, and so many bytes are counted.
 use Prim.Native.Nat.{ℕ, suc, ◌+◌, ◌*◌, ◌≤◌, ◌<◌}
-use mathlib.Core.Path.{◌≡◌, refl, sym, ap, ◌∙◌}
+use mathlib.Core.Path.{◌≡◌, refl, sym, ap, subst, ◌∙◌}
 use mathlib.Core.Bool.{Bool, true, false}
-use mathlib.Core.List.{List, ◌++◌, append_assoc, append-nil}
+use mathlib.Core.List.{List, [], ◌++◌, append_assoc, append-nil}
 use native.Mathlib.Omega.{arith}
-use lib.ListN.{length, length-append}
+use lib.ListN.{length, take, length-append}
+use Rattle.std.specs.declared.option.Option.{Option}
+use Rattle.std.specs.Io.KnownBytes.{Appends}
+use Rattle.std.proofs.KnownBytes.{Appends-nil, Appends-trans}
+use Rattle.report.proofs.Writing.{take_written}
 use Rattle.contigs_text.specs.Text.{file_text}
 use Rattle.contigs_text.specs.Parts.{left_if, PartOf, Standing, steps_if, Moved}
 use Rattle.contigs_text.specs.declared.Place.{Place}
@@ -68,3 +72,35 @@ module _ {file : List ℕ} {list : List (List ℕ)} {count : ℕ} {r : Filled} (
   all_counted e =
       k.counted
       ∙ ap (λ (l : List ℕ). length l) (sym (append-nil k.printed) ∙ sym (ap (λ (t : Bool). k.printed ++ left_if t file list r.place) e) ∙ k.all_is)
+
+-- A part that was written from the text's start on stands there.
+part_stands : {all d d' rest : List ℕ} {end : ℕ} (p : PartOf all d 0 d' end rest) → take end d' ≡ p.part
+part_stands p = take_written (omega arith) p.written
+
+-- What the writer holds: all that was printed but for the part that stands in the text.
+pub record Sending (file : List ℕ) (list : List (List ℕ)) (count : ℕ) (r : Filled) (w₀ w : Option (List ℕ)) (text : List ℕ) : Type 0 where
+  pub print : Printing file list count r
+  pub sent : List ℕ
+  pub appended : Appends w₀ w sent
+  pub joined : sent ++ take r.end text ≡ print.printed
+
+pub send_first : {file : List ℕ} {list : List (List ℕ)} {d d' : List ℕ} {r : Filled} (w : Option (List ℕ)) → Standing list r.place
+    → PartOf (file_text file) d 0 d' r.end (left_if r.more file list r.place) → (r.more ≡ true → length file ≤ 65536) → Sending file list 0 r w w d'
+unfolding print_first
+send_first w s p h = record { print = print_first s p h; sent = []; appended = Appends-nil w; joined = part_stands p }
+
+-- The part in the text is written.
+module _ {file : List ℕ} {list : List (List ℕ)} {count : ℕ} {r : Filled} (w₀ w w' : Option (List ℕ)) {text : List ℕ} (k : Sending file list count r w₀ w text) (a : Appends w w' (take r.end text)) where
+  all_sent : Appends w₀ w' k.print.printed
+  all_sent = subst (λ (l : List ℕ). Appends w₀ w' l) k.joined (Appends-trans w₀ w w' k.sent (take r.end text) k.appended a)
+
+  pub send_next : (e : r.more ≡ true) {d d' : List ℕ} {list' : List (List ℕ)} {r' : Filled} (m : Moved file list r.place d 0 list' d' r') → r.end ≤ 131120
+      → Sending file list' (count + r.end) r' w₀ w' d'
+  unfolding print_next
+  send_next e m h =
+      record {
+        print = print_next k.print e m h;
+        sent = k.print.printed;
+        appended = all_sent;
+        joined = ap (λ (l : List ℕ). k.print.printed ++ l) (part_stands m.part);
+      }

@@ -1,6 +1,9 @@
 // What `contigs` prints for a file, in parts: a place by value that moves on, and a lent text for the next part.
 
-ghost use Rattle.std.specs.Prelude.{◌≡◌, true, false, List, [], ℕ, ◌+◌, ◌≤◌, ◌<◌, length, take, get_or};
+#![tactic(auto)]
+
+ghost use Rattle.std.specs.Prelude.{◌≡◌, true, false, List, [], ℕ, ◌+◌, ◌≤◌, ◌<◌, length, take, get_or, IfOk, OnOk};
+ghost use Rattle.std.specs.Io.KnownBytes.{Appends};
 ghost use Rattle.intervals.specs.Interval.{interval, list_of};
 ghost use Rattle.report.specs.Letters.{letters_of};
 ghost use Rattle.report.specs.Written.{Written};
@@ -11,6 +14,7 @@ ghost use Rattle.contigs_text.specs.Parts.{text_room, left_if, PartOf, Standing,
 ghost use Rattle.contigs_text.specs.Terms.Room.{LineFits};
 
 use fasta::{Cursor, Part, Step};
+use std::io::{Result, Write};
 
 // The most bytes of a file, and room for one more, so that too many show; room for the longest line, and for a text of two.
 pub const MOST_BYTES: usize = 65536;
@@ -36,13 +40,6 @@ pub struct Filled {
     pub place: Place,
     pub end: usize,
     pub more: bool,
-}
-
-// How many bytes were handed to the writer, and whether a write failed.
-#[derive(Drop)]
-pub struct Printed {
-    pub count: usize,
-    pub failed: bool,
 }
 
 // A record's refusal was written, up to `end`, or its intervals are in the list.
@@ -89,7 +86,7 @@ fn open_record(
     requires letters_len { length letters.old ≡ letters_room }
     requires list_len { length list.old ≡ list_room }
     requires line_fits { LineFits name.now text.old from }
-    ensures fact { let N = name.entry.now in
+    ensures written { let N = name.now in
         PartOf (record_text (record { name = N; letters = letters_of lines.now })) text.old from
         text.new result.end (mask_lines N (list_of (take result.count list.new))) }
     ensures count_le_list_room { result.count ≤ list_room }
@@ -220,8 +217,8 @@ fn go_on(
 // What is printed before any record: the file's refusal, or nothing.
 pub fn first_part(file: &[u8], text: &mut [u8]) -> Filled
     requires { text_room ≤ length text.old }
-    ensures by_index { (list : List (List ℕ)) → length list ≡ list_room → Standing list result.place }
-    ensures by_index_2 { (list : List (List ℕ)) → (let F = file.now in
+    ensures standing { (list : List (List ℕ)) → length list ≡ list_room → Standing list result.place }
+    ensures part { (list : List (List ℕ)) → (let F = file.now in
         PartOf (file_text F) text.old 0 text.new result.end (left_if result.more F list result.place)) }
     ensures file_len_bound { result.more ≡ true → length file.now ≤ most_bytes }
 {
@@ -284,41 +281,41 @@ pub fn next_part(
     }
 }
 
-// Writes part after part. The writer's contract does not say what reaches the output, so this one says how many bytes it was handed.
-fn print_parts(file: &[u8], letters: &mut [u8], list: &mut [[u32; 2]], text: &mut [u8]) -> Printed
+// Writes part after part, and answers how many bytes the writer was handed; fails where a write does.
+fn print_parts<W: Write>(
+    file: &[u8],
+    letters: &mut [u8],
+    list: &mut [[u32; 2]],
+    text: &mut [u8],
+    out: &mut W,
+) -> Result<usize>
     requires letters_len { length letters.old ≡ letters_room }
     requires list_len { length list.old ≡ list_room }
     requires text_len { length text.old ≡ text_room }
-    ensures { result.failed ≡ false → result.count ≡ length (file_text file.now) }
+    ensures count { IfOk result (λ n. n ≡ length (file_text file.now)) }
+    ensures written { OnOk result (Appends (W.contents out.old) (W.contents out.new) (file_text file.now)) }
 {
     let mut now = first_part(file, text);
     let mut count = 0;
     loop {
         let end = now.end;
-        if !io::write_all(libc::STDOUT_FILENO, &text[..end]) {
-            return Printed {
-                count,
-                failed: true,
-            };
-        }
+        out.write_all(&text[..end])?;
         count += end;
         if !now.more {
-            return Printed {
-                count,
-                failed: false,
-            };
+            return Ok(count);
         }
         let place = now.place;
         now = next_part(file, place, letters, list, text);
     }
 }
 
-// Prints the file's text on standard output.
-pub fn print_file(file: &[u8]) -> Printed
-    ensures { result.failed ≡ false → result.count ≡ length (file_text file.now) }
+// Prints the file's text.
+pub fn print_file<W: Write>(file: &[u8], out: &mut W) -> Result<usize>
+    ensures count { IfOk result (λ n. n ≡ length (file_text file.now)) }
+    ensures written { OnOk result (Appends (W.contents out.old) (W.contents out.new) (file_text file.now)) }
 {
     let mut letters = [0u8; contig::LETTERS_ROOM];
     let mut list = contig::no_intervals();
     let mut text = [0u8; TEXT_ROOM];
-    print_parts(file, &mut letters, &mut list, &mut text)
+    print_parts(file, &mut letters, &mut list, &mut text, out)
 }

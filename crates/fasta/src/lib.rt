@@ -1,17 +1,19 @@
 // A reader of FASTA files over a lent slice: a cursor by value whose step answers the next record, the end or the fault.
 
+#![tactic(auto)]
+
 ghost use Rattle.std.specs.Prelude.{◌≡◌, true, ◌+◌, ◌≤◌, length, drop};
 ghost use Rattle.fasta.specs.Contents.{contents_of, fault_of};
 ghost use Rattle.fasta.specs.Steps.{bytes_of, Told};
 ghost use Rattle.fasta.specs.Terms.Lengths.{empty_lines, name_length, line_length, lines_length};
 
-#[derive(Drop)]
+#[derive(Clone, Copy)]
 pub struct Part {
     pub start: usize,
     pub end: usize,
 }
 
-#[derive(Drop)]
+#[derive(Clone, Copy)]
 pub struct Cursor {
     pub at: usize,
 }

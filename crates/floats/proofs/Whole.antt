@@ -4,7 +4,7 @@ use Rattle.std.proofs.Common.{◌≡◌, ℕ, zero, suc, ◌+◌, ◌-◌, ◌*�
 use lib.IntN.{sub_ℕ, *ℤ_comm}
 use lib.Signed.{le_z}
 use borrow.Author.Tests.{lt-leb}
-use lib.Ieee.{Float, Format, le}
+use lib.Ieee.{Float, Format}
 use Rattle.floats.specs.Value.{magnitude, sign, value}
 use Rattle.floats.proofs.Value.{if_pos, if_neg}
 use Rattle.floats.proofs.Rounded.{pos_part, neg_part}

@@ -1,5 +1,7 @@
 // Two operations on floats: the backward scan's test 'within 1e-9', and max_test's cast to 32 bits.
 
+#![tactic(auto)]
+
 ghost use Rattle.std.specs.Prelude.{◌≡◌};
 ghost use Rattle.std.specs.Float.Ieee.{to_signed};
 ghost use Rattle.floats.specs.Binary64.{near_zero};

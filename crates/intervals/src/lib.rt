@@ -1,5 +1,7 @@
 // Lists of intervals, each in a slice: its entries [start, end], one for each interval [start, end).
 
+#![tactic(auto)]
+
 ghost use Rattle.std.specs.Prelude.{◌≡◌, ◌+◌, ◌-◌, ◌≤◌, ◌<◌, min, max, length, take, get_or};
 ghost use Rattle.buffers.specs.Fill.{put_at};
 ghost use Rattle.intervals.specs.Interval.{interval, usual_entry, usual, entries, list_of};

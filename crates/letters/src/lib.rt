@@ -1,5 +1,7 @@
 // Letters as codes, the rolling k-mer, and GC content.
 
+#![tactic(auto)]
+
 ghost use Rattle.std.specs.Prelude.{◌≡◌, ◌^◌, ◌<◌, ◌≤◌, length, nat_lt};
 ghost use Rattle.buffers.specs.Fill.{put};
 ghost use Rattle.letters.specs.Code.{code, codes, complement, reverse_complement};
@@ -8,6 +10,7 @@ ghost use Rattle.letters.specs.Terms.Rolling.{no_letter, rolled_on, entry_of};
 
 // Each base in either case, U beside T, and all other bytes.
 // The IUPAC letters R Y S W K M B D H V N and the gap signs - and . are among the others.
+#[tactic(auto, unfolding(crate::specs::Code::code))]
 fn encode(b: u8) -> u8
     ensures { result ≡ code b }
 {
@@ -32,6 +35,7 @@ pub fn encode_sequence(sequence: &[u8], encoded: &mut [u8])
     }
 }
 
+#[tactic(auto, unfolding(crate::specs::Code::complement))]
 fn complement(c: u8) -> u8
     ensures { result ≡ complement c }
 {
@@ -69,7 +73,7 @@ pub fn below_n_kmers(len: usize, k: usize) -> bool
 }
 
 // The last letters of a strand: the k-mer that they pack, and how many of them in a row have codes below 4.
-#[derive(Drop)]
+#[derive(Clone, Copy)]
 pub struct Kmer {
     pub value: u32,
     pub run: usize,

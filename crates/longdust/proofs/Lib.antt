@@ -7,9 +7,3 @@ pub mod PublicCalls
 pub mod Theorems
 pub mod Rna
 pub mod Examples
-pub mod RunMaskEncodedKinds
-pub mod RunMaskEncodedReads
-pub mod CallsProcessProcessKinds
-pub mod CallsProcessProcessReads
-pub mod CallsProcessTablesProcessTablesKinds
-pub mod CallsProcessTablesProcessTablesReads

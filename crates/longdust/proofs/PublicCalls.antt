@@ -17,6 +17,7 @@ use Rattle.longdust.specs.Checks.{refusal}
 use Rattle.longdust.specs.Buffers.{Buffers, lengths}
 use Rattle.longdust.specs.Call.{Accepted, Kept, Filled, Answered}
 use Rattle.longdust.specs.Terms.Inner.{refused, Admitted, Ran}
+use Rattle.longdust.proofs.Accept.{admitted}
 
 -- The codes of s over the front of d.
 module _ (s d d' : List ℕ) (e : d' ≡ put (codes s) d) (long : length d' ≡ length d) where
@@ -149,3 +150,6 @@ fill_answered o s b b' r ln f cs z t p q c a =
           accepted_as o s b b' r ln f cs b'.codes (free_then c k.buffers.codes) k;
       tables = λ h. let k = a.tables h in record { ln = k.ln ∙ t.ln; f = k.f ∙ t.f };
     }
+
+-- What tells of a call that is not refused.
+pub ruleset called = (admitted, encoded, encoded_length, encoded_free, admitted_as, run_answered)

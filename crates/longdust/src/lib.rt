@@ -1,5 +1,7 @@
 // The two public calls, on filled tables and with tables to fill: checks, flag, both strands, mask.
 
+#![tactic(auto)]
+
 mod calls;
 mod refusals;
 mod run;
@@ -14,7 +16,7 @@ use scans::Xdrop;
 use tables::GcOption;
 
 // The options of a request, with the Rust's names.
-#[derive(Drop)]
+#[derive(Clone, Copy)]
 pub struct LongdustOptions {
     pub window_size: usize,
     pub score_threshold: f64,
@@ -28,6 +30,7 @@ pub struct LongdustOptions {
 
 impl LongdustOptions {
     // The Rust's own defaults.
+    #[tactic(auto, unfolding(crate::specs::Options::defaults))]
     pub fn default() -> Self
         ensures { result ≡ defaults }
     {

@@ -13,6 +13,7 @@ use letters::below_n_kmers;
 use scans::Xdrop;
 use tables::GcOption;
 
+#[tactic(auto, unfolding(crate::specs::Checks::gc_bad))]
 fn gc_bad(gc: GcOption) -> bool
     ensures { result ≡ gc_bad gc }
 {
@@ -23,6 +24,7 @@ fn gc_bad(gc: GcOption) -> bool
     }
 }
 
+#[tactic(auto, unfolding(crate::specs::Checks::xdrop_bad))]
 pub fn xdrop_bad(xdrop: Xdrop) -> bool
     ensures { result ≡ xdrop_bad xdrop }
 {
@@ -32,6 +34,7 @@ pub fn xdrop_bad(xdrop: Xdrop) -> bool
     }
 }
 
+#[tactic(auto, unfolding(crate::specs::Checks::too_short_of))]
 fn too_short(n: usize, k: usize, w: usize, lent: Lent) -> bool
     ensures { result ≡ too_short_of n k w lent }
 {

@@ -16,6 +16,7 @@ const LN_END: f64 = 16.0;
 const F_END: f64 = 1048576.0;
 
 // Whether entries 1..w of a table lie in 0..high.
+#[tactic(auto, unfolding(scans::specs::Range::table_in_range))]
 fn table_in_range(table: &[f64], w: usize, high: f64) -> bool
     requires { w < length table.now }
     ensures { result ≡ table_in_range high table.now w }
@@ -31,6 +32,7 @@ fn table_in_range(table: &[f64], w: usize, high: f64) -> bool
 }
 
 // The flag.
+#[tactic(auto, unfolding(scans::specs::Range::in_range, crate::specs::Mask::setup))]
 fn in_range(options: LongdustOptions, ln: &[f64], f: &[f64]) -> bool
     requires { (options.window_size < length ln.now) × (options.window_size < length f.now) }
     ensures { result ≡ in_range (setup options ln.now f.now) }
@@ -55,10 +57,10 @@ fn usual_tables(in_range: bool, n: usize, w: usize, ln: &[f64], f: &[f64]) -> bo
 }
 
 // The numbers that a run over n letters goes by.
-fn prepare(options: LongdustOptions, in_range: bool, n: usize, ln: &[f64], f: &[f64]) -> Params
+fn prepare(options: LongdustOptions, flag: bool, n: usize, ln: &[f64], f: &[f64]) -> Params
     requires bounds { Bounds options }
     requires window_size_in_bounds { (options.window_size < length ln.now) × (options.window_size < length f.now) }
-    requires in_range_value { in_range ≡ in_range (setup options ln.now f.now) }
+    requires in_range_value { flag ≡ in_range (setup options ln.now f.now) }
     ensures { Prepared options ln.now f.now result }
 {
     let w = options.window_size as u32;
@@ -72,7 +74,7 @@ fn prepare(options: LongdustOptions, in_range: bool, n: usize, ln: &[f64], f: &[
         drop_limit: scans::drop_limit(xdrop, w, threshold),
         approx: options.approx,
         max_test: scans::max_test(ln, f, w, threshold),
-        usual: usual_tables(in_range, n, options.window_size, ln, f),
+        usual: usual_tables(flag, n, options.window_size, ln, f),
     }
 }
 

@@ -4,8 +4,4 @@ pub mod QuestionAnswers
 pub mod TrackAnswers
 pub mod SmallAnswers
 pub mod ShortAnswers
-pub mod LongdustProcessTablesKinds
-pub mod LongdustProcessTablesReads
-pub mod LongdustProcessKinds
-pub mod LongdustProcessReads
 pub mod StretchAnswers

@@ -1,5 +1,7 @@
 // The calls for C and Rust hosts: on numbers and slices, each slice a pointer and its number of elements (include/longdust.h).
 
+#![tactic(auto)]
+
 mod copies;
 mod joining;
 mod positions;

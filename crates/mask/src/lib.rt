@@ -1,5 +1,7 @@
 // Both strands: the reverse complement is scanned as the sequence itself is, its list is read backwards, and the two lists are joined. In the Rust this is the second half of `process`.
 
+#![tactic(auto)]
+
 ghost use Rattle.std.specs.Prelude.{length, take};
 ghost use Rattle.intervals.specs.Interval.{list_of};
 ghost use Rattle.intervals.specs.Merge.{merge_marked, WroteMarked, backwards};

@@ -1,5 +1,7 @@
 // Masked copies of a sequence: the letters that an interval of a list holds in lower case, or replaced by N or X.
 
+#![tactic(auto)]
+
 ghost use Rattle.std.specs.Prelude.{◌≡◌, [], ◌∷◌, map, ◌≤◌, min, length};
 ghost use Rattle.buffers.specs.Fill.{put};
 ghost use Rattle.intervals.specs.Interval.{interval, list_of};
@@ -8,7 +10,7 @@ ghost use Rattle.masked_copy.specs.Copy.{lower, shown, copy_of, replacement_bad,
 use checks::next_check;
 
 // How a masked letter is shown.
-#[derive(Drop)]
+#[derive(Clone, Copy)]
 pub enum Masking {
     LowerCase,
     Replace(u8),
@@ -29,6 +31,7 @@ fn end_within(end: u32, n: usize) -> usize
     if e < n { e } else { n }
 }
 
+#[tactic(auto, unfolding(crate::specs::Copy::lower))]
 fn lower(b: u8) -> u8
     ensures { result ≡ lower b }
 {
@@ -107,6 +110,7 @@ fn copy_letters(sequence: &[u8], copy: &mut [u8])
     }
 }
 
+#[tactic(auto, unfolding(crate::specs::Copy::replacement_bad))]
 fn replacement_bad(masking: Masking) -> bool
     ensures { result ≡ replacement_bad masking }
 {

@@ -9,7 +9,6 @@ use Rattle.intervals.proofs.Slice.{length_list, list_at}
 use Rattle.questions.specs.Answers.{answer, none, nearest}
 use Rattle.questions.specs.Promised.{Usual, distance}
 use Rattle.questions.specs.Terms.Found.{first_past, IsFirstPast}
-use Rattle.questions.proofs.Ordered.{at}
 use Rattle.questions.proofs.Searching.{past_yes}
 use Rattle.questions.proofs.Nearest.{left_distance, right_distance, nearest_is, left_nearest, right_nearest}
 

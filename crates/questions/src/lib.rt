@@ -1,6 +1,8 @@
 // Questions about a position: the nearest interval, those wholly within a range, those with letters both inside and outside it,
 // and the range's masked share.
 
+#![tactic(auto)]
+
 ghost use Rattle.std.specs.Prelude.{◌≡◌, ◌+◌, ◌-◌, ◌≤◌, ◌<◌, length};
 ghost use Rattle.buffers.specs.Fill.{put, tabulate};
 ghost use Rattle.intervals.specs.Interval.{interval, list_of, covered_in};

@@ -1,3 +1,1 @@
-pub mod CallAnswerKinds
-pub mod CallAnswerReads
 pub mod Following

@@ -25,6 +25,7 @@ fn least(a: usize, b: usize) -> usize
 
 // How many entries slice `number` of the call has: as many as listed, one less if it is the short one, none if all
 // are empty; at most `room`.
+#[tactic(auto, unfolding(crate::specs::Call::size))]
 pub fn entries(number: u64, short: u64, listed: usize, room: usize) -> usize
     ensures { (result ≡ size number short listed room) × (result ≤ room) }
 {
@@ -41,6 +42,7 @@ pub fn entries(number: u64, short: u64, listed: usize, room: usize) -> usize
 }
 
 // Whether a record lends no tables and there is room for those of the formulas.
+#[tactic(auto, unfolding(crate::specs::Call::filling))]
 fn fills(lent: bool, k: usize, w: usize) -> bool
     ensures { result ≡ filling lent k w }
 {

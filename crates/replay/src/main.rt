@@ -6,15 +6,23 @@
 //
 // A list without this form is called malformed, and the records that cannot be read count as answered otherwise.
 
+#![tactic(auto)]
+
 mod call;
 mod recorded;
 mod request;
 mod words;
 
-ghost use Rattle.std.specs.Prelude.{◌≡◌, cond, ◌≤◌};
+ghost use Rattle.std.specs.Prelude.{◌≡◌, cond, ◌≤◌, take};
+ghost use Rattle.std.specs.Io.KnownBytes.{Consumes};
+ghost use Rattle.io.specs.Counts.{IsPrefixLen};
 
 use recorded::Compared;
+use std::io;
+use std::io::Read;
 use words::Cursor;
+
+const TEXT_ROOM: usize = 65536;
 
 // Reads a record, answers its request and compares.
 fn replay_record(text: &[u8], c: Cursor) -> Compared {
@@ -47,30 +55,24 @@ fn replay_record(text: &[u8], c: Cursor) -> Compared {
     recorded::compare(text, after_letters, answer, &list, &marks)
 }
 
-// Names a record that is answered otherwise; answers 1 for one that is not.
-fn count_same(record: u64, same: bool) -> u64
+// Answers 1 for a record that is answered as recorded.
+fn count_same(same: bool) -> u64
     ensures { (result ≡ cond same 1 0) × (result ≤ 1) }
 {
     if same {
         return 1;
     }
-    io::write_all(1, b"record ");
-    io::print_decimal(1, record);
-    io::write_all(1, b" is answered otherwise\n");
     0
 }
 
-fn report(sound: bool, same: u64, otherwise: u64) {
+fn report(rt: &impl Print, sound: bool, same: u64, otherwise: u64) -> io::Result<()> {
     if !sound {
-        io::write_all(1, b"the list is malformed\n");
+        rt.println("the list is malformed")?;
     }
-    io::print_decimal(1, same);
-    io::write_all(1, b" records answered as recorded, ");
-    io::print_decimal(1, otherwise);
-    io::write_all(1, b" otherwise\n");
+    println!(rt; "{same} records answered as recorded, {otherwise} otherwise")
 }
 
-fn replay(text: &[u8]) {
+fn replay(rt: &impl Print, text: &[u8]) -> io::Result<()> {
     let first = words::number(text, words::start(), u32::MAX);
     let records = first.word;
     let mut cursor = first;
@@ -81,20 +83,45 @@ fn replay(text: &[u8]) {
         let compared = replay_record(text, cursor);
         cursor = compared.cursor;
         if !cursor.sound {
-            report(false, same, records - same);
-            return;
+            return report(rt, false, same, records - same);
         }
-        same += count_same(answered, compared.same);
+        if !compared.same {
+            println!(rt; "record {answered} is answered otherwise")?;
+        }
+        same += count_same(compared.same);
     }
     report(
+        rt,
         cursor.sound & (cursor.at == text.len()),
         same,
         records - same,
-    );
+    )
 }
 
-fn main() {
-    let mut list = io::large_buffer();
-    let size = io::read_full(0, &mut list);
-    replay(&list[..size]);
+// Reads until the list is full, the reader ends or a read fails, and answers how many bytes that is.
+fn read_list<R: Read>(reader: &mut R, list: &mut [u8]) -> usize
+    ensures prefix_len { IsPrefixLen result list.new }
+    ensures bytes { Consumes (R.remaining reader.old) (R.remaining reader.new) (take result list.new) }
+{
+    let mut count = 0;
+    while count < list.len() {
+        match reader.read(&mut list[count..]) {
+            Ok(n) => {
+                if n == 0 {
+                    return count;
+                }
+                count += n;
+            }
+            Err(_) => {
+                return count;
+            }
+        }
+    }
+    count
+}
+
+fn main(rt: HostRuntime) -> io::Result<()> {
+    let mut list = [0u8; TEXT_ROOM];
+    let size = read_list(&mut rt.stdin(), &mut list);
+    replay(&rt, &list[..size])
 }

@@ -125,6 +125,7 @@ pub fn tables(text: &[u8], c: Cursor, lent: bool, ln: &mut [f64], f: &mut [f64])
     c
 }
 
+#[tactic(auto, unfolding(crate::specs::Request::letter_of))]
 fn letter(byte: u8) -> u8
     ensures { result ≡ letter_of byte }
 {

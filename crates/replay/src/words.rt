@@ -6,7 +6,7 @@ ghost use Rattle.std.specs.Float.Ieee.{of_bits};
 ghost use Rattle.replay.specs.Words.{cursor, after, digit_of, Follows};
 
 // A place in the list, the value of the word before it, and whether every word so far has its form.
-#[derive(Drop)]
+#[derive(Clone, Copy)]
 pub struct Cursor {
     pub at: usize,
     pub word: u64,
@@ -34,6 +34,7 @@ pub fn unsound(at: usize) -> Cursor
 }
 
 // The place after a word that ends before `at`.
+#[tactic(auto, unfolding(crate::specs::Words::after))]
 pub fn ended(text: &[u8], at: usize, word: u64, sound: bool) -> Cursor
     ensures { (result ≡ after text.now at word sound) × (result.word ≤ word) }
 {
@@ -49,6 +50,7 @@ pub fn ended(text: &[u8], at: usize, word: u64, sound: bool) -> Cursor
 }
 
 // The value of a hex digit, 16 for any other byte.
+#[tactic(auto, unfolding(crate::specs::Words::digit_of))]
 fn digit(byte: u8) -> u64
     ensures { (result ≡ digit_of byte) × (result ≤ 16) }
 {

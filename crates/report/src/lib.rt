@@ -1,5 +1,7 @@
 // What a program reads and prints: the letters of the bytes that it reads, and the text of a report.
 
+#![tactic(auto)]
+
 ghost use Rattle.std.specs.Prelude.{ℕ, ◌≤◌, List, ◌++◌, length};
 ghost use Rattle.io.specs.Counts.{IsPrefixLen};
 ghost use Rattle.intervals.specs.Interval.{interval, list_of};
@@ -12,8 +14,8 @@ ghost use Rattle.report.specs.Terms.Held.{fitting, Held};
 // holds. Answers how many it holds then.
 pub fn keep_letters(block: &[u8], letters: &mut [u8], count: usize) -> usize
     requires { count ≤ length letters.old }
-    ensures fact { let D = letters.old in Written (fitting block.now D count) D count letters.new result }
-    ensures by_index { (bytes : List ℕ) → Held bytes letters.old count
+    ensures written { let D = letters.old in Written (fitting block.now D count) D count letters.new result }
+    ensures held { (bytes : List ℕ) → Held bytes letters.old count
         → Held (bytes ++ block.now) letters.new result }
     ensures prefix_len { IsPrefixLen result letters.new }
 {

@@ -14,7 +14,7 @@ const TINY: f64 = 1e-9;
 
 // The two sums of a backward scan, the score before and the best score, one past the index that had the best (0: none),
 // and where it rests: the oldest entry read, whether it paused there, and whether it has stopped.
-#[derive(Drop)]
+#[derive(Clone, Copy)]
 pub struct BackwardState {
     pub s: f64,
     pub sw: f64,

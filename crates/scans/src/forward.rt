@@ -15,7 +15,7 @@ use crate::queue::ring_end;
 pub const SLACK: f64 = 1e-6;
 
 // The sum of a forward scan, its best score, one past the index that had it (0: none), and whether the scan has stopped.
-#[derive(Drop)]
+#[derive(Clone, Copy)]
 pub struct ForwardState {
     pub s: f64,
     pub best: f64,

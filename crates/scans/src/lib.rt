@@ -12,6 +12,8 @@
 //
 // What `dust_backward` does with them stands in crate `search`.
 
+#![tactic(auto)]
+
 mod backward;
 mod counts;
 mod forward;
@@ -27,14 +29,14 @@ pub use limits::{drop_limit, is_usual, max_test};
 pub use queue::{clear_from, newest_entry, ring_index, uncount};
 
 // The backward scan stops where its score lies more than this many thresholds below the best; `Off`: as many as the window has places.
-#[derive(Drop)]
+#[derive(Clone, Copy)]
 pub enum Xdrop {
     Off,
     Length(u32),
 }
 
 // The numbers that a run goes by.
-#[derive(Drop)]
+#[derive(Clone, Copy)]
 pub struct Params {
     pub kmer: usize,
     pub window_size: usize,
@@ -49,7 +51,7 @@ pub struct Params {
 
 // A candidate, with the Rust's names: a place from which a forward scan is tried, with the backward scan's best score when it was noted.
 #[repr(C)]
-#[derive(Drop)]
+#[derive(Clone, Copy)]
 pub struct ForwardPosition {
     pub pos: u32,
     pub max_score: f64,

@@ -1,6 +1,6 @@
 -- The certificate and the carried scan of a window in a ring: the newest entry joins them (`next_still`, `next_fresh`, `next_repeated`, `carries_on`).
 use mathlib.Core.Path.{◌≡◌, refl, sym, ap, ◌∙◌, subst}
-use mathlib.Core.Bool.{Bool, true, false, not, cond, ◌&&◌}
+use mathlib.Core.Bool.{Bool, true, false, cond, ◌&&◌}
 use mathlib.Core.List.{List, [], ◌∷◌, ◌++◌}
 use Prim.Native.Nat.{ℕ, ◌+◌, ◌-◌, ◌^◌, ◌/◌, ◌≤◌, ◌<◌}
 use native.Mathlib.Omega.{arith}
@@ -18,7 +18,7 @@ use Rattle.search.specs.declared.Certificate.{Certificate}
 use Rattle.search.specs.declared.Carry.{Carry}
 use Rattle.scans.specs.Setup.{Setup, kmers}
 use Rattle.scans.specs.Counts.{count}
-use Rattle.scans.specs.Scans.{value, at}
+use Rattle.scans.specs.Scans.{value}
 use Rattle.scans.specs.Terms.Counted.{Counted}
 use Rattle.scans.specs.Terms.Numbers.{setup_of}
 use Rattle.scans.specs.Terms.Window.{window, newest_in, Windowed, Joining, counted_value, CountsEntry}
@@ -27,16 +27,12 @@ use Rattle.search.specs.Terms.Certified.{no_certificate, certificate_step, Bound
 use Rattle.search.specs.Terms.Carry.{Summed, CarriesOn}
 use Rattle.scans.proofs.Counting.{below_left, below_drop}
 use Rattle.scans.proofs.Values.{decode_below}
-use Rattle.scans.proofs.Windows.{long, count_in}
+use Rattle.scans.proofs.Windows.{count_in}
 use Rattle.scans.proofs.Walk.{windowed_queued, queued_below}
 use Rattle.scans.proofs.Exact.{added}
 use Rattle.search.proofs.CarriedScan.{carried_on, carried_next, carried_step}
 use Rattle.search.proofs.Newest.{before_long, newest_place, none_counted}
 use Rattle.search.proofs.CertificateKept.{none_certified, window_added, kept_still, kept_fresh, kept_repeated}
-
-pub was_on : (x : Bool) → not x ≡ false → x ≡ true
-was_on true off = refl
-was_on false off = sym off
 
 module _ (p : Params) (ring : List ℕ) (head len : ℕ) (wc : List ℕ) (ln : List Float) (counts : List ℕ) (J : Joining p ring head len wc (length ln) counts) where
   abbrev q : List Place
@@ -100,9 +96,9 @@ module _ (p : Params) (ring : List ℕ) (head len : ℕ) (wc : List ℕ) (ln : L
     pub next_none : {r : Certificate} → r ≡ no_certificate → (f : List Float) → CertifiesOn (setup_of p ln f) q c r counts
     next_none z f = record { keeps = λ q₀ e j joins n k. none_certified (ap (λ (x : Certificate). x.on) z) }
 
-    module _ (lasts : not ((c.on && ltb 0 c.left) && ltb c.near len) ≡ false) where
+    module _ (lasts : (c.on && ltb 0 c.left) && ltb c.near len ≡ true) where
       tests : T ((c.on && ltb 0 c.left) && ltb c.near len)
-      tests = subst T (sym (was_on ((c.on && ltb 0 c.left) && ltb c.near len) lasts)) tt
+      tests = subst T (sym lasts) tt
 
       on : c.on ≡ true
       on = go c.on (and_l c.on (ltb 0 c.left) (and_l (c.on && ltb 0 c.left) (ltb c.near len) tests))

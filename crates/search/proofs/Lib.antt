@@ -17,13 +17,3 @@ pub mod CertificateStart
 pub mod Newest
 pub mod CertificateKept
 pub mod CertificateRing
-pub mod CandidatesCandidateAtKinds
-pub mod CandidatesCandidateAtReads
-pub mod CandidatesSetCandidateKinds
-pub mod CandidatesSetCandidateReads
-pub mod CandidatesScanBackwardKinds
-pub mod CandidatesScanBackwardReads
-pub mod CandidatesTryCandidatesKinds
-pub mod CandidatesTryCandidatesReads
-pub mod DustDustBackwardKinds
-pub mod DustDustBackwardReads

@@ -8,6 +8,8 @@
 //
 // carried: the last find's forward scan, gone on with letter by letter; kept: the certificate of its start, by which crate `certificates` leaves searches out.
 
+#![tactic(auto)]
+
 mod candidates;
 mod carried;
 mod dust;
@@ -20,7 +22,7 @@ pub use dust::dust_backward;
 pub use kept::DISTANCE;
 
 // The sum and the best score of the last find's forward scan, carried on to the newest entry while `on`.
-#[derive(Drop)]
+#[derive(Clone, Copy)]
 pub struct Carry {
     pub on: bool,
     pub s: f64,
@@ -29,7 +31,7 @@ pub struct Carry {
 }
 
 // While it is on, the start of the carried scan is what a backward scan finds, wherever that scan is best at the newest entry.
-#[derive(Drop)]
+#[derive(Clone, Copy)]
 pub struct Certificate {
     pub on: bool,
     // How many letters it may still last.

@@ -7,5 +7,3 @@ pub mod Runs
 pub mod Refusals
 pub mod Theorems
 pub mod Examples
-pub mod MaskLettersKinds
-pub mod MaskLettersReads

@@ -118,3 +118,6 @@ module _ {s : List ℕ} {xs xs' : List (List ℕ)} {r : Masked} (run : Ran s xs 
       ap₂ (λ (b : Bool) (n : ℕ). record { refused = b; letters = n })
       (ap (λ (n : ℕ). not (eqb n 0)) run.number)
       (e ∙ ap (λ (is : List Interval). covered_in is 0 (length s)) (wrote_list run.list) ∙ letters_are (refusal_of s))
+
+-- for `using`
+pub ruleset runs = (list_usual, outcome_is)

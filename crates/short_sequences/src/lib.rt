@@ -1,5 +1,7 @@
 // Every sequence of m letters over A C G T N masked, and how many lead to 0, 1 .. m masked letters: the check before a release.
 
+#![tactic(auto)]
+
 ghost use Rattle.std.specs.Prelude.{◌≡◌, [], ◌+◌, ◌^◌, ◌≤◌, ◌<◌, length, get_or};
 ghost use Rattle.intervals.specs.Interval.{Canonical, covered_in, list_of};
 ghost use Rattle.short_sequences.specs.Sequences.{sequences_of};
@@ -56,6 +58,7 @@ fn letter(digit: usize) -> u8
 }
 
 // How many sequences of m letters there are.
+#[tactic(auto, using(crate::proofs::Sequences::few))]
 fn count_sequences(m: usize) -> usize
     requires { m ≤ 8 }
     ensures { result ≡ 5 ^ m }
@@ -87,6 +90,7 @@ fn write_letters(index: usize, letters: &mut [u8])
 }
 
 // ---- One run.
+#[tactic(auto, unfolding(crate::specs::Tallies::short_options))]
 fn short_options() -> LongdustOptions
     ensures { result ≡ short_options }
 {
@@ -167,6 +171,7 @@ fn count_letters(list: &[[u32; 2]], n: usize) -> usize
 }
 
 // What the run on the letters comes to.
+#[tactic(auto, using(crate::proofs::Runs::runs))]
 fn run_letters(letters: &[u8], ln: &[f64], f: &[f64]) -> Outcome
     requires letters_len_bound { length letters.now ≤ 8 }
     requires filled { Filled ln.now f.now }

@@ -80,3 +80,6 @@ module _ {ps : List (List ℕ)} {d : List ℕ} where
   pub writing_end : {i : ℕ} {l : List ℕ} → Writing ps d i l → length ps ≤ i → l ≡ put (bytes_of (list_of ps)) d
   writing_end {i} a h =
       a.now ∙ ap (λ (is : List Interval). put (bytes_of is) d) (take_all i (list_of ps) (omega (arith, length_list ps)))
+
+-- for `using`
+pub ruleset bytes = (four_stored, writing_start, writing_turn)

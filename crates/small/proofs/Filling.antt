@@ -29,6 +29,7 @@ use Rattle.small.specs.Profile.{not_uniform}
 use Rattle.small.specs.Call.{filled_mask}
 use Rattle.small.specs.Terms.Run.{Asked, FilledTo, Serve}
 use Rattle.small.proofs.Profile.{window_some, twice}
+use Rattle.small.proofs.Profile.{kmer_fits, window_fits}
 
 -- For uniform GC the letters do not matter.
 uniform_density : (k : ℕ) (gc : GcOption) (s : List ℕ) → not_uniform gc ≡ false → density k gc s ≡ uniform k
@@ -107,3 +108,6 @@ module _ {o : LongdustOptions} {s : List ℕ} (a : Asked o s) where
   pub whole_serves : {ln f ln' f' : List Float} → FilledTo w k ln f ln' f' → Serve o s ln' f'
   whole_serves filled =
       serve w (omega arith) filled (omega arith) (max_test_agree w t (ln_read_lem w (omega arith) filled) (f_read_lem w (omega arith) filled))
+
+-- for `using`
+pub ruleset filled = (kmer_fits, window_fits, decided_serves, whole_serves)

@@ -5,5 +5,3 @@ pub mod Repeating
 pub mod Runs
 pub mod Theorems
 pub mod Examples
-pub mod MaskLettersKinds
-pub mod MaskLettersReads

@@ -32,6 +32,8 @@ use Rattle.small.specs.Call.{filled_mask}
 use Rattle.small.specs.Terms.Run.{Asked}
 use Rattle.small.specs.Terms.Quiet.{Few, count_of, Raises, Counting}
 use Rattle.small.proofs.Profile.{window_some}
+use Rattle.scans.proofs.Values.{even_plain, odd_ambiguous}
+use Rattle.small.proofs.Profile.{kmer_fits, kmers_fit, letters_fit, twice}
 
 -- ---- The counts of the places.
 pub raised : (counts : List ℕ) (x : ℕ) → x < length counts → get_or counts x 0 + 1 ≡ count_of (raise counts (plain x)) (plain x)
@@ -147,3 +149,8 @@ module _ {o : LongdustOptions} {s : List ℕ} (a : Asked o s) where
 pub none_written : (is : List Interval) (d : List ℕ) → is ≡ [] → (0 ≡ length is) × (d ≡ put (bytes_of is) d)
 unfolding bytes_of
 none_written is d e = rw e (refl, refl)
+
+-- for `using`
+pub ruleset raising = (even_plain, odd_ambiguous, raised)
+
+pub ruleset quiet = (kmer_fits, kmers_fit, letters_fit, twice, forward_few, reverse_few, quiet_mask)

@@ -1,5 +1,7 @@
 // The small profile: the mask of a short sequence as bytes, in work space of the call's own.
 
+#![tactic(auto)]
+
 ghost use Rattle.std.specs.Prelude.{◌≡◌, ◌+◌, ◌*◌, ◌≤◌, ◌<◌, ltb, length};
 ghost use Rattle.buffers.specs.Fill.{put, put_at};
 ghost use Rattle.checks.specs.Tests.{most_intervals};
@@ -36,6 +38,7 @@ pub struct Written {
 }
 
 // ---- The checks.
+#[tactic(auto, unfolding(crate::specs::Profile::not_uniform))]
 fn not_uniform(gc: GcOption) -> bool
     ensures { result ≡ not_uniform gc }
 {
@@ -46,6 +49,7 @@ fn not_uniform(gc: GcOption) -> bool
     }
 }
 
+#[tactic(auto, unfolding(crate::specs::Profile::outside))]
 fn outside(options: LongdustOptions, n: usize) -> bool
     ensures { result ≡ outside options n }
 {
@@ -88,6 +92,7 @@ fn check(sequence: &[u8], options: LongdustOptions, out: &[u8]) -> u32
 
 // ---- The bytes.
 // Writes the four bytes of a number, lowest first.
+#[tactic(auto, using(crate::proofs::Bytes::bytes))]
 fn write_number(x: u32, out: &mut [u8], at: usize)
     requires { at + 4 ≤ length out.old }
     ensures { out.new ≡ put_at at (four_bytes x) out.old }
@@ -108,6 +113,7 @@ fn write_pair(start: u32, end: u32, out: &mut [u8], at: usize)
 }
 
 // Writes the intervals of the list to the front of the output.
+#[tactic(auto, using(crate::proofs::Bytes::bytes))]
 fn write_list(list: &[[u32; 2]], out: &mut [u8])
     requires { 8 * length list.now ≤ length out.old }
     ensures { out.new ≡ put (bytes_of (list_of list.now)) out.old }
@@ -142,6 +148,7 @@ fn fill_up_to(m: usize, k: usize, ln: &mut [f64], f: &mut [f64])
 }
 
 // Fills the tables as far as a run over the letters reads them: up to n or w, or up to w where n entries do not decide max_test.
+#[tactic(auto, using(crate::proofs::Filling::filled))]
 fn fill_read(letters: &[u8], options: LongdustOptions, ln: &mut [f64], f: &mut [f64])
     requires asked { Asked options letters.now }
     requires ln_len { (length ln.old ≡ 4097) × (length f.old ≡ 4098) }

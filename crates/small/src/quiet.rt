@@ -11,6 +11,7 @@ use crate::MOST_LETTERS;
 use longdust::LongdustOptions;
 
 // Counts the place of a queue entry, and answers the count of its k-mer, 0 if it is ambiguous.
+#[tactic(auto, using(crate::proofs::Repeating::raising))]
 fn raise_count(counts: &mut [u16], entry: u32) -> u16
     requires { (entry / 2 < length counts.old) × (get_or counts.old (entry / 2) 0 < 65535) }
     ensures { Raises counts.old (decode entry) result counts.new }
@@ -43,6 +44,7 @@ fn repeats(codes: &[u8], k: usize, least: u16) -> bool
 }
 
 // Whether no letter of a strand that is scanned is searched from.
+#[tactic(auto, using(crate::proofs::Repeating::quiet))]
 pub fn is_quiet(sequence: &[u8], options: LongdustOptions) -> bool
     requires { Asked options sequence.now }
     ensures { result ≡ true → filled_mask options sequence.now ≡ [] }

@@ -19,6 +19,8 @@ use Rattle.step.specs.Step.{first_letter, start_after, save_from, saved_after}
 use Rattle.step.specs.declared.window.Window.{Window}
 use Rattle.step.specs.declared.hand.Open.{Open}
 use Rattle.step.specs.Terms.Finding.{last_q_by, Closing, Found}
+use Rattle.intervals.proofs.Slice.{saved_list}
+use Rattle.step.proofs.Signed.{lt_back, zero_fits}
 
 -- ---- A number as a find.
 find_at : (r : ℕ) → (r ≡ 0 → ⊥) → find_of r ≡ at (r - 1)
@@ -76,3 +78,6 @@ module _ {k i len r : ℕ} {o : Open} {saved : List Interval} where
         end_is = y;
         saved_is = z ∙ rw (e₂, e);
       })
+
+-- What tells of an interval in hand that is saved.
+pub ruleset closed = (saved_list, lt_back, zero_fits, save_back)

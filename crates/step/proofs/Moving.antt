@@ -22,7 +22,7 @@ use Rattle.scans.specs.Counts.{count, raise, lower}
 use Rattle.scans.specs.Terms.Window.{queue, ring_index, window, counted_value, Windowed}
 use Rattle.scans.proofs.Counting.{Counted, hit_self, count_le, raise_counted, lower_counted}
 use Rattle.scans.proofs.Ring.{ring_index_at, queue_length, queue_join, queue_leave, window_join, window_leave, window_length}
-use Rattle.scans.proofs.Values.{decode_below, decoded_below}
+use Rattle.scans.proofs.Values.{decode_below, decoded_below, even_plain, odd_ambiguous}
 use Rattle.scans.proofs.Windows.{long}
 use Rattle.step.specs.Step.{sum_without, sum_with, last_q_without, without_oldest, leave, join}
 use Rattle.step.specs.declared.window.Window.{Window}
@@ -253,3 +253,6 @@ module _ {p : Params} {ln : List Float} {a : Window} {ring counts counts' : List
         some = omega arith;
         live_is = refl;
       }
+
+-- What tells of an entry by its lowest bit.
+pub ruleset by_lowest_bit = (even_plain, odd_ambiguous, more_plain)

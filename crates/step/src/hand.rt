@@ -6,7 +6,7 @@ ghost use Rattle.step.specs.Step.{first_letter, start_after, save_from, saved_af
 ghost use Rattle.step.specs.Terms.Finding.{saved_in, Found, Saving};
 
 // Its start and end, each -1 at first, and how many intervals are saved.
-#[derive(Drop)]
+#[derive(Clone, Copy)]
 pub struct Open {
     pub start: i64,
     pub end: i64,
@@ -41,6 +41,7 @@ fn start_after(start: i64, end: i64, s: i64) -> i64
 
 impl Open {
     // The interval is saved, if there is one; answers how many are saved then.
+    #[tactic(auto, using(crate::proofs::Finding::closed))]
     pub fn close(self, list: &mut [[u32; 2]]) -> usize
         requires { Saving self list.old }
         ensures { (saved_in result list.new ≡ save_from (saved_in self.count list.old) self.start self.end)

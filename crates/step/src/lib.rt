@@ -9,6 +9,8 @@
 //
 // window: `Window::certain` tells a search that a carried scan answers.
 
+#![tactic(auto)]
+
 mod hand;
 mod state;
 mod window;

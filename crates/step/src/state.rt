@@ -16,7 +16,7 @@ use crate::window::{Window, is_at};
 
 // What moves on letter by letter: the next letter i, the k-mer of the letters read, the window, and the interval in hand.
 // At letter i itself, once that has entered the window, the k-mer is that of letter i.
-#[derive(Drop)]
+#[derive(Clone, Copy)]
 pub struct State {
     pub kmer: letters::Kmer,
     pub i: usize,
@@ -91,6 +91,7 @@ impl State {
     }
 
     // Whether letter i is searched from: its place is plain, and its count at least min_start_cnt.
+    #[tactic(auto, using(crate::proofs::Moving::by_lowest_bit))]
     pub fn is_searched(self, p: scans::Params, window_counts: &[u16]) -> bool
         requires { (self.kmer.value < 16777216) × (entry_of p.kmer self.kmer / 2 < length window_counts.now) }
         ensures { result ≡ is_searched p.min_start_cnt window_counts.now (newest_of p self) }

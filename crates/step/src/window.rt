@@ -14,7 +14,7 @@ ghost use Rattle.step.specs.Terms.Finding.{last_q_by};
 
 // The window's float sum, last_q, and where its entries stand in the ring: `len` of them, the oldest at `head`.
 // Unless `live`, all scan counts are 0; `carry` is the forward scan from last_q on.
-#[derive(Drop)]
+#[derive(Clone, Copy)]
 pub struct Window {
     pub sum: f64,
     pub last_q: i64,
@@ -25,6 +25,7 @@ pub struct Window {
 }
 
 // The sum without an entry that leaves: if plain, the ln entry of its count leaves the sum, and the count falls.
+#[tactic(auto, using(crate::proofs::Moving::by_lowest_bit))]
 fn sum_without(sum: f64, entry: u32, ln: &[f64], counts: &mut [u16]) -> f64
     requires { (entry / 2 < length counts.old) × (get_or counts.old (entry / 2) 0 < length ln.now)
         × (decode entry ≡ plain (entry / 2) → 0 < get_or counts.old (entry / 2) 0) }
@@ -41,6 +42,7 @@ fn sum_without(sum: f64, entry: u32, ln: &[f64], counts: &mut [u16]) -> f64
 }
 
 // The sum with an entry that joins: if plain, its count rises, and the ln entry of the count is added.
+#[tactic(auto, using(crate::proofs::Moving::by_lowest_bit))]
 fn sum_with(sum: f64, entry: u32, ln: &[f64], counts: &mut [u16]) -> f64
     requires { (entry / 2 < length counts.old) × (get_or counts.old (entry / 2) 0 < 65535)
         × (get_or counts.old (entry / 2) 0 + 1 < length ln.now) }

@@ -11,7 +11,7 @@ ghost use Rattle.strand.specs.Terms.Running.{Asking, Told, Foretells};
 use step::{State, Window};
 
 // Low starts, found when `made` letters were read.
-#[derive(Drop)]
+#[derive(Clone, Copy)]
 pub struct LowSince {
     pub starts: certificates::LowStarts,
     pub made: usize,

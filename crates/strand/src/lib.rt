@@ -6,6 +6,8 @@
 //
 // known: `foretell` leaves backward scans out whose answer is told, by a carried scan or by low starts.
 
+#![tactic(auto)]
+
 mod known;
 mod skim;
 

@@ -17,7 +17,7 @@ use Rattle.letters.specs.Place.{Place}
 use Rattle.letters.proofs.Codes.{codes_length}
 use Rattle.scans.specs.Score.{ln_sums}
 use Rattle.strongest.specs.declared.scores.Reading.{Reading}
-use Rattle.strongest.specs.Strongest.{Asked, steps, unread, up_to, entry, without_f, score_of, score_at, best_of, best, start, best_score, largest, gap_over, gap}
+use Rattle.strongest.specs.Strongest.{Asked, steps, unread, up_to, entry, without_f, score_of, score_at, best_of, best, best_score, largest, gap_over, gap}
 use Rattle.strongest.specs.Call.{Found}
 use Rattle.strongest.specs.Terms.Reading.{back_to, scores_back, Narrow, Reads, ReadsPlaces, needed, codes_read, gap_of}
 use Rattle.strongest.proofs.Order.{is_pos, difference_is, excess_is}

@@ -16,6 +16,7 @@ use Rattle.letters.specs.Place.{Place, ambiguous, plain, packed, all_plain, plac
 use Rattle.letters.proofs.Places.{places_drop}
 use Rattle.scans.specs.Score.{stretch}
 use Rattle.strongest.specs.Terms.Reading.{back, back_to}
+use Rattle.letters.proofs.Rolling.{kmer_none, kmer_next, run_few, value_small}
 
 -- ---- The m letters of s from letter a on.
 module _ (s : List ℕ) (a m : ℕ) where
@@ -128,3 +129,8 @@ module _ (k : ℕ) (s : List ℕ) (b steps m from : ℕ) (inside : b < length s)
       let next : p + 1 ≡ b + 1 - l = omega arith in
       ap₂ (λ (x : Place) (q : List Place). x ∷ q) (back_at l (omega arith)) (back_stretch l (omega arith) ∙ ap (λ (n : ℕ). take l (drop n (places k s))) (sym next))
       ∙ sym (ap (λ (n : ℕ). take (suc l) (drop n (places k s))) same ∙ ap (λ (q : List Place). take (suc l) q) (places_drop k s p (omega arith)))
+
+-- for `using`
+pub ruleset rolling = (kmer_none, kmer_next, run_few, value_small, last_place)
+
+pub ruleset slices = (slice_length, slice_place)

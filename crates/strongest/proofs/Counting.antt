@@ -19,6 +19,7 @@ use Rattle.strongest.specs.Strongest.{entry, largest}
 use Rattle.strongest.specs.Terms.Reading.{back, back_to, Known, cleared_at, raised_entry, Adds}
 use Rattle.strongest.proofs.Largest.{largest_at}
 use Rattle.strongest.proofs.Backward.{back_length}
+use Rattle.scans.proofs.Values.{even, even_plain, odd_ambiguous}
 
 -- ---- An entry set to 0.
 zero_same : (l : List ℕ) (i : ℕ) → ◌≡◌ {A = ℕ} (get_or (set l i 0) i 0) 0
@@ -101,3 +102,10 @@ module _ (k : ℕ) (cs : List ℕ) where
           value_is = sums_cons (entry ln) (4 ^ k) (back_to k cs l) e below ∙ ap (λ (z : ℤ). ln_sums (entry ln) (4 ^ k) (back_to k cs l) +ℤ z) (value e refl);
           value_small = small e refl;
         })
+
+-- for `using`
+pub ruleset entries = (even, even_plain, odd_ambiguous)
+
+pub ruleset clearing = (cleared_none, cleared_more, cleared_known)
+
+pub ruleset counting = (room, counted)

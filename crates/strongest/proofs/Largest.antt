@@ -40,3 +40,6 @@ module _ (table : List ℕ) where
       ⊎_elim (λ e. rw e)
       (λ l. largest_past v w h (omega arith) ∙ sym (ap (λ (x : ℕ). max (largest table w) x) (get_or-eq_default table 0 (omega arith)) ∙ max-zero (largest table w)))
       (eq-or-lt_of_le k)
+
+-- for `using`
+pub ruleset largest_of = (largest_none, largest_next, largest_past)

@@ -1,5 +1,7 @@
 // The strongest stretch at a letter: of the stretches up to a place, the one that scores highest, read backward within a budget of steps.
 
+#![tactic(auto)]
+
 mod places;
 mod refusals;
 mod scores;

@@ -15,6 +15,7 @@ pub fn smaller(a: usize, b: usize) -> usize
 }
 
 // The place of the last letter, as a queue entry.
+#[tactic(auto, using(crate::proofs::Backward::rolling))]
 fn last_entry(letters: &[u8], kmer: usize) -> u32
     requires { (kmer ≤ 12) × (0 < length letters.now) × (length letters.now ≤ kmer) }
     ensures { (decode result ≡ place_at kmer letters.now (length letters.now - 1)) × (result / 2 < 4 ^ kmer) }
@@ -29,6 +30,7 @@ fn last_entry(letters: &[u8], kmer: usize) -> u32
 }
 
 // Place i, counted back from the last letter, as a queue entry.
+#[tactic(auto, using(crate::proofs::Backward::slices))]
 fn entry_back(letters: &[u8], kmer: usize, i: usize) -> u32
     requires { (0 < kmer) × (kmer ≤ 12) × (i < length letters.now) }
     ensures { (decode result ≡ back kmer letters.now i) × (result / 2 < 4 ^ kmer) }
@@ -39,6 +41,7 @@ fn entry_back(letters: &[u8], kmer: usize, i: usize) -> u32
 }
 
 // Sets the count of an entry's k-mer to 0.
+#[tactic(auto, using(crate::proofs::Counting::entries))]
 fn clear_entry(counts: &mut [u16], entry: u32)
     requires { entry / 2 < length counts.old }
     ensures { counts.new ≡ cleared_at counts.old (decode entry) }
@@ -50,6 +53,7 @@ fn clear_entry(counts: &mut [u16], entry: u32)
 }
 
 // Sets the counts of the last `steps` places to 0, and no other.
+#[tactic(auto, using(crate::proofs::Counting::clearing))]
 pub fn clear_counts(letters: &[u8], kmer: usize, steps: usize, counts: &mut [u16])
     requires { (0 < kmer) × (kmer ≤ 12) × (steps ≤ length letters.now) × (length counts.old ≡ 4 ^ kmer) }
     ensures { Known kmer letters.now steps 0 counts.new }
@@ -62,6 +66,7 @@ pub fn clear_counts(letters: &[u8], kmer: usize, steps: usize, counts: &mut [u16
 }
 
 // Counts an entry, and answers the ln entry of its raised count, 0 if ambiguous.
+#[tactic(auto, using(crate::proofs::Counting::entries))]
 fn count_entry(counts: &mut [u16], ln: &[u64], entry: u32) -> u64
     requires { (entry / 2 < length counts.old)
         × (entry % 2 ≡ 0 → (get_or counts.old (entry / 2) 0 < 65535) × (get_or counts.old (entry / 2) 0 + 1 < length ln.now)) }
@@ -78,6 +83,7 @@ fn count_entry(counts: &mut [u16], ln: &[u64], entry: u32) -> u64
 }
 
 // Counts place i, of which those before it, counted back from the last letter, are counted.
+#[tactic(auto, using(crate::proofs::Counting::counting))]
 pub fn count_back(
     letters: &[u8],
     kmer: usize,

@@ -24,6 +24,7 @@ fn larger(a: u64, b: u64) -> u64
 }
 
 // The largest of the table's entries 1..w; entry 0 is not among them, and those past the table's end count as 0.
+#[tactic(auto, using(crate::proofs::Largest::largest_of))]
 pub fn largest(table: &[u64], w: usize) -> u64
     ensures { result ≡ largest table.now w }
 {
@@ -40,6 +41,7 @@ pub fn largest(table: &[u64], w: usize) -> u64
 }
 
 // A lent buffer is shorter than listed.
+#[tactic(auto, unfolding(crate::specs::Checks::too_short_of))]
 fn too_short(
     n: usize,
     kmer: usize,
@@ -56,6 +58,7 @@ fn too_short(
 }
 
 // T or an entry of 1..w is outside its width.
+#[tactic(auto, unfolding(crate::specs::Checks::too_wide))]
 fn too_wide(window_size: usize, threshold: u64, ln: &[u64], f: &[u64]) -> bool
     ensures { result ≡ too_wide window_size threshold ln.now f.now }
 {
@@ -64,6 +67,7 @@ fn too_wide(window_size: usize, threshold: u64, ln: &[u64], f: &[u64]) -> bool
 }
 
 // The number of the first check that fails, 0 if none does.
+#[tactic(auto, unfolding(crate::specs::Checks::refusal))]
 pub fn check(
     sequence: &[u8],
     kmer: usize,

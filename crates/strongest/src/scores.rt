@@ -35,6 +35,7 @@ impl Reading {
     }
 
     // One place more, of which the stretch has now `size`: it gains `value` more, and the stretch loses `loss`.
+    #[tactic(auto, unfolding(crate::specs::Terms::Reading::judged))]
     fn judged(self, size: usize, value: u64, loss: u64) -> Self
         requires { (self.gain < 9007199254740992) × (value < 9007199254740992) × (loss < 9007199254740992)
             × (self.best.gain < 9007199254740992) × (self.best.loss < 9007199254740992) }
@@ -53,6 +54,7 @@ impl Reading {
 }
 
 // Reads the last `steps` places backward from the last letter; the counts of their k-mers are 0.
+#[tactic(auto, using(crate::proofs::Reading::reads))]
 pub fn read_back(
     letters: &[u8],
     kmer: usize,

@@ -12,3 +12,6 @@ pub ended : (step : ℕ → Float → Float) (n : ℕ) (h : Float) → n ≤ 0 �
 unfolding countdown
 ended step zero h p = refl
 ended step (suc j) h p = absurd (let b : ⊥ = omega arith in b)
+
+-- for `using`
+pub ruleset countdowns = (turn, ended)

@@ -42,3 +42,8 @@ uniform_made k x e = rw e
 pub by_gc_made : (k : ℕ) (gc : Float) (r m : List Float) → r ≡ thirteen (ratio_at k gc) (k + 1) → m ≡ thirteen (count_at k) (k + 1) → record { ratio = r; count = m; classes = k + 1 } ≡ by_gc k gc
 unfolding by_gc
 by_gc_made k gc r m e g = rw (e, g)
+
+-- for `using`
+pub ruleset made = (uniform_made, by_gc_made)
+
+pub ruleset binomials = (product_fits, binomial_next, counted)

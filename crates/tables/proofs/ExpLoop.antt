@@ -31,3 +31,6 @@ over a v h = go (ltb a 30) refl h
     go : (b : Bool) → ltb a 30 ≡ b → (b && le one64 v) ≡ false → times a inv_e (exp_series v) ≡ exp_from (30 - a) a v
     go true e t = below_one (30 - a) a v t
     go false e t = let l = ltb-false a 30 e in no_more (30 - a) a v (omega arith)
+
+-- for `using`
+pub ruleset exp_loop = (again, over)

@@ -67,3 +67,8 @@ of_minus a b h =
     neg_round binary64 (b - a) 1
     ∙ ap (λ (n : ℕ). round binary64 true n 1) (let k : b - a ≡ suc (b - suc a) = omega arith in k)
     ∙ ap (λ (z : ℤ). of_int binary64 z) (sym (minus_lt a b h))
+
+-- for `using`
+pub ruleset differences = (minus_le, of_minus)
+
+pub ruleset raised = (minus_add)

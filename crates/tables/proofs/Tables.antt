@@ -52,3 +52,8 @@ unfolding density
 density_reverse_complement k Uniform s = refl
 density_reverse_complement k (Fixed x) s = refl
 density_reverse_complement k Auto s = ap (by_gc k) (gc_reverse_complement s)
+
+-- for `using`
+pub ruleset ln_entries = (ln_room, ln_read_lem)
+
+pub ruleset filled = (ln_held, classes_fit)

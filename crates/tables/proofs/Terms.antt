@@ -43,3 +43,8 @@ pub f_some : (k : ℕ) (d : Density) (l : ℕ) (all : Float) → (l ≡ 0 → �
 unfolding f_of
 f_some k d zero all h e = absurd (h refl)
 f_some k d (suc l) all h e = rw e
+
+-- for `using`
+pub ruleset of_terms = (term_added, term_last, terms_over)
+
+pub ruleset of_classes = (class_added, classes_over, f_none, f_some)

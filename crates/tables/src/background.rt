@@ -7,6 +7,7 @@ use crate::exponential::powi;
 use crate::{Density, GcOption};
 
 // The class of `calculate_f`: all k-mers, each expected 1 in 4^k times.
+#[tactic(auto, using(crate::proofs::Densities::made))]
 fn calculate_f(k: usize) -> Density
     requires { k ≤ 12 }
     ensures { result ≡ uniform k }
@@ -53,6 +54,7 @@ fn counts(k: usize) -> [f64; 13]
 }
 
 // The classes of `calculate_f_gc`: one for each number of letters C or G.
+#[tactic(auto, using(crate::proofs::Densities::made))]
 fn calculate_f_gc(k: usize, gc: f64) -> Density
     requires { k ≤ 12 }
     ensures { result ≡ by_gc k gc }
@@ -67,6 +69,7 @@ fn calculate_f_gc(k: usize, gc: f64) -> Density
 }
 
 // The classes for a GC choice.
+#[tactic(auto, unfolding(crate::specs::Density::density))]
 pub fn classes(k: usize, gc: GcOption, codes: &[u8]) -> Density
     requires { k ≤ 12 }
     ensures { result ≡ density k gc codes.now }

@@ -10,6 +10,7 @@ use crate::exponential::exp_neg;
 use crate::{Density, logarithm};
 
 // ln n, read up to w and calculated above it.
+#[tactic(auto, using(crate::proofs::Tables::ln_entries))]
 fn ln_at(ln: &[f64], w: usize, n: u32) -> f64
     requires { take (w + 1) ln.now ≡ ln_table w }
     ensures { result ≡ ln_of (number n) }
@@ -23,6 +24,7 @@ fn ln_at(ln: &[f64], w: usize, n: u32) -> f64
 }
 
 // The terms of n = 2 .. 10000, up to the first that is too small to count.
+#[tactic(auto, using(crate::proofs::Terms::of_terms), unfolding(crate::specs::F::terms))]
 fn terms(lambda: f64, ln: &[f64], w: usize) -> f64
     requires { take (w + 1) ln.now ≡ ln_table w }
     ensures { result ≡ terms lambda }
@@ -44,6 +46,7 @@ fn terms(lambda: f64, ln: &[f64], w: usize) -> f64
     x
 }
 
+#[tactic(auto, unfolding(crate::specs::F::stirlings_approx))]
 fn stirlings_approx(lambda: f64) -> f64
     ensures { result ≡ stirlings_approx lambda }
 {
@@ -51,6 +54,7 @@ fn stirlings_approx(lambda: f64) -> f64
         + 0.5 * logarithm::ln(2.0 * 3.141592653589793 * 2.718281828459045 * lambda)
 }
 
+#[tactic(auto, unfolding(crate::specs::F::f_large))]
 fn f_large(lambda: f64) -> f64
     ensures { result ≡ f_large lambda }
 {
@@ -59,6 +63,7 @@ fn f_large(lambda: f64) -> f64
 }
 
 // The expected score of one k-mer that is expected lambda times.
+#[tactic(auto, unfolding(crate::specs::F::f_class))]
 fn f_class(lambda: f64, ln: &[f64], w: usize) -> f64
     requires { take (w + 1) ln.now ≡ ln_table w }
     ensures { result ≡ f_class lambda }
@@ -71,6 +76,7 @@ fn f_class(lambda: f64, ln: &[f64], w: usize) -> f64
 }
 
 // f at the length l.
+#[tactic(auto, using(crate::proofs::Terms::of_classes))]
 pub fn calculate_f_internal(k: usize, l: u32, d: Density, ln: &[f64], w: usize) -> f64
     requires { (k ≤ 12) × (d.classes ≤ 13) × (take (w + 1) ln.now ≡ ln_table w) }
     ensures { result ≡ f_of k d l }

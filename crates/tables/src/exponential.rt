@@ -4,6 +4,7 @@ ghost use Rattle.std.specs.Prelude.{◌≡◌};
 ghost use Rattle.tables.specs.Exp.{times, powi, exp_series, exp_neg};
 
 // x multiplied n times by b.
+#[tactic(auto, using(crate::proofs::Countdown::countdowns), unfolding(crate::specs::Exp::times))]
 fn times(n: usize, b: f64, x: f64) -> f64
     ensures { result ≡ times n b x }
 {
@@ -16,12 +17,14 @@ fn times(n: usize, b: f64, x: f64) -> f64
     y
 }
 
+#[tactic(auto, unfolding(crate::specs::Exp::powi))]
 pub fn powi(base: f64, n: usize) -> f64
     ensures { result ≡ powi base n }
 {
     times(n, base, 1.0)
 }
 
+#[tactic(auto, using(crate::proofs::Countdown::countdowns), unfolding(crate::specs::Exp::exp_series, crate::specs::Exp::exp_step))]
 fn series(v: f64) -> f64
     ensures { result ≡ exp_series v }
 {
@@ -35,6 +38,7 @@ fn series(v: f64) -> f64
 }
 
 // exp(-v).
+#[tactic(auto, using(crate::proofs::ExpLoop::exp_loop), unfolding(crate::specs::Exp::exp_neg))]
 pub fn exp_neg(v: f64) -> f64
     ensures { result ≡ exp_neg v }
 {

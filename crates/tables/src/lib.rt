@@ -1,6 +1,8 @@
 // The two tables of a run: ln n, and the score f that a window of each length has by chance.
 // Both follow the paper's formulas bit for bit.
 
+#![tactic(auto)]
+
 ghost use Rattle.std.specs.Prelude.{◌≡◌, ◌+◌, ◌≤◌, length, take};
 ghost use Rattle.buffers.specs.Fill.{put};
 ghost use Rattle.tables.specs.Density.{density};
@@ -14,7 +16,7 @@ mod logarithm;
 pub use background::classes;
 
 // The GC choice: the share of C and G among the letters, from which each k-mer's expected number follows.
-#[derive(Drop)]
+#[derive(Clone, Copy)]
 pub enum GcOption {
     Uniform,
     Fixed(f64),
@@ -23,7 +25,7 @@ pub enum GcOption {
 
 // Classes of k-mers: how much more often than 1 in 4^k a k-mer of the class is expected, and how
 // many k-mers the class has. Entries from `classes` on are 0.
-#[derive(Drop)]
+#[derive(Clone, Copy)]
 pub struct Density {
     pub ratio: [f64; 13],
     pub count: [f64; 13],
@@ -56,6 +58,7 @@ pub fn fill_f(f: &mut [f64], ln: &[f64], k: usize, w: usize, d: Density)
 }
 
 // Both tables, with the classes of a GC choice.
+#[tactic(auto, using(crate::proofs::Tables::filled))]
 pub fn fill_tables(ln: &mut [f64], f: &mut [f64], k: usize, w: usize, gc: GcOption, codes: &[u8])
     requires k_bound { (k ≤ 12) × (w ≤ 65535) }
     requires w_in_bounds { (w + 1 ≤ length ln.old) × (w + 2 ≤ length f.old) }

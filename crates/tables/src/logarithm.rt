@@ -6,6 +6,7 @@ ghost use Rattle.std.specs.Float.Ieee.{lt, minus, odd, of_int};
 ghost use Rattle.floats.specs.Binary64.{zero64};
 ghost use Rattle.tables.specs.Ln.{ln_series, ln_parts, ln_scaled, ln_of};
 
+#[tactic(auto, using(crate::proofs::Countdown::countdowns), unfolding(crate::specs::Ln::ln_series, crate::specs::Ln::ln_step))]
 fn series(q: f64) -> f64
     ensures { result ≡ ln_series q }
 {
@@ -19,6 +20,7 @@ fn series(q: f64) -> f64
 }
 
 // The float of a - b.
+#[tactic(auto, using(crate::proofs::Exponent::differences))]
 fn difference(a: u32, b: u32) -> f64
     ensures { result ≡ of_int binary64 (minus a b) }
 {
@@ -30,6 +32,7 @@ fn difference(a: u32, b: u32) -> f64
 }
 
 // ln of m * 2^(a - b), by m's distance from 1.
+#[tactic(auto, unfolding(crate::specs::Ln::ln_parts))]
 fn ln_parts(m: f64, a: u32, b: u32) -> f64
     ensures { result ≡ ln_parts m (minus a b) }
 {
@@ -38,6 +41,7 @@ fn ln_parts(m: f64, a: u32, b: u32) -> f64
 }
 
 // ln of m * 2^(a - b), for 1 <= m < 2.
+#[tactic(auto, using(crate::proofs::Exponent::raised), unfolding(crate::specs::Ln::ln_scaled))]
 fn ln_scaled(m: f64, a: u32, b: u32) -> f64
     requires { a < 4096 }
     ensures { result ≡ ln_scaled m (minus a b) }
@@ -61,8 +65,8 @@ fn ln_digits(q: u64, k: u32) -> f64
 
 // ln of the finite float above 0 with the bits b.
 fn ln_bits(b: u64) -> f64
-    requires fact_1 { T (lt zero64 (from_bits binary64 b)) }
-    requires fact_2 { T (lt (from_bits binary64 b) (inf false)) }
+    requires positive { T (lt zero64 (from_bits binary64 b)) }
+    requires finite { T (lt (from_bits binary64 b) (inf false)) }
     ensures { result ≡ ln_of (from_bits binary64 b) }
 {
     let field = ((b >> 52) & 0x7ff) as u32;

@@ -1,5 +1,7 @@
 // Joining tracks: the letters of our list and of another, in either, in both, or in ours and outside theirs.
 
+#![tactic(auto)]
+
 ghost use Rattle.std.specs.Prelude.{◌≡◌, true, cond, map, ◌+◌, ◌%◌, ◌≤◌, ◌<◌, length, drop, get_or};
 ghost use Rattle.buffers.specs.Fill.{put_at};
 ghost use Rattle.intervals.specs.Interval.{entries, list_of};
@@ -11,7 +13,7 @@ use checks::{below_sum, next_check, too_many_letters};
 use intervals::{is_usual, min_u32};
 
 // The letters that are wanted: in either list, in both, in ours and outside theirs.
-#[derive(Drop)]
+#[derive(Clone, Copy)]
 pub enum Joined {
     Either,
     Both,
@@ -94,6 +96,7 @@ struct Piece {
     next: Sweep,
 }
 
+#[tactic(auto, unfolding(crate::specs::Terms::Sweep::piece_at))]
 fn next_piece(ours: &[[u32; 2]], theirs: &[[u32; 2]], n: u32, sweep: Sweep) -> Piece
     ensures { result ≡ piece_at n (list_of ours.now) (list_of theirs.now) sweep }
 {

@@ -8,6 +8,7 @@ use crate::run::mask_encoded;
 use crate::{Answer, Lent, LongdustOptions};
 
 // Masks `sequence` by the tables `ln` and `f`. The intervals go to the front of `list`, their marks to that of `marks`; the answer has their count, or the refusal.
+#[tactic(auto, using(crate::proofs::PublicCalls::called))]
 pub fn process_tables(
     sequence: &[u8],
     options: LongdustOptions,

@@ -1,5 +1,5 @@
 -- Terms of contracts: what the newest entry leads to, as the code asks for it.
-use Rattle.std.specs.Prelude.{◌≡◌, ℕ, ◌-◌, Bool, false, cond, ◌&&◌, ◌||◌, List, get_or, leb, pos, ◌-ℤ◌, Float}
+use Rattle.std.specs.Prelude.{◌≡◌, ℕ, Bool, false, cond, ◌&&◌, ◌||◌, List, get_or, leb, pos, ◌-ℤ◌, Float}
 use Rattle.std.specs.Int.Signed.{le_z}
 use Rattle.std.specs.Float.{nan}
 use Rattle.std.specs.Float.Ieee.{lt}
@@ -11,7 +11,6 @@ use Rattle.scans.specs.Setup.{Setup}
 use Rattle.scans.specs.Terms.Numbers.{setup_of}
 use Rattle.scans.specs.Counts.{count, raise}
 use Rattle.scans.specs.Scans.{none, at, Outcome, extends, dust_backward}
-use Rattle.scans.specs.Terms.Window.{window}
 use Rattle.step.specs.Step.{Run, is_at, search}
 use Rattle.step.specs.declared.state.State.{State}
 use Rattle.step.specs.declared.state.Look.{Look}

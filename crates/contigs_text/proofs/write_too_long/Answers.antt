@@ -1,0 +1,5 @@
+use Rattle.report.proofs.Writing.{next}
+use Rattle.contigs_text.proofs.write_too_long.Goals as goal
+
+pub returns : goal.returns
+returns c = next c.requires c.write_bytes-at.ensures c.write_bytes.ensures

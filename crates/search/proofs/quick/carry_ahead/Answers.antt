@@ -1,0 +1,39 @@
+use mathlib.Core.Path.{sym, subst}
+use Prim.Native.Nat.{ℕ, ◌<◌, ◌≤◌}
+use native.Mathlib.Omega.{arith}
+use lib.ListN.{drop}
+use Rattle.scans.specs.Terms.Counted.{Counted}
+use Rattle.scans.specs.Terms.Window.{window}
+use Rattle.search.proofs.CarriedFind.{start_in, low_in, newest_in_lem, count_in, carries_ahead}
+use Rattle.search.proofs.quick.carry_ahead.Goals as goal
+use Rattle.search.proofs.quick.carry_ahead.Goals.{Else-carry-st}
+
+-- the best place lies in the window, and was read
+best-in : (c : Else-carry-st) → (c.args.start < c.args.len) × (c.args.st.low ≤ c.args.start)
+best-in c =
+    let p = c.args.p in
+    let ln = c.args.ln.now in
+    let f = c.args.f.now in
+    let n = c.requires.len_nonzero in
+    (start_in p _ _ _ ln f _ c.requires.ringed n.0 n.2 _ c.requires.scans_quick c.if-st.false c.if-found-eq0.false _ c.if-found-start.false, low_in p _ _ _ ln f _ c.requires.ringed n.0 n.2 _ c.requires.scans_quick c.if-st.false c.if-found-eq0.false _ c.if-found-start.false)
+
+pub uncount-requires-clause-from_le_to : goal.uncount-requires-clause-from_le_to
+uncount-requires-clause-from_le_to c = ((best-in (goal.at.uncount-requires-clause-from_le_to c).Else-carry-st).1, omega (arith, (best-in (goal.at.uncount-requires-clause-from_le_to c).Else-carry-st).0), subst (λ (m : ℕ). Counted m c.args.scan_counts.now (drop c.args.st.low (window c.args.queue.now c.args.head c.args.len))) (sym c.requires.len_nonzero.2) c.requires.scans_quick.here.counted)
+
+pub overflow_sub-len-2 : goal.overflow_sub-len-2
+overflow_sub-len-2 c = omega (arith, (best-in (goal.at.overflow_sub-len-2 c).Else-carry-st).0)
+
+pub ahead-requires : goal.ahead-requires
+ahead-requires c =
+    let p = c.args.p in
+    let ln = c.args.ln.now in
+    let f = c.args.f.now in
+    let n = c.requires.len_nonzero in
+    let entry = newest_in_lem p _ _ _ ln f _ c.requires.ringed n.0 n.2 _ c.requires.scans_quick c.if-st.false c.if-found-eq0.false _ c.if-found-start.false _ c.ring_index-at.ensures in
+    let counted = count_in p _ _ _ ln f _ c.requires.ringed n.0 n.2 _ c.requires.scans_quick c.if-st.false c.if-found-eq0.false _ c.if-found-start.false _ c.ring_index-at.ensures _ c.uncount.ensures in
+    (omega (arith, entry, c.uncount.auto.scan_counts), counted _, omega (arith, c.requires.ringed.queued.len_in, c.requires.ringed.f_long))
+
+pub returns : goal.returns
+returns c =
+    let n = c.requires.len_nonzero in
+    carries_ahead c.args.p _ _ _ c.args.ln.now c.args.f.now _ c.requires.ringed n.0 n.2 _ c.requires.scans_quick c.if-st.false c.if-found-eq0.false _ c.if-found-start.false _ c.ring_index-at.ensures _ c.uncount.ensures c.args.carry _ n.1 c.requires.carried c.if-carry-st.false c.ahead.ensures

@@ -1,0 +1,17 @@
+use native.Mathlib.Omega.{arith}
+use Rattle.short_sequences.proofs.Letters.{counting_ordered, counting_fits, counting_turn, counting_end}
+use Rattle.short_sequences.proofs.count_letters.Goals as goal
+
+pub overflow_sub-letters : goal.overflow_sub-letters
+overflow_sub-letters c = counting_ordered c.requires c.loop-i.invariant (omega arith)
+
+pub overflow_add-letters : goal.overflow_add-letters
+overflow_add-letters c =
+    let within = counting_fits c.requires c.loop-i.invariant (omega arith) in
+    record { fits = omega (arith, c.well_formed) }
+
+pub loop-i-preserved : goal.loop-i-preserved
+loop-i-preserved c = counting_turn c.requires c.loop-i.invariant (omega arith)
+
+pub returns : goal.returns
+returns c = counting_end c.loop-i.invariant (omega arith)

@@ -1,0 +1,34 @@
+use mathlib.Core.Path.{sym}
+use Prim.Native.Nat.{ℕ, ◌≤◌}
+use native.Mathlib.Omega.{arith}
+use lib.ListN.{length, length-take, length-replicate}
+use lib.Seq.{length-take-le}
+use Rattle.small.proofs.Profile.{kmer_fits, kmers_fit, letters_fit, twice}
+use Rattle.small.proofs.quiet.is_quiet.Goals as goal
+use Rattle.small.proofs.quiet.is_quiet.Goals.{After-encode_sequence, After-reverse_complement_encoded_sequence}
+
+-- `small::quiet::is_quiet` meets its contract: no k-mer of a strand that is scanned stands at min_start_cnt places.
+codes-fit : (c : After-encode_sequence) → length c.args.sequence.now ≤ length c.encode_sequence.new.encoded
+codes-fit c = omega (arith, letters_fit c.requires, c.encode_sequence.auto.encoded, length-replicate {A = ℕ} 4096 0)
+
+pub repeats-requires : goal.repeats-requires
+repeats-requires c =
+    let A = c.requires in
+    (kmer_fits A, kmers_fit A, omega (arith, letters_fit A, length-take (length c.args.sequence.now) c.encode_sequence.new.encoded), omega (arith, twice A))
+
+others-fit : (c : After-reverse_complement_encoded_sequence) → length c.args.sequence.now ≤ length c.reverse_complement_encoded_sequence.new.reversed
+others-fit c = omega (arith, letters_fit c.requires, c.reverse_complement_encoded_sequence.auto.reversed, length-replicate {A = ℕ} 4096 0)
+
+pub repeats-requires-2 : goal.repeats-requires-2
+repeats-requires-2 c =
+    let A = c.requires in
+    (kmer_fits A, kmers_fit A, omega (arith, letters_fit A, length-take (length c.args.sequence.now) c.reverse_complement_encoded_sequence.new.reversed), omega (arith, twice A))
+
+pub slice_bounds-repeats-end : goal.slice_bounds-repeats-end
+slice_bounds-repeats-end c = sym (length-take-le _ _ (codes-fit (goal.at.slice_bounds-repeats-end c).After-encode_sequence))
+
+pub slice_bounds-reverse_complement_encoded_sequence-end : goal.slice_bounds-reverse_complement_encoded_sequence-end
+slice_bounds-reverse_complement_encoded_sequence-end c = sym (length-take-le _ _ (codes-fit (goal.at.slice_bounds-reverse_complement_encoded_sequence-end c).After-encode_sequence))
+
+pub slice_bounds-repeats-end-2 : goal.slice_bounds-repeats-end-2
+slice_bounds-repeats-end-2 c = sym (length-take-le _ _ (others-fit (goal.at.slice_bounds-repeats-end-2 c).After-reverse_complement_encoded_sequence))

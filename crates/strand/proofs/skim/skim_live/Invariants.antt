@@ -1,0 +1,24 @@
+use mathlib.Core.Path.{◌≡◌}
+use mathlib.Core.List.{List}
+use Prim.Native.Nat.{ℕ, ◌-◌}
+use lib.ListN.{length}
+use lib.Ieee.{Float}
+use Rattle.scans.specs.declared.Params.{Params}
+use Rattle.step.specs.declared.state.State.{State}
+use Rattle.strand.specs.Terms.ReadingOn.{Read, Skims}
+use Rattle.strand.proofs.skim.skim_live.Given as goal
+
+-- How far the strand is read, and that every lent slice is as long as it was.
+pub record Around (p : Params) (codes : List ℕ) (ln f : List Float) (queue₀ window_counts₀ scan_counts₀ : List ℕ) (st₀ : State)
+    (queue window_counts scan_counts : List ℕ) (st : State) : Type 0 where
+  pub read : Read p codes ln f st queue window_counts scan_counts
+  pub skims : Skims p codes ln f st₀ st queue₀ scan_counts₀ queue scan_counts
+  pub same_queue : length queue ≡ length queue₀
+  pub same-window-counts : length window_counts ≡ length window_counts₀
+  pub same-scan-counts : length scan_counts ≡ length scan_counts₀
+
+abbrev pub invariant-loop-st : goal.invariant-loop-st
+invariant-loop-st l = Around l.p l.codes l.ln l.f l.initial.queue l.initial.window_counts l.initial.scan_counts l.initial.st l.queue l.window_counts l.scan_counts l.st
+
+abbrev pub decreases-loop-st : goal.decreases-loop-st
+decreases-loop-st l = length l.codes - l.st.i

@@ -1,0 +1,9 @@
+-- After the last letter the state's entry is the last place.
+use Rattle.std.proofs.Common.{arith}
+use Rattle.strongest.proofs.Backward.{last_place}
+use Rattle.strongest.proofs.places.last_entry.Goals as goal
+
+pub returns : goal.returns
+returns c =
+    let g = c.loop-i in
+    rw c.entry.ensures (last_place c.args.kmer c.args.letters.now g.i g.state g.invariant.0 (omega arith) (omega arith) g.invariant.1)
