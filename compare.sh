@@ -5,8 +5,8 @@
 set -euo pipefail
 cd "$(dirname "$0")"
 
-rt staticlib longdust_c
-rt check contigs
+(cd crates/longdust_c && rt lib)
+(cd crates/contigs && rt run < /dev/null)
 (cd compare && cargo build --release --offline)
 program=compare/target/release/compare
 example=$(mktemp)
@@ -55,7 +55,7 @@ seen_reverse=CCATACCATACCATAACTTTTCCATACCATACCATACCATAAACT
 # The same program, built with further options of the compiler.
 masks() {
   echo "== examples/mask.c $*"
-  cc -std=c99 -Wall -Wextra -Werror "$@" -Iinclude examples/mask.c -o "$example" target/staticlib/liblongdust_c.a
+  cc -std=c99 -Wall -Wextra -Werror "$@" -Iinclude examples/mask.c -o "$example" crates/longdust_c/out/liblongdust_c.a
   mask AAAAAAAAAAAAAAAAAAAA $'0 0\t20'
   mask 'AAAAA\nAAAAA\n' $'0 0\t10'
   mask 'AAAAA\r\nAAAAA\r\n' '1 refused 13'
@@ -83,7 +83,7 @@ masks -O1 -g -fsanitize=address,leak,undefined -fno-sanitize-recover
 # The small profile's example: probes in, the exit status and the lines that must come out.
 smalls() {
   echo "== examples/small.c $*"
-  cc -std=c99 -Wall -Wextra -Werror "$@" -Iinclude examples/small.c -o "$example" target/staticlib/liblongdust_c.a
+  cc -std=c99 -Wall -Wextra -Werror "$@" -Iinclude examples/small.c -o "$example" crates/longdust_c/out/liblongdust_c.a
   mask 'ACGATAAAAAAAAAAAAAAAAGC\n' '0 5-21'
   mask "${genes}ACACACACACACACACACACTTGCATTTTTTTTTTTTTTTT\n\n" $'1 48-89\nrefused 3'
   mask 'AC1TAC\nAAAAAAAAAAAAAAAA' $'1 refused 13\n0-16'
@@ -103,8 +103,8 @@ check "compare record" cmp <("$program" record) crates/replay/stdin
 
 echo "== the texts of crates/contigs and crates/contigs_cases"
 check "compare contigs text" cmp <("$program" contigs text crates/contigs/stdin) crates/contigs/stdout
-check "contigs: a directory as input" test "$(target/bin/contigs < . 2>&1)" = 'contigs: standard input: Is a directory'
-check "contigs: a full disk" test "$(printf '>a\nAAAAAAAAAAAA\n' | target/bin/contigs 2>&1 > /dev/full)" \
+check "contigs: a directory as input" test "$(crates/contigs/out/contigs < . 2>&1)" = 'contigs: standard input: Is a directory'
+check "contigs: a full disk" test "$(printf '>a\nAAAAAAAAAAAA\n' | crates/contigs/out/contigs 2>&1 > /dev/full)" \
   = 'contigs: standard output: No space left on device'
 check "compare contigs cases" cmp <("$program" contigs cases) crates/contigs_cases/stdout
 

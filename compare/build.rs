@@ -116,7 +116,7 @@ fn main() {
     let names: Vec<_> = WRONG.iter().map(|change| change.0).collect();
     list += &format!("every!({});\n", names.join(", "));
     write(&out.join("wrong.rs"), &list);
-    link(&root.join("target/staticlib"));
+    link(&root.join("crates/longdust_c/out"));
 }
 
 /// Links liblongdust_c.a where it has been made; `cfg(port)` says so to the program.

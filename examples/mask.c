@@ -3,8 +3,8 @@
  * --soft the contig itself, its masked letters in lower case, in lines of 60 letters.
  * Line ends (byte 10) are dropped; every other byte is a letter.
  *
- *   rt staticlib longdust_c
- *   cc -O2 -Iinclude examples/mask.c -o mask target/staticlib/liblongdust_c.a
+ *   (cd crates/longdust_c && rt lib)
+ *   cc -O2 -Iinclude examples/mask.c -o mask crates/longdust_c/out/liblongdust_c.a
  *   printf AAAAAAAAAAAAAAAAAAAA | ./mask
  *   printf AAAAAAAAAAAAAAAAAAAA | ./mask --marks
  *   printf CGCGATAAAAAAAAAAAAAAAA | ./mask --soft

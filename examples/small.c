@@ -1,8 +1,8 @@
 /* Probes on standard input, one a line; for each a line with its masked intervals, start-end, counted from 0,
  * the end not included: the small profile in a page. k = 6, w = 200, the other options as usual.
  *
- *   rt staticlib longdust_c
- *   cc -O2 -Iinclude examples/small.c -o small target/staticlib/liblongdust_c.a
+ *   (cd crates/longdust_c && rt lib)
+ *   cc -O2 -Iinclude examples/small.c -o small crates/longdust_c/out/liblongdust_c.a
  *   printf 'ACGATAAAAAAAAAAAAAAAAGC\n' | ./small
  *
  * The exit status is 0, or 1 if a probe is refused or longer than 4,096 letters, or 2 if reading or writing failed.

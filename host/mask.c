@@ -1,9 +1,9 @@
 /* Two calls for one record give the mask of one call on both strands. That mask is, by definition, the forward
- * strand's list merged with the list of the reverse complement read backwards (`maskOf` in
- * crates/longdust/specs/Mask.antt); a forward-only call answers the forward list of the letters that it is given,
+ * strand's list merged with the list of the reverse complement read backwards (`mask_of` in
+ * crates/mask/specs/Mask.antt); a forward-only call answers the forward list of the letters that it is given,
  * and the letters that `reverse_complement` makes have the codes of the reverse complement. The proved joining
  * (`longdust_join_tracks`, letters in either) answers a list of the usual kind that covers the letters of both; the
- * mask is such a list too, and two lists of the usual kind that cover the same letters are equal (`canonical-unique`
+ * mask is such a list too, and two lists of the usual kind that cover the same letters are equal (`canonical_unique`
  * in crates/intervals/proofs/Theorems.antt). The forward mark of an interval says that one of the forward list
  * lies in it; the joining sets it where one of them shares a letter with it, which is the same, since the interval
  * holds all letters of both lists that touch it. Likewise the reverse mark, with the strands exchanged. */

@@ -4,7 +4,7 @@
  * longdust_strongest_stretch, which finds the best-scoring stretch at a letter, longdust_small, which masks short
  * sequences in work space of its own, and longdust_short_sequences, which masks every short sequence.
  *
- * Link target/staticlib/liblongdust_c.a, which `rt staticlib longdust_c` makes for x86-64. No
+ * Link crates/longdust_c/out/liblongdust_c.a, which `rt lib` in crates/longdust_c makes for x86-64. No
  * call allocates, keeps state or reads anything but its arguments, so threads may call at once, each
  * with its own buffers. A call takes less than 16 KB of stack, longdust_small 230 KB.
  *

@@ -187,7 +187,7 @@ fn short_port() -> short::Port {
 }
 
 #[cfg(not(port))]
-const WITHOUT_PORT: &str = "built without the port: run `rt staticlib longdust_c`, then build this program again";
+const WITHOUT_PORT: &str = "built without the port: run `rt lib` in crates/longdust_c, then build this program again";
 
 fn number(word: &str) -> u64 {
     word.parse().unwrap_or_else(|_| stop(USAGE))
