@@ -1,4 +1,4 @@
--- Tables in range: a start that is certain is what the backward scan finds, with the counts of the places from there on (`certain-find`, `certain-counted`; from facts in naturals `units_find`).
+-- Tables in range: a start that is certain is what the backward scan finds, with the counts of the places from there on (`units_find`, from facts in naturals).
 -- Each comparison of the scans is settled by exact scores that are apart by 2^-12, the floats being off by less than 2^-16.
 use mathlib.Core.Path.{◌≡◌, sym, ap, ◌∙◌, subst}
 use Prim.Native.Nat.{ℕ, ◌+◌, ◌*◌, ◌-◌, ◌^◌, ◌≤◌, ◌<◌}

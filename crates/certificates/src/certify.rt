@@ -165,7 +165,7 @@ impl Middle {
     }
 }
 
-#[derive(Drop)]
+#[derive(Clone, Copy)]
 struct Newer {
     reading: Reading,
     middle: Middle,
@@ -214,7 +214,7 @@ fn read_newer(
 }
 
 // The entries from `at` on are read: the sum, what the start scores at least above each of those older than it, and whether no older one matters.
-#[derive(Drop)]
+#[derive(Clone, Copy)]
 struct Older {
     at: usize,
     s: f64,
@@ -275,7 +275,7 @@ fn read_older(
 }
 
 // A certificate that is made, or none, and the oldest entry that is counted.
-#[derive(Drop)]
+#[derive(Clone, Copy)]
 struct Attempt {
     certificate: Certificate,
     at: usize,

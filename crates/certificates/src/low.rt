@@ -52,7 +52,7 @@ impl LowStarts {
 }
 
 // Low starts, or none, and the oldest entry that is counted.
-#[derive(Drop)]
+#[derive(Clone, Copy)]
 struct LowRead {
     low: LowStarts,
     at: usize,
@@ -136,7 +136,7 @@ pub fn find_low(
 }
 
 // Whether nothing is found, and the oldest entry that is counted.
-#[derive(Drop)]
+#[derive(Clone, Copy)]
 struct NearRead {
     told: bool,
     at: usize,

@@ -22,5 +22,5 @@ module _ (test : ℕ → Bool) (s : List ℕ) (i : ℕ) (a : Bool) where
   unfolding any_byte
   any_end h = ap (λ (l : List ℕ). a || any_byte test l) (drop_of_length-le s h) ∙ or-false a
 
--- for `using`
+-- The laws by which `find_bytes` is proved.
 pub ruleset of_bytes = (any_more, any_end)

@@ -36,7 +36,7 @@ pub fn kmer_outside(k: usize) -> bool
 }
 
 // Whether a sequence has a byte of 128 or more, and whether it has one below 128 that is not accepted.
-#[derive(Drop)]
+#[derive(Clone, Copy)]
 pub struct BytesFound {
     pub high: bool,
     pub other: bool,

@@ -23,7 +23,7 @@ pub const LIST_ROOM: usize = 4096;
 pub const TEXT_ROOM: usize = 49167;
 
 // What a run answers: the refusal number, 0 for an accepted contig, and the interval count.
-#[derive(Drop)]
+#[derive(Clone, Copy)]
 pub struct Outcome {
     pub refusal: u32,
     pub count: usize,

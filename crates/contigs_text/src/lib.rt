@@ -26,7 +26,7 @@ const LINE_ROOM: usize = 65560;
 pub const TEXT_ROOM: usize = 131120;
 
 // Where the writer stands: at a line of a record, whose intervals are in the list, and before the records after it.
-#[derive(Drop)]
+#[derive(Clone, Copy)]
 pub struct Place {
     pub name: Part,
     pub line: usize,
@@ -35,7 +35,7 @@ pub struct Place {
 }
 
 // Where the writer stands after a part, up to which index of the text the part goes, and whether more can follow.
-#[derive(Drop)]
+#[derive(Clone, Copy)]
 pub struct Filled {
     pub place: Place,
     pub end: usize,
@@ -43,7 +43,7 @@ pub struct Filled {
 }
 
 // A record's refusal was written, up to `end`, or its intervals are in the list.
-#[derive(Drop)]
+#[derive(Clone, Copy)]
 pub struct Opened {
     pub end: usize,
     pub count: usize,

@@ -18,7 +18,7 @@ pub struct Cursor {
     pub at: usize,
 }
 
-#[derive(Drop)]
+#[derive(Clone, Copy)]
 pub enum Step {
     // The next record: where its name and its lines stand, and the cursor after it.
     Found {

@@ -11,16 +11,16 @@ use borrow.Author.Tests.{leb-true, ltb-true, le-leb, lt-leb, lt-ltb}
 use Rattle.intervals.specs.Interval.{Interval, interval, Holds, Covers, covered, covered_in}
 use Rattle.intervals.proofs.Order.{lt_or_le}
 
-not-true : false ≡ true → ⊥
-not-true h = let z : ◌≡◌ {A = ℕ} 0 1 = cc in omega arith
+not_true : false ≡ true → ⊥
+not_true h = let z : ◌≡◌ {A = ℕ} 0 1 = cc in omega arith
 
 pub or_agrees : (a b : Bool) {P Q : Type 0} → ((a ≡ true) ↔ P) → ((b ≡ true) ↔ Q) → ((a || b) ≡ true) ↔ (P ⊎ Q)
 or_agrees true b p q = ((λ h. inl (p.0 refl)), (λ h. refl))
-or_agrees false b p q = ((λ h. inr (q.0 h)), (λ h. ⊎_elim (λ c. absurd (not-true (p.1 c))) (λ c. q.1 c) h))
+or_agrees false b p q = ((λ h. inr (q.0 h)), (λ h. ⊎_elim (λ c. absurd (not_true (p.1 c))) (λ c. q.1 c) h))
 
 pub and_agrees : (a b : Bool) {P Q : Type 0} → ((a ≡ true) ↔ P) → ((b ≡ true) ↔ Q) → ((a && b) ≡ true) ↔ (P × Q)
 and_agrees true b p q = ((λ h. (p.0 refl, q.0 h)), (λ h. q.1 h.1))
-and_agrees false b p q = ((λ h. absurd (not-true h)), (λ h. p.1 h.0))
+and_agrees false b p q = ((λ h. absurd (not_true h)), (λ h. p.1 h.0))
 
 pub leb_agrees : (a b : ℕ) → (leb a b ≡ true) ↔ (a ≤ b)
 leb_agrees a b = ((λ h. leb-true a b h), (λ h. le-leb a b h))
@@ -30,7 +30,7 @@ ltb_agrees a b = ((λ h. ltb-true a b h), (λ h. lt-ltb a b h))
 
 pub covered_agrees : (is : List Interval) (x : ℕ) → (covered is x ≡ true) ↔ Covers is x
 unfolding covered
-covered_agrees [] x = ((λ h. absurd (not-true h)), (λ h. absurd h))
+covered_agrees [] x = ((λ h. absurd (not_true h)), (λ h. absurd h))
 covered_agrees (i ∷ is) x =
     or_agrees (leb i.start x && ltb x i.end) (covered is x)
     (and_agrees (leb i.start x) (ltb x i.end) (leb_agrees i.start x) (ltb_agrees x i.end))
@@ -84,7 +84,7 @@ module _ (is : List Interval) (a : ℕ) where
       (λ le.
       let e = covered_more b le in
       let t : covered is b ≡ false =
-      same_test (covered is b) false (λ h. absurd (c b le (omega arith) ((covered_agrees is b).0 h))) (λ h. absurd (not-true h)) in
+      same_test (covered is b) false (λ h. absurd (c b le (omega arith) ((covered_agrees is b).0 h))) (λ h. absurd (not_true h)) in
       let ih = covered_none b (λ x l m. c x l (omega arith)) in
       rw (e, t, ih))
       (lt_or_le b a)

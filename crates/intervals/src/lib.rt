@@ -85,7 +85,7 @@ pub fn save_interval(list: &mut [[u32; 2]], count: usize, start: u32, end: u32) 
 }
 
 // An interval with its marks: whether an interval of the forward list, and one of the reverse list, joined into it.
-#[derive(Drop)]
+#[derive(Clone, Copy)]
 pub struct Marked {
     pub start: u32,
     pub end: u32,
@@ -137,7 +137,7 @@ fn push_nonempty(list: &mut [[u32; 2]], marks: &mut [u8], count: usize, part: Ma
 }
 
 // The interval that a merge takes next. Then the forward list remains from `forward` on, and of the reverse list the first `reverse`.
-#[derive(Drop)]
+#[derive(Clone, Copy)]
 struct Picked {
     part: Marked,
     forward: usize,

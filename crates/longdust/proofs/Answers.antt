@@ -78,10 +78,10 @@ module _ (o : LongdustOptions) (cs : List ℕ) (m : ℕ) (b : Buffers) (a : Admi
             let R = (n + 1) / (o.kmer + 1) in
             let S = setup o (ln_read o b) (f_read o b) in
             let n_is : n ≡ length s = ap (λ (z : List ℕ). length z) c ∙ codes_length s in
-            let R-is : R ≡ list_size o s = ap (λ (z : ℕ). (z + 1) / (o.kmer + 1)) n_is in
+            let R_is : R ≡ list_size o s = ap (λ (z : ℕ). (z + 1) / (o.kmer + 1)) n_is in
             let ms : marked_mask_of (setup_of p (ln_read o b) (f_read o b)) o.forward_only cs ≡ marked_mask o s (ln_read o b) (f_read o b) =
             ap₂ (λ (z : Setup) (x : List ℕ). marked_mask_of z o.forward_only x) q.setup_is c in
-            let R-codes : R ≡ (length (codes s) + 1) / (o.kmer + 1) = ap (λ (z : List ℕ). (length z + 1) / (o.kmer + 1)) c in
+            let R_codes : R ≡ (length (codes s) + 1) / (o.kmer + 1) = ap (λ (z : List ℕ). (length z + 1) / (o.kmer + 1)) c in
             let room : length (mask o s (ln_read o b) (f_read o b)) ≤ (length (codes s) + 1) / (o.kmer + 1) =
             mask_room S o.forward_only (codes s) a.bounds.kmer_low in
             let all = marked_mask o s (ln_read o b) (f_read o b) in
@@ -90,12 +90,12 @@ module _ (o : LongdustOptions) (cs : List ℕ) (m : ℕ) (b : Buffers) (a : Admi
             let ranges_are : ranges all ≡ mask o s (ln_read o b) (f_read o b) = mask_ranges S o.forward_only (codes s) in
             let list = subst (λ (is : List Interval). Wrote is (take R b.list) y.list count) ranges_are held.list in
             let few : length (marks_of all) ≤ R =
-            omega (arith, length-map all mark_of, length-map all range, ap (λ (is : List Interval). length is) ranges_are, room, R-codes) in
+            omega (arith, length-map all mark_of, length-map all range, ap (λ (is : List Interval). length is) ranges_are, room, R_codes) in
             let free = whole o n m b a e y t in
             subst (λ (z : Answer). Accepted o s b after z) (sym answer)
             (accepted_by o s b after (accepted count flag) a.bounds (omega (arith, a.letters_high, n_is)) q.floats f
             (record {
-              list = wrote_part R list (omega (arith, room, R-codes)) a.enough.list;
+              list = wrote_part R list (omega (arith, room, R_codes)) a.enough.list;
               marks = ap (λ (z : List ℕ). z ++ drop R b.marks) held.marks_are ∙ put_part R (marks_of all) b.marks few a.enough.marks;
               queue = free.queue;
               window_counts = free.window_counts;
@@ -103,7 +103,7 @@ module _ (o : LongdustOptions) (cs : List ℕ) (m : ℕ) (b : Buffers) (a : Admi
               candidates = free.candidates;
               codes = record { long = refl; past = refl };
               reverse_codes = free_at n (length s) _ _ n_is free.reverse_codes;
-              forward_list = free_at R (list_size o s) _ _ R-is free.forward_list;
-              reverse_list = free_at R (list_size o s) _ _ R-is free.reverse_list;
+              forward_list = free_at R (list_size o s) _ _ R_is free.forward_list;
+              reverse_list = free_at R (list_size o s) _ _ R_is free.reverse_list;
             }));
       }

@@ -151,5 +151,5 @@ fill_answered o s b b' r ln f cs z t p q c a =
       tables = λ h. let k = a.tables h in record { ln = k.ln ∙ t.ln; f = k.f ∙ t.f };
     }
 
--- What tells of a call that is not refused.
+-- The laws by which `process_tables` is proved.
 pub ruleset called = (admitted, encoded, encoded_length, encoded_free, admitted_as, run_answered)

@@ -48,7 +48,7 @@ impl LongdustOptions {
 }
 
 // The refusal number, 0 for an accepted request, the interval count and the flag.
-#[derive(Drop)]
+#[derive(Clone, Copy)]
 pub struct Answer {
     pub refusal: u32,
     pub count: usize,
@@ -56,7 +56,7 @@ pub struct Answer {
 }
 
 // How many entries each lent buffer has.
-#[derive(Drop)]
+#[derive(Clone, Copy)]
 pub struct Lent {
     pub ln: usize,
     pub f: usize,

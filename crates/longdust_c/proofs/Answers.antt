@@ -35,8 +35,8 @@ module _ {Tables : LongdustOptions → List ℕ → Buffers → Buffers → Type
       go (suc n) e = omega (arith, (r.refused (omega arith)).count)
 
   -- The number comes back through the machine's bits.
-  pub exported : {o' : LongdustOptions} {z : ℤ} {in_range_lem : ℕ} → o ≡ o' → SFits w64 z → z ≡ count_or a.refusal a.count → in_range_lem ≡ flag a.in_range
-      → Exported Tables o' s b b' (to_z w64 (of_z w64 z)) in_range_lem
+  pub exported : {o' : LongdustOptions} {z : ℤ} {in_range : ℕ} → o ≡ o' → SFits w64 z → z ≡ count_or a.refusal a.count → in_range ≡ flag a.in_range
+      → Exported Tables o' s b b' (to_z w64 (of_z w64 z)) in_range
   exported {o'} {z} e h c f =
       record {
         answer = a;

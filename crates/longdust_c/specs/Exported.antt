@@ -8,8 +8,8 @@ use Rattle.longdust.specs.Call.{Answered}
 
 -- The number that a call returns and its flag are those of its answer, and the answer is that of the call of crate longdust.
 pub record Exported (Tables : LongdustOptions → List ℕ → Buffers → Buffers → Type 0) (o : LongdustOptions) (s : List ℕ) (b b' : Buffers)
-    (result : ℤ) (in_range_lem : ℕ) : Type 0 where
+    (result : ℤ) (in_range : ℕ) : Type 0 where
   pub answer : Answer
   pub answered : Answered Tables o s b b' answer
   pub result_is : result ≡ count_or answer.refusal answer.count
-  pub flag_is : in_range_lem ≡ flag answer.in_range
+  pub flag_is : in_range ≡ flag answer.in_range

@@ -17,7 +17,7 @@ pub enum Masking {
 }
 
 // The refusal number and 0, or 0 and the number of bytes copied.
-#[derive(Drop)]
+#[derive(Clone, Copy)]
 pub struct Copied {
     pub refusal: u32,
     pub count: usize,

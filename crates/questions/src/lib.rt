@@ -19,7 +19,7 @@ use intervals::{is_usual, max_u32, min_u32};
 const NONE: u32 = 4294967295;
 
 // What a batch is answered with: the refusal (0: none) and how many questions were answered.
-#[derive(Drop)]
+#[derive(Clone, Copy)]
 pub struct Answered {
     pub refusal: u32,
     pub count: usize,
@@ -140,7 +140,7 @@ fn letters_inside(a: u32, b: u32, start: u32, end: u32) -> u32
 }
 
 // The covered letters of a range, and the first interval whose end lies past the range's.
-#[derive(Drop)]
+#[derive(Clone, Copy)]
 struct Walked {
     letters: u32,
     next: usize,

@@ -8,7 +8,7 @@ use crate::words::Cursor;
 use longdust::Answer;
 
 // Whether the answer is the recorded one, and the place after the record.
-#[derive(Drop)]
+#[derive(Clone, Copy)]
 pub struct Compared {
     pub same: bool,
     pub cursor: Cursor,

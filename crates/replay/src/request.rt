@@ -12,7 +12,7 @@ use scans::Xdrop;
 use tables::GcOption;
 
 // What stands before the tables and the letters: `short` is the number of the short slice, `lent` whether tables are lent.
-#[derive(Drop)]
+#[derive(Clone, Copy)]
 pub struct Request {
     pub options: LongdustOptions,
     pub short: u64,

@@ -14,7 +14,7 @@ use scans::{BackwardState, ForwardPosition, Params, backward_on, clear_from, dus
 
 // What a search for candidates answers: how many it noted, the oldest entry that its scan read,
 // and the places of the oldest and the newest candidate where there is one.
-#[derive(Drop)]
+#[derive(Clone, Copy)]
 pub struct Searched {
     pub noted: usize,
     pub low: usize,
@@ -24,7 +24,7 @@ pub struct Searched {
 
 // The search for candidates: the backward scan, how many candidates it has noted, the last of them,
 // whether that one is still to be put to the others, and whether there may be more.
-#[derive(Drop)]
+#[derive(Clone, Copy)]
 struct Search {
     scan: BackwardState,
     noted: usize,
@@ -193,7 +193,7 @@ fn max(a: usize, b: usize) -> usize
 }
 
 // How many candidates are left to try, one past the furthest forward best so far, and the find.
-#[derive(Drop)]
+#[derive(Clone, Copy)]
 struct Trial {
     left: usize,
     furthest: usize,

@@ -47,14 +47,14 @@ pub struct Certificate {
 }
 
 // One past the index found, 0 for none, and the scan that is carried on.
-#[derive(Drop)]
+#[derive(Clone, Copy)]
 pub struct Scanned {
     pub found: usize,
     pub carry: Carry,
 }
 
 // The same, and how many entries the search has read where it noted no candidate, else 0.
-#[derive(Drop)]
+#[derive(Clone, Copy)]
 pub struct Answered {
     pub scanned: Scanned,
     pub read: usize,

@@ -119,5 +119,5 @@ module _ {s : List ℕ} {xs xs' : List (List ℕ)} {r : Masked} (run : Ran s xs 
       (ap (λ (n : ℕ). not (eqb n 0)) run.number)
       (e ∙ ap (λ (is : List Interval). covered_in is 0 (length s)) (wrote_list run.list) ∙ letters_are (refusal_of s))
 
--- for `using`
+-- The laws by which `run_letters` is proved.
 pub ruleset runs = (list_usual, outcome_is)

@@ -87,5 +87,5 @@ none_twice (suc m) i j h k e =
     let r : i % 5 ^ m ≡ j % 5 ^ m = none_twice m _ _ (rest_small m i h) (rest_small m j k) (tail-eq_of_cons-eq both) in
     sym (div-add-mod' i (5 ^ m)) ∙ ap₂ (λ (a b : ℕ). a * 5 ^ m + b) q r ∙ div-add-mod' j (5 ^ m)
 
--- for `using`
+-- The laws by which `count_sequences` is proved.
 pub ruleset few = (few_sequences)

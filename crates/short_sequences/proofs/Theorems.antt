@@ -46,15 +46,15 @@ module _ (s : List ℕ) {b b' : Buffers} {r : Answer} (A : Answered Filled short
       (ap (λ (l : List Float). take 10 l) t.f ∙ take_at (f_table 1 8 D) _ 10 (f_table_length 1 8 D))
 
 -- No byte of a sequence over the five letters is refused.
-or-false : (a b : Bool) → (a || b) ≡ false → (a ≡ false) × (b ≡ false)
-or-false true b e = absurd (true≢false e)
-or-false false b e = (refl, e)
+or_false : (a b : Bool) → (a || b) ≡ false → (a ≡ false) × (b ≡ false)
+or_false true b e = absurd (true≢false e)
+or_false false b e = (refl, e)
 
 passed : (test : ℕ → Bool) (xs : List ℕ) → any_byte test xs ≡ false → (x : ℕ) → Memᴰ x xs → test x ≡ false
 unfolding any_byte
 passed test [] e x h = absurd (Memᴰ.not-nil h)
 passed test (y ∷ xs) e x h =
-    let both = or-false (test y) (any_byte test xs) e in
+    let both = or_false (test y) (any_byte test xs) e in
     ⊎_elim (λ (q : x ≡ y). ap test q ∙ both.0) (λ (m : Memᴰ x xs). passed test xs both.1 x m) (Memᴰ.cases_cons h)
 
 none_passes : (test : ℕ → Bool) → any_byte test five_letters ≡ false → (s : List ℕ) → OverFive s → any_byte test s ≡ false

@@ -23,7 +23,7 @@ const F_ROOM: usize = 10;
 const LIST_ROOM: usize = 4;
 
 // The refusal number and zeros, or 0, how many sequences there are, and how many of them are refused.
-#[derive(Drop)]
+#[derive(Clone, Copy)]
 pub struct Tallied {
     pub refusal: u32,
     pub sequences: usize,
@@ -31,14 +31,14 @@ pub struct Tallied {
 }
 
 // What a run answers: the refusal number, 0 for an accepted sequence, and the interval count.
-#[derive(Drop)]
+#[derive(Clone, Copy)]
 pub struct Masked {
     pub refusal: u32,
     pub count: usize,
 }
 
 // What a run comes to: refused, or so many masked letters.
-#[derive(Drop)]
+#[derive(Clone, Copy)]
 struct Outcome {
     refused: bool,
     letters: usize,

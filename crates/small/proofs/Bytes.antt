@@ -81,5 +81,5 @@ module _ {ps : List (List ℕ)} {d : List ℕ} where
   writing_end {i} a h =
       a.now ∙ ap (λ (is : List Interval). put (bytes_of is) d) (take_all i (list_of ps) (omega (arith, length_list ps)))
 
--- for `using`
+-- The laws by which `write_number`, `write_list` are proved.
 pub ruleset bytes = (four_stored, writing_start, writing_turn)

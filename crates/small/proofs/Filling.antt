@@ -109,5 +109,5 @@ module _ {o : LongdustOptions} {s : List ℕ} (a : Asked o s) where
   whole_serves filled =
       serve w (omega arith) filled (omega arith) (max_test_agree w t (ln_read_lem w (omega arith) filled) (f_read_lem w (omega arith) filled))
 
--- for `using`
+-- The laws by which `fill_read` is proved.
 pub ruleset filled = (kmer_fits, window_fits, decided_serves, whole_serves)

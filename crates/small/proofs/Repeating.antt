@@ -150,7 +150,8 @@ pub none_written : (is : List Interval) (d : List ℕ) → is ≡ [] → (0 ≡ 
 unfolding bytes_of
 none_written is d e = rw e (refl, refl)
 
--- for `using`
+-- The laws by which `raise_count` is proved.
 pub ruleset raising = (even_plain, odd_ambiguous, raised)
 
+-- The laws by which `is_quiet` is proved.
 pub ruleset quiet = (kmer_fits, kmers_fit, letters_fit, twice, forward_few, reverse_few, quiet_mask)

@@ -31,7 +31,7 @@ pub const MOST_LETTERS: usize = 4096;
 const LIST_ROOM: usize = 2048;
 
 // The refusal number and 0, or 0 and how many intervals were written.
-#[derive(Drop)]
+#[derive(Clone, Copy)]
 pub struct Written {
     pub refusal: u32,
     pub count: usize,

@@ -79,5 +79,5 @@ module _ {k i len r : ℕ} {o : Open} {saved : List Interval} where
         saved_is = z ∙ rw (e₂, e);
       })
 
--- What tells of an interval in hand that is saved.
+-- The laws by which `close` is proved.
 pub ruleset closed = (saved_list, lt_back, zero_fits, save_back)

@@ -134,7 +134,7 @@ module _ {S : Setup} {w w' : Window} {x : Outcome} {r : Sought} (ring : List ℕ
       (subst (λ (z : Run). Like (i + 1) (found_by S i a counts' find) z) then
       (like_found S i a counts' x r.found ended t.find_is t.counts_are))
 
--- Letter a .i has entered and is settled: the state a' before the next letter.
+-- Letter a.i has entered and is settled: the state a' before the next letter.
 pub record Settled (p : Params) (ln f : List Float) (a a' : State) (ring window_counts counts : List ℕ) (saved : List Interval) (counts' : List ℕ) (saved' : List Interval) : Type 0 where
   pub kmer_is : a'.kmer ≡ a.kmer
   pub i_is : a'.i ≡ a.i + 1

@@ -204,7 +204,7 @@ module _ {p : Params} {ln : List Float} {a b : Window} {ring counts scan_counts 
       → counts' ≡ lower counts (decode (get_or ring a.head 0)) → scan_counts' ≡ counts_less (ends a.live a.last_q) scan_counts (decode (get_or ring a.head 0))
       → Left p ln a (record { sum = b.sum; last_q = last; head = head; len = b.len - 1; live = b.live; carry = b.carry }) ring scan_counts counts' scan_counts'
   unfolding leave
-  left w full b_is sum_is_lem last_is head_is counts_is scan_is =
+  left w full b_is sum_is last_is head_is counts_is scan_is =
       let q = window ring a.head a.len in
       rw b_is
       (record {
@@ -212,7 +212,7 @@ module _ {p : Params} {ln : List Float} {a b : Window} {ring counts scan_counts 
             rw (head_is, scan_is)
             (known_oldest (subst (λ (z : List Place). Below (4 ^ p.kmer) z) (left_window w full) (window_below_lem w)) (omega (arith, ap length (left_window w full), long w, w.len_in)) (subst (λ (z : List Place). KnownCounts (setup_of p ln f) z a scan_counts) (left_window w full) k) last_is refl refl);
         run_is = λ f o saved k.
-            rw (le-leb p.window_size (length q) (omega (arith, long w)), head_is, last_is, scan_is ∙ known_less (decode (get_or ring a.head 0)) k, sum_is_lem)
+            rw (le-leb p.window_size (length q) (omega (arith, long w)), head_is, last_is, scan_is ∙ known_less (decode (get_or ring a.head 0)) k, sum_is)
             (rw (less_is (setup_of p ln f) counts q w.counted a.sum (decode (get_or ring a.head 0)))
             (ap (λ (z : List Place). without_oldest (setup_of p ln f) (held_by a o ring scan_counts saved) z) (sym (left_window w full))));
         windowed = rw (head_is, counts_is) (left_windowed w full);
@@ -239,14 +239,14 @@ module _ {p : Params} {ln : List Float} {a : Window} {ring counts counts' : List
       → i ≡ ring_index p.window_size a.head a.len → sum ≡ sum_more ln counts' a.sum (decode e) → counts' ≡ raise counts (decode e)
       → Joined p ln a (record { sum = sum; last_q = a.last_q; head = a.head; len = a.len + 1; live = a.live; carry = a.carry }) e ring (set ring i e) counts'
   unfolding join
-  joined w room below i_is sum_is_lem counts_is =
+  joined w room below i_is sum_is counts_is =
       let q = window ring a.head a.len ++ decode e ∷ [] in
       record {
         known = λ f scan_counts k.
             rw i_is
             (known_same (subst (λ (z : List Place). KnownCounts (setup_of p ln f) z a scan_counts) (sym (joined_before w room e below)) k) refl refl refl);
         run_is = λ f o scan_counts saved.
-            rw (i_is, joined_window w room e below, sum_is_lem, counts_is)
+            rw (i_is, joined_window w room e below, sum_is, counts_is)
             (rw (more_is (setup_of p ln f) (raise counts (decode e)) q (joined_counted w room e below).counted a.sum (decode e)));
         newest = rw i_is (joined_window w room e below ∙ ap (λ (z : List Place). z ++ decode e ∷ []) (sym (joined_before w room e below)));
         windowed = rw (i_is, counts_is) (joined_windowed w room e below);
@@ -254,5 +254,5 @@ module _ {p : Params} {ln : List Float} {a : Window} {ring counts counts' : List
         live_is = refl;
       }
 
--- What tells of an entry by its lowest bit.
+-- The laws by which `sum_without`, `sum_with`, `is_searched` are proved.
 pub ruleset by_lowest_bit = (even_plain, odd_ambiguous, more_plain)

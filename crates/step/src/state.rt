@@ -25,7 +25,7 @@ pub struct State {
 }
 
 // What a letter leads to: nothing more, a find by extension, or the backward scan.
-#[derive(Drop)]
+#[derive(Clone, Copy)]
 pub enum Look {
     Pass,
     Extension,

@@ -132,7 +132,7 @@ fn certain(
 }
 
 // The answer of a backward scan, if it is `told` without the scan.
-#[derive(Drop)]
+#[derive(Clone, Copy)]
 pub struct Foretold {
     pub told: bool,
     pub scanned: search::Scanned,

@@ -130,7 +130,8 @@ module _ (k : ℕ) (s : List ℕ) (b steps m from : ℕ) (inside : b < length s)
       ap₂ (λ (x : Place) (q : List Place). x ∷ q) (back_at l (omega arith)) (back_stretch l (omega arith) ∙ ap (λ (n : ℕ). take l (drop n (places k s))) (sym next))
       ∙ sym (ap (λ (n : ℕ). take (suc l) (drop n (places k s))) same ∙ ap (λ (q : List Place). take (suc l) q) (places_drop k s p (omega arith)))
 
--- for `using`
+-- The laws by which `last_entry` is proved.
 pub ruleset rolling = (kmer_none, kmer_next, run_few, value_small, last_place)
 
+-- The laws by which `entry_back` is proved.
 pub ruleset slices = (slice_length, slice_place)

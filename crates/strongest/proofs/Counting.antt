@@ -103,9 +103,11 @@ module _ (k : ℕ) (cs : List ℕ) where
           value_small = small e refl;
         })
 
--- for `using`
+-- The laws by which `clear_entry`, `count_entry` are proved.
 pub ruleset entries = (even, even_plain, odd_ambiguous)
 
+-- The laws by which `clear_counts` is proved.
 pub ruleset clearing = (cleared_none, cleared_more, cleared_known)
 
+-- The laws by which `count_back` is proved.
 pub ruleset counting = (room, counted)

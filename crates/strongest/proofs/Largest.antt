@@ -41,5 +41,5 @@ module _ (table : List ℕ) where
       (λ l. largest_past v w h (omega arith) ∙ sym (ap (λ (x : ℕ). max (largest table w) x) (get_or-eq_default table 0 (omega arith)) ∙ max-zero (largest table w)))
       (eq-or-lt_of_le k)
 
--- for `using`
+-- The laws by which `largest` is proved.
 pub ruleset largest_of = (largest_none, largest_next, largest_past)

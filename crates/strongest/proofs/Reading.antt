@@ -129,5 +129,5 @@ module _ (k t : ℕ) (ln f cs : List ℕ) where
       let same : n ≡ suc l = omega arith in
       subst (λ (m : ℕ). Reads k t ln f cs m (judged r m v loss)) (sym same) (next l v loss r R more small (is ∙ ap (λ (m : ℕ). m * t + get_or f m 0) same) below)
 
--- for `using`
+-- The laws by which `read_back` is proved.
 pub ruleset reads = (product_small, reads_none, reads_more)

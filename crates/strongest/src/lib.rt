@@ -16,7 +16,7 @@ use crate::scores::{Reading, difference, excess, gap_of, search_back};
 use letters::{encode_sequence, n_kmers};
 
 // The refusal number and zeros; or 0, the first place of the best stretch read, its score, the steps made, and the gap.
-#[derive(Drop)]
+#[derive(Clone, Copy)]
 pub struct Strongest {
     pub refusal: u32,
     pub start: usize,

@@ -6,7 +6,7 @@ ghost use Rattle.strongest.specs.Terms.Reading.{Narrow, nothing, judged, gap_of,
 use crate::places::{clear_counts, count_back};
 
 // A stretch: its number of places, the ln entries that it gains, and what it loses, T for each place and its f.
-#[derive(Drop)]
+#[derive(Clone, Copy)]
 pub struct Scored {
     pub size: usize,
     pub gain: u64,
@@ -14,7 +14,7 @@ pub struct Scored {
 }
 
 // What was read: the ln entries that all places gain, and the best stretch so far.
-#[derive(Drop)]
+#[derive(Clone, Copy)]
 pub struct Reading {
     pub gain: u64,
     pub best: Scored,

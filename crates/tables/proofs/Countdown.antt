@@ -13,5 +13,5 @@ unfolding countdown
 ended step zero h p = refl
 ended step (suc j) h p = absurd (let b : ⊥ = omega arith in b)
 
--- for `using`
+-- The laws by which `series`, `times` are proved.
 pub ruleset countdowns = (turn, ended)

@@ -43,7 +43,5 @@ pub by_gc_made : (k : ℕ) (gc : Float) (r m : List Float) → r ≡ thirteen (r
 unfolding by_gc
 by_gc_made k gc r m e g = rw (e, g)
 
--- for `using`
+-- The laws by which `calculate_f`, `calculate_f_gc` are proved.
 pub ruleset made = (uniform_made, by_gc_made)
-
-pub ruleset binomials = (product_fits, binomial_next, counted)

@@ -32,5 +32,5 @@ over a v h = go (ltb a 30) refl h
     go true e t = below_one (30 - a) a v t
     go false e t = let l = ltb-false a 30 e in no_more (30 - a) a v (omega arith)
 
--- for `using`
+-- The laws by which `exp_neg` is proved.
 pub ruleset exp_loop = (again, over)

@@ -68,7 +68,8 @@ of_minus a b h =
     ∙ ap (λ (n : ℕ). round binary64 true n 1) (let k : b - a ≡ suc (b - suc a) = omega arith in k)
     ∙ ap (λ (z : ℤ). of_int binary64 z) (sym (minus_lt a b h))
 
--- for `using`
+-- The laws by which `difference` is proved.
 pub ruleset differences = (minus_le, of_minus)
 
+-- The laws by which `ln_scaled` is proved.
 pub ruleset raised = (minus_add)

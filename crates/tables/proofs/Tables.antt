@@ -53,7 +53,8 @@ density_reverse_complement k Uniform s = refl
 density_reverse_complement k (Fixed x) s = refl
 density_reverse_complement k Auto s = ap (by_gc k) (gc_reverse_complement s)
 
--- for `using`
+-- The laws by which `ln_at` is proved.
 pub ruleset ln_entries = (ln_room, ln_read_lem)
 
+-- The laws by which `fill_tables` is proved.
 pub ruleset filled = (ln_held, classes_fit)

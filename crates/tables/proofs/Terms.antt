@@ -44,7 +44,8 @@ unfolding f_of
 f_some k d zero all h e = absurd (h refl)
 f_some k d (suc l) all h e = rw e
 
--- for `using`
+-- The laws by which `terms` is proved.
 pub ruleset of_terms = (term_added, term_last, terms_over)
 
+-- The laws by which `calculate_f_internal` is proved.
 pub ruleset of_classes = (class_added, classes_over, f_none, f_some)

@@ -21,7 +21,7 @@ pub enum Joined {
 }
 
 // The refusal number and 0, or 0 and the number of intervals.
-#[derive(Drop)]
+#[derive(Clone, Copy)]
 pub struct Joining {
     pub refusal: u32,
     pub count: usize,
@@ -38,7 +38,7 @@ fn wanted(kind: Joined, ours: bool, theirs: bool) -> bool
 }
 
 // How a list goes on from a letter: whether it covers it, and up to where that stays so.
-#[derive(Drop)]
+#[derive(Clone, Copy)]
 struct Side {
     covers: bool,
     until: u32,
@@ -81,7 +81,7 @@ fn ended(list: &[[u32; 2]], i: usize, at: u32) -> usize
 }
 
 // Where a sweep over both lists stands: at a letter, and how many intervals of each end there or before it.
-#[derive(Drop)]
+#[derive(Clone, Copy)]
 struct Sweep {
     at: u32,
     ours: usize,
@@ -89,7 +89,7 @@ struct Sweep {
 }
 
 // The next piece of letters, up to where the sweep stands then: whether ours covers them, and whether theirs does.
-#[derive(Drop)]
+#[derive(Clone, Copy)]
 struct Piece {
     ours: bool,
     theirs: bool,

@@ -6,8 +6,8 @@ use lib.Seq.{take-append-le}
 use Rattle.replay.proofs.read_list.Goals as goal
 
 -- The first a bytes and n more, after a read into the rest that gave n.
-take-read : (a k n : ℕ) (xs ys : List ℕ) → a ≤ length xs → n ≤ length ys → take a xs ++ take n ys ≡ take (a + n) (put_mid a k xs ys)
-take-read a k n xs ys within fits =
+take_read : (a k n : ℕ) (xs ys : List ℕ) → a ≤ length xs → n ≤ length ys → take a xs ++ take n ys ≡ take (a + n) (put_mid a k xs ys)
+take_read a k n xs ys within fits =
     let front = length-take-le a xs within in
     let after = post_of a k xs in
     ap₂ (λ (l m : List ℕ). l ++ m) (sym (take_at (take a xs) (ys ++ after) a front)) (sym (ap (λ (l : List ℕ). take n l) (drop_at (take a xs) (ys ++ after) a front) ∙ take-append-le n ys after fits))
@@ -19,7 +19,7 @@ loop-count-preserved g c =
     record {
       read =
           subst (Consumes _ _)
-          (take-read c.loop-count.count (length c.loop-count.list - c.loop-count.count) c.in-Ok.n c.loop-count.list c.read.new.buf I.within c.in-Ok.ensures.bound.0)
+          (take_read c.loop-count.count (length c.loop-count.list - c.loop-count.count) c.in-Ok.n c.loop-count.list c.read.new.buf I.within c.in-Ok.ensures.bound.0)
           (Consumes-trans _ _ _ _ _ I.read c.in-Ok.ensures.bytes.0);
       within = search rules;
     }

@@ -10,8 +10,8 @@ use Rattle.report.proofs.write_report.Goals as goal
 use Rattle.report.proofs.write_report.Goals.{Start}
 
 -- `write_report` meets its contract: the lines and the count are written one after the other.
-both-fit : (c : Start) → Fits (lines (list_of c.args.list.now) ++ count_line (length c.args.list.now)) c.args.text.now c.args.from
-both-fit c = fits_as (sym (report_list c.args.list.now)) c.requires
+both_fit : (c : Start) → Fits (lines (list_of c.args.list.now) ++ count_line (length c.args.list.now)) c.args.text.now c.args.from
+both_fit c = fits_as (sym (report_list c.args.list.now)) c.requires
 
 pub returns : goal.returns
-returns c = written_as (sym (report_list c.args.list.now)) (next (both-fit (goal.at.returns c).Start) c.write_lines-at.ensures c.write_count.ensures)
+returns c = written_as (sym (report_list c.args.list.now)) (next (both_fit (goal.at.returns c).Start) c.write_lines-at.ensures c.write_count.ensures)

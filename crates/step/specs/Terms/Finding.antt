@@ -62,7 +62,7 @@ pub record ShapedList (k i : ℕ) (start end : ℤ) (saved : List Interval) : Ty
   pub end_in : whole end ≤ i
   pub start_ok : StartOk k start (whole end)
 
--- ---- Letter a .i, which has entered, is settled: the state before the next letter.
+-- ---- Letter a.i, which has entered, is settled: the state before the next letter.
 -- By what was sought.
 pub record TakesFind (k : ℕ) (a : State) (r : Sought) (a' : State) (saved saved' : List Interval) : Type 0 where
   pub kmer_is : a'.kmer ≡ a.kmer

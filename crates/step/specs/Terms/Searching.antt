@@ -21,7 +21,7 @@ abbrev pub is_searched : ℕ → List ℕ → Place → Bool
 is_searched least window_counts ambiguous = false
 is_searched least window_counts (plain x) = leb least (get_or window_counts x 0)
 
--- Whether extend is tried at letter a .i, by the numbers that the code reads.
+-- Whether extend is tried at letter a.i, by the numbers that the code reads.
 abbrev pub tried_by : Params → List Float → State → Bool
 tried_by p f a =
     let len : ℕ = a.window.len in

@@ -18,8 +18,8 @@ pub record Around (p : Params) (codes : List ℕ) (ln f : List Float) (candidate
   pub inv : Before p codes ln f st queue window_counts scan_counts list
   pub known : KnownLow (setup_of p ln f) codes st.i low
   pub counts_are : length scan_counts ≡ 4 ^ p.kmer
-  pub same-candidates : length candidates ≡ length candidates₀
-  pub same-list : length list ≡ length list₀
+  pub same_candidates : length candidates ≡ length candidates₀
+  pub same_list : length list ≡ length list₀
 
 abbrev pub invariant-loop-st : goal.invariant-loop-st
 invariant-loop-st l = Around l.p l.codes l.ln l.f l.initial.candidates l.initial.list l.queue l.window_counts l.scan_counts l.candidates l.list l.st l.low

@@ -14,9 +14,9 @@ pub record Around (p : Params) (codes : List ℕ) (ln f : List Float) (queue₀ 
   pub inv : Before p codes ln f st queue window_counts scan_counts list
   pub further : st₀.i ≤ st.i
   pub same_queue : length queue ≡ length queue₀
-  pub same-window-counts : length window_counts ≡ length window_counts₀
-  pub same-scan-counts : length scan_counts ≡ length scan_counts₀
-  pub same-list : length list ≡ length list₀
+  pub same_window_counts : length window_counts ≡ length window_counts₀
+  pub same_scan_counts : length scan_counts ≡ length scan_counts₀
+  pub same_list : length list ≡ length list₀
 
 abbrev pub invariant-loop-st : goal.invariant-loop-st
 invariant-loop-st l = Around l.p l.codes l.ln l.f l.initial.queue l.initial.window_counts l.initial.scan_counts l.initial.list l.initial.st l.queue l.window_counts l.scan_counts l.list l.st

@@ -20,8 +20,8 @@ split c =
     record { head_in = r.ringed.queued.head_in; len_in = r.ringed.queued.len_in; up = r.scan_counts_value.1; in_len = omega arith; a_is = c.ring_end-a.ensures; b_is = c.ring_end-b.ensures }
 
 -- how many entries the older part has
-older-size : (c : After-ring_end-b) → length (decoded (take (c.ring_end-b.result - c.ring_end-a.result) (drop c.ring_end-a.result c.args.queue.now))) ≡ c.ring_end-b.result - c.ring_end-a.result
-older-size c = decoded_length (take (c.ring_end-b.result - c.ring_end-a.result) (drop c.ring_end-a.result c.args.queue.now)) ∙ older_length (split c)
+older_size : (c : After-ring_end-b) → length (decoded (take (c.ring_end-b.result - c.ring_end-a.result) (drop c.ring_end-a.result c.args.queue.now))) ≡ c.ring_end-b.result - c.ring_end-a.result
+older_size c = decoded_length (take (c.ring_end-b.result - c.ring_end-a.result) (drop c.ring_end-a.result c.args.queue.now)) ∙ older_length (split c)
 
 pub forward_part-older-requires-clause-coded : goal.forward_part-older-requires-clause-coded
 forward_part-older-requires-clause-coded c =
@@ -38,9 +38,9 @@ pub forward_part-requires-clause-coded : goal.forward_part-requires-clause-coded
 forward_part-requires-clause-coded c =
     let r = c.requires in
     let o = newer_length (split (goal.at.forward_part-requires-clause-coded c).After-ring_end-b) in
-    (newer_coded (split (goal.at.forward_part-requires-clause-coded c).After-ring_end-b) (queued_as _ c.forward_part-older.auto.scan_counts r.ringed.queued), subst (λ (z : ℕ). UpTo z c.forward_part-older.new.scan_counts) (ap (λ (z : ℕ). c.args.start + z) (older-size (goal.at.forward_part-requires-clause-coded c).After-ring_end-b)) (c.forward_part-older.ensures.few c.if-older.false))
+    (newer_coded (split (goal.at.forward_part-requires-clause-coded c).After-ring_end-b) (queued_as _ c.forward_part-older.auto.scan_counts r.ringed.queued), subst (λ (z : ℕ). UpTo z c.forward_part-older.new.scan_counts) (ap (λ (z : ℕ). c.args.start + z) (older_size (goal.at.forward_part-requires-clause-coded c).After-ring_end-b)) (c.forward_part-older.ensures.few c.if-older.false))
 
 pub returns : goal.returns
 returns c =
     let r = c.requires in
-    forward_both c.args.p _ _ _ (decoded (older (split (goal.at.returns c).After-ring_end-b))) (decoded (newer (split (goal.at.returns c).After-ring_end-b))) _ _ (window_length _ _ _ r.ringed.queued.head_in r.ringed.queued.len_in) (both_parts (split (goal.at.returns c).After-ring_end-b)) _ _ refl _ _ _ _ c.new.ensures.0 r.scan_counts_value.0 c.forward_part-older.ensures c.if-older.false _ (ap (λ (z : ℕ). c.args.start + z) (sym (older-size (goal.at.returns c).After-ring_end-b))) _ _ c.forward_part.ensures
+    forward_both c.args.p _ _ _ (decoded (older (split (goal.at.returns c).After-ring_end-b))) (decoded (newer (split (goal.at.returns c).After-ring_end-b))) _ _ (window_length _ _ _ r.ringed.queued.head_in r.ringed.queued.len_in) (both_parts (split (goal.at.returns c).After-ring_end-b)) _ _ refl _ _ _ _ c.new.ensures.0 r.scan_counts_value.0 c.forward_part-older.ensures c.if-older.false _ (ap (λ (z : ℕ). c.args.start + z) (sym (older_size (goal.at.returns c).After-ring_end-b))) _ _ c.forward_part.ensures

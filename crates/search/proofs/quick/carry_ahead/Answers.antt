@@ -9,8 +9,8 @@ use Rattle.search.proofs.quick.carry_ahead.Goals as goal
 use Rattle.search.proofs.quick.carry_ahead.Goals.{Else-carry-st}
 
 -- the best place lies in the window, and was read
-best-in : (c : Else-carry-st) → (c.args.start < c.args.len) × (c.args.st.low ≤ c.args.start)
-best-in c =
+best_in : (c : Else-carry-st) → (c.args.start < c.args.len) × (c.args.st.low ≤ c.args.start)
+best_in c =
     let p = c.args.p in
     let ln = c.args.ln.now in
     let f = c.args.f.now in
@@ -18,10 +18,10 @@ best-in c =
     (start_in p _ _ _ ln f _ c.requires.ringed n.0 n.2 _ c.requires.scans_quick c.if-st.false c.if-found-eq0.false _ c.if-found-start.false, low_in p _ _ _ ln f _ c.requires.ringed n.0 n.2 _ c.requires.scans_quick c.if-st.false c.if-found-eq0.false _ c.if-found-start.false)
 
 pub uncount-requires-clause-from_le_to : goal.uncount-requires-clause-from_le_to
-uncount-requires-clause-from_le_to c = ((best-in (goal.at.uncount-requires-clause-from_le_to c).Else-carry-st).1, omega (arith, (best-in (goal.at.uncount-requires-clause-from_le_to c).Else-carry-st).0), subst (λ (m : ℕ). Counted m c.args.scan_counts.now (drop c.args.st.low (window c.args.queue.now c.args.head c.args.len))) (sym c.requires.len_nonzero.2) c.requires.scans_quick.here.counted)
+uncount-requires-clause-from_le_to c = ((best_in (goal.at.uncount-requires-clause-from_le_to c).Else-carry-st).1, omega (arith, (best_in (goal.at.uncount-requires-clause-from_le_to c).Else-carry-st).0), subst (λ (m : ℕ). Counted m c.args.scan_counts.now (drop c.args.st.low (window c.args.queue.now c.args.head c.args.len))) (sym c.requires.len_nonzero.2) c.requires.scans_quick.here.counted)
 
 pub overflow_sub-len-2 : goal.overflow_sub-len-2
-overflow_sub-len-2 c = omega (arith, (best-in (goal.at.overflow_sub-len-2 c).Else-carry-st).0)
+overflow_sub-len-2 c = omega (arith, (best_in (goal.at.overflow_sub-len-2 c).Else-carry-st).0)
 
 pub ahead-requires : goal.ahead-requires
 ahead-requires c =

@@ -8,16 +8,16 @@ use Rattle.small.proofs.quiet.is_quiet.Goals as goal
 use Rattle.small.proofs.quiet.is_quiet.Goals.{After-encode_sequence, After-reverse_complement_encoded_sequence}
 
 -- `small::quiet::is_quiet` meets its contract: no k-mer of a strand that is scanned stands at min_start_cnt places.
-codes-fit : (c : After-encode_sequence) → length c.args.sequence.now ≤ length c.encode_sequence.new.encoded
-codes-fit c = omega (arith, letters_fit c.requires, c.encode_sequence.auto.encoded, length-replicate {A = ℕ} 4096 0)
+codes_fit : (c : After-encode_sequence) → length c.args.sequence.now ≤ length c.encode_sequence.new.encoded
+codes_fit c = omega (arith, letters_fit c.requires, c.encode_sequence.auto.encoded, length-replicate {A = ℕ} 4096 0)
 
 pub repeats-requires : goal.repeats-requires
 repeats-requires c =
     let A = c.requires in
     (kmer_fits A, kmers_fit A, omega (arith, letters_fit A, length-take (length c.args.sequence.now) c.encode_sequence.new.encoded), omega (arith, twice A))
 
-others-fit : (c : After-reverse_complement_encoded_sequence) → length c.args.sequence.now ≤ length c.reverse_complement_encoded_sequence.new.reversed
-others-fit c = omega (arith, letters_fit c.requires, c.reverse_complement_encoded_sequence.auto.reversed, length-replicate {A = ℕ} 4096 0)
+others_fit : (c : After-reverse_complement_encoded_sequence) → length c.args.sequence.now ≤ length c.reverse_complement_encoded_sequence.new.reversed
+others_fit c = omega (arith, letters_fit c.requires, c.reverse_complement_encoded_sequence.auto.reversed, length-replicate {A = ℕ} 4096 0)
 
 pub repeats-requires-2 : goal.repeats-requires-2
 repeats-requires-2 c =
@@ -25,10 +25,10 @@ repeats-requires-2 c =
     (kmer_fits A, kmers_fit A, omega (arith, letters_fit A, length-take (length c.args.sequence.now) c.reverse_complement_encoded_sequence.new.reversed), omega (arith, twice A))
 
 pub slice_bounds-repeats-end : goal.slice_bounds-repeats-end
-slice_bounds-repeats-end c = sym (length-take-le _ _ (codes-fit (goal.at.slice_bounds-repeats-end c).After-encode_sequence))
+slice_bounds-repeats-end c = sym (length-take-le _ _ (codes_fit (goal.at.slice_bounds-repeats-end c).After-encode_sequence))
 
 pub slice_bounds-reverse_complement_encoded_sequence-end : goal.slice_bounds-reverse_complement_encoded_sequence-end
-slice_bounds-reverse_complement_encoded_sequence-end c = sym (length-take-le _ _ (codes-fit (goal.at.slice_bounds-reverse_complement_encoded_sequence-end c).After-encode_sequence))
+slice_bounds-reverse_complement_encoded_sequence-end c = sym (length-take-le _ _ (codes_fit (goal.at.slice_bounds-reverse_complement_encoded_sequence-end c).After-encode_sequence))
 
 pub slice_bounds-repeats-end-2 : goal.slice_bounds-repeats-end-2
-slice_bounds-repeats-end-2 c = sym (length-take-le _ _ (others-fit (goal.at.slice_bounds-repeats-end-2 c).After-reverse_complement_encoded_sequence))
+slice_bounds-repeats-end-2 c = sym (length-take-le _ _ (others_fit (goal.at.slice_bounds-repeats-end-2 c).After-reverse_complement_encoded_sequence))

@@ -18,14 +18,14 @@ stays : (c : After-enter-st) → c.enter-st.result.window.live ≡ false
 stays c = (enters c).live_is ∙ c.loop-st.invariant.clear
 
 -- The lent slices are as long as they were.
-same-ring : (c : After-enter-st) → length c.enter-st.new.queue ≡ length c.args.queue.now
-same-ring c = c.enter-st.auto.queue ∙ c.loop-st.invariant.same_queue
+same_ring : (c : After-enter-st) → length c.enter-st.new.queue ≡ length c.args.queue.now
+same_ring c = c.enter-st.auto.queue ∙ c.loop-st.invariant.same_queue
 
-same-window : (c : After-enter-st) → length c.enter-st.new.window_counts ≡ length c.args.window_counts.now
-same-window c = c.enter-st.auto.window_counts ∙ c.loop-st.invariant.same-window-counts
+same_window : (c : After-enter-st) → length c.enter-st.new.window_counts ≡ length c.args.window_counts.now
+same_window c = c.enter-st.auto.window_counts ∙ c.loop-st.invariant.same_window_counts
 
-same-scan : (c : After-enter-st) → length c.enter-st.new.scan_counts ≡ length c.args.scan_counts.now
-same-scan c = c.enter-st.auto.scan_counts ∙ c.loop-st.invariant.same-scan-counts
+same_scan : (c : After-enter-st) → length c.enter-st.new.scan_counts ≡ length c.args.scan_counts.now
+same_scan c = c.enter-st.auto.scan_counts ∙ c.loop-st.invariant.same_scan_counts
 
 pub is_searched-requires : goal.is_searched-requires
 is_searched-requires c =
@@ -40,4 +40,4 @@ pub loop-st-preserved : goal.loop-st-preserved
 loop-st-preserved c =
     let l = c.loop-st-test.true in
     let not = sym c.is_searched.ensures ∙ c.if-is_searched.false in
-    record { read = read_on l (enters (goal.at.loop-st-preserved c).After-enter-st) not (passed (goal.at.loop-st-preserved c).After-enter-st); skims = skims_on l (enters (goal.at.loop-st-preserved c).After-enter-st) not (passed (goal.at.loop-st-preserved c).After-enter-st) c.loop-st.invariant.skims; clear = stays (goal.at.loop-st-preserved c).After-enter-st; same_queue = same-ring (goal.at.loop-st-preserved c).After-enter-st; same-window-counts = same-window (goal.at.loop-st-preserved c).After-enter-st; same-scan-counts = same-scan (goal.at.loop-st-preserved c).After-enter-st }
+    record { read = read_on l (enters (goal.at.loop-st-preserved c).After-enter-st) not (passed (goal.at.loop-st-preserved c).After-enter-st); skims = skims_on l (enters (goal.at.loop-st-preserved c).After-enter-st) not (passed (goal.at.loop-st-preserved c).After-enter-st) c.loop-st.invariant.skims; clear = stays (goal.at.loop-st-preserved c).After-enter-st; same_queue = same_ring (goal.at.loop-st-preserved c).After-enter-st; same_window_counts = same_window (goal.at.loop-st-preserved c).After-enter-st; same_scan_counts = same_scan (goal.at.loop-st-preserved c).After-enter-st }

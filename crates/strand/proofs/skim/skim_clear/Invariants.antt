@@ -16,8 +16,8 @@ pub record Around (p : Params) (codes : List ℕ) (ln f : List Float) (queue₀ 
   pub skims : Skims p codes ln f st₀ st queue₀ scan_counts₀ queue scan_counts
   pub clear : st.window.live ≡ false
   pub same_queue : length queue ≡ length queue₀
-  pub same-window-counts : length window_counts ≡ length window_counts₀
-  pub same-scan-counts : length scan_counts ≡ length scan_counts₀
+  pub same_window_counts : length window_counts ≡ length window_counts₀
+  pub same_scan_counts : length scan_counts ≡ length scan_counts₀
 
 abbrev pub invariant-loop-st : goal.invariant-loop-st
 invariant-loop-st l = Around l.p l.codes l.ln l.f l.initial.queue l.initial.window_counts l.initial.scan_counts l.initial.st l.queue l.window_counts l.scan_counts l.st

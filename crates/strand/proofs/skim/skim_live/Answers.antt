@@ -11,14 +11,14 @@ enters : (c : After-enter-st) → let a = c.args in Enters a.p a.codes.now a.ln.
 enters c = c.enter-st.ensures c.args.f.now c.loop-st.invariant.read.known
 
 -- The lent slices are as long as they were.
-same-ring : (c : After-enter-st) → length c.enter-st.new.queue ≡ length c.args.queue.now
-same-ring c = c.enter-st.auto.queue ∙ c.loop-st.invariant.same_queue
+same_ring : (c : After-enter-st) → length c.enter-st.new.queue ≡ length c.args.queue.now
+same_ring c = c.enter-st.auto.queue ∙ c.loop-st.invariant.same_queue
 
-same-window : (c : After-enter-st) → length c.enter-st.new.window_counts ≡ length c.args.window_counts.now
-same-window c = c.enter-st.auto.window_counts ∙ c.loop-st.invariant.same-window-counts
+same_window : (c : After-enter-st) → length c.enter-st.new.window_counts ≡ length c.args.window_counts.now
+same_window c = c.enter-st.auto.window_counts ∙ c.loop-st.invariant.same_window_counts
 
-same-scan : (c : After-enter-st) → length c.enter-st.new.scan_counts ≡ length c.args.scan_counts.now
-same-scan c = c.enter-st.auto.scan_counts ∙ c.loop-st.invariant.same-scan-counts
+same_scan : (c : After-enter-st) → length c.enter-st.new.scan_counts ≡ length c.args.scan_counts.now
+same_scan c = c.enter-st.auto.scan_counts ∙ c.loop-st.invariant.same_scan_counts
 
 pub is_searched-requires : goal.is_searched-requires
 is_searched-requires c =
@@ -29,11 +29,11 @@ pub passed-st-requires-clause-passing : goal.passed-st-requires-clause-passing
 passed-st-requires-clause-passing c =
     let b = c.requires.kmer_bound in
     let n = enters (goal.at.passed-st-requires-clause-passing c).After-enter-st in
-    passing n.entered (same-scan (goal.at.passed-st-requires-clause-passing c).After-enter-st ∙ b.3) b.2
+    passing n.entered (same_scan (goal.at.passed-st-requires-clause-passing c).After-enter-st ∙ b.3) b.2
 
 pub loop-st-preserved : goal.loop-st-preserved
 loop-st-preserved c =
     let x = c.passed-st in
     let l = c.loop-st-test.true in
     let not = sym c.is_searched.ensures ∙ c.if-is_searched.false in
-    record { read = read_on l (enters (goal.at.loop-st-preserved c).After-enter-st) not x.ensures; skims = skims_on l (enters (goal.at.loop-st-preserved c).After-enter-st) not x.ensures c.loop-st.invariant.skims; same_queue = same-ring (goal.at.loop-st-preserved c).After-enter-st; same-window-counts = same-window (goal.at.loop-st-preserved c).After-enter-st; same-scan-counts = x.auto.scan_counts ∙ same-scan (goal.at.loop-st-preserved c).After-enter-st }
+    record { read = read_on l (enters (goal.at.loop-st-preserved c).After-enter-st) not x.ensures; skims = skims_on l (enters (goal.at.loop-st-preserved c).After-enter-st) not x.ensures c.loop-st.invariant.skims; same_queue = same_ring (goal.at.loop-st-preserved c).After-enter-st; same_window_counts = same_window (goal.at.loop-st-preserved c).After-enter-st; same_scan_counts = x.auto.scan_counts ∙ same_scan (goal.at.loop-st-preserved c).After-enter-st }

@@ -35,8 +35,8 @@ part c = take (length (bytes (goal.at.After-encode_sequence c).Start)) c.encode_
 part_fits : (c : After-encode_sequence) → length (bytes (goal.at.After-encode_sequence c).Start) ≤ length c.encode_sequence.new.encoded
 part_fits c = omega (arith, (admit (goal.at.After-encode_sequence c).Else-refusal-ne0).enough.codes, c.encode_sequence.auto.encoded)
 
-codes-held : (c : After-encode_sequence) → part c ≡ codes (bytes (goal.at.After-encode_sequence c).Start)
-codes-held c = encoded _ _ _ c.encode_sequence.ensures c.encode_sequence.auto.encoded
+codes_held : (c : After-encode_sequence) → part c ≡ codes (bytes (goal.at.After-encode_sequence c).Start)
+codes_held c = encoded _ _ _ c.encode_sequence.ensures c.encode_sequence.auto.encoded
 
 part_long : (c : After-encode_sequence) → length (part c) ≡ length (bytes (goal.at.After-encode_sequence c).Start)
 part_long c = encoded_length _ _ _ c.encode_sequence.ensures c.encode_sequence.auto.encoded
@@ -44,7 +44,7 @@ part_long c = encoded_length _ _ _ c.encode_sequence.ensures c.encode_sequence.a
 filled : (c : After-fill_tables) → Filled c.args.options (bytes (goal.at.After-fill_tables c).Start) (entry (goal.at.After-fill_tables c).Start) (lending (entry (goal.at.After-fill_tables c).Start) c.fill_tables.new.ln c.fill_tables.new.f c.encode_sequence.new.encoded)
 filled c =
     let o = c.args.options in
-    record { ln = c.fill_tables.ensures.ln_after; f = c.fill_tables.ensures.f_after ∙ ap (λ (z : List ℕ). put (f_table o.kmer o.window_size (density o.kmer o.gc z)) c.args.f.now) (codes-held (goal.at.After-fill_tables c).After-encode_sequence) }
+    record { ln = c.fill_tables.ensures.ln_after; f = c.fill_tables.ensures.f_after ∙ ap (λ (z : List ℕ). put (f_table o.kmer o.window_size (density o.kmer o.gc z)) c.args.f.now) (codes_held (goal.at.After-fill_tables c).After-encode_sequence) }
 
 pub fill_tables-requires-clause-k_bound : goal.fill_tables-requires-clause-k_bound
 fill_tables-requires-clause-k_bound c =

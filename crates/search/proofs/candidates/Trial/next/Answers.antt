@@ -9,8 +9,8 @@ use Rattle.search.proofs.candidates.Trial.next.Goals as goal
 use Rattle.search.proofs.candidates.Trial.next.Goals.{After-clear_from, Start}
 
 -- the window has `len` entries
-window-long : (c : Start) → length (window c.args.queue.now c.args.head c.args.len) ≡ c.args.len
-window-long c = window_length c.args.queue.now c.args.head c.args.len c.requires.ringed.queued.head_in c.requires.ringed.queued.len_in
+window_long : (c : Start) → length (window c.args.queue.now c.args.head c.args.len) ≡ c.args.len
+window_long c = window_length c.args.queue.now c.args.head c.args.len c.requires.ringed.queued.head_in c.requires.ringed.queued.len_in
 
 -- the counts are cleared again
 cleared : (c : After-clear_from) → c.clear_from.new.scan_counts ≡ replicate (4 ^ c.args.p.kmer) 0
@@ -24,7 +24,7 @@ returns-then-place-furthest c =
 pub returns-then-st-len : goal.returns-then-st-len
 returns-then-st-len c =
     let s = c.requires.left_nonzero in
-    trial_found _ _ _ _ _ s.0 c.if-place-furthest.false _ _ c.dust_forward-st.ensures (omega (arith, s.1, window-long (goal.at.returns-then-st-len c).Start)) (c.if-st-len.true ∙ sym (window-long (goal.at.returns-then-st-len c).Start)) _ refl refl c.begun.ensures
+    trial_found _ _ _ _ _ s.0 c.if-place-furthest.false _ _ c.dust_forward-st.ensures (omega (arith, s.1, window_long (goal.at.returns-then-st-len c).Start)) (c.if-st-len.true ∙ sym (window_long (goal.at.returns-then-st-len c).Start)) _ refl refl c.begun.ensures
 
 pub clear_from-requires-clause-from_le_len : goal.clear_from-requires-clause-from_le_len
 clear_from-requires-clause-from_le_len c =
@@ -32,7 +32,7 @@ clear_from-requires-clause-from_le_len c =
     (omega (arith, s.left_nonzero.1), trial_touched _ _ _ _ _ _ c.dust_forward-st.ensures)
 
 pub returns-then-p : goal.returns-then-p
-returns-then-p c = trial_approx _ _ _ _ _ c.requires.left_nonzero.0 c.if-place-furthest.false _ _ c.dust_forward-st.ensures (λ e. c.if-st-len.false (e ∙ window-long (goal.at.returns-then-p c).Start)) _ (cleared (goal.at.returns-then-p c).After-clear_from) c.if-p.true _ _ c.going-then-p.ensures
+returns-then-p c = trial_approx _ _ _ _ _ c.requires.left_nonzero.0 c.if-place-furthest.false _ _ c.dust_forward-st.ensures (λ e. c.if-st-len.false (e ∙ window_long (goal.at.returns-then-p c).Start)) _ (cleared (goal.at.returns-then-p c).After-clear_from) c.if-p.true _ _ c.going-then-p.ensures
 
 pub returns : goal.returns
-returns c = trial_on _ _ _ _ _ c.requires.left_nonzero.0 c.if-place-furthest.false _ _ c.dust_forward-st.ensures (λ e. c.if-st-len.false (e ∙ window-long (goal.at.returns c).Start)) _ (cleared (goal.at.returns c).After-clear_from) c.if-p.false _ c.max.ensures _ c.going-2.ensures
+returns c = trial_on _ _ _ _ _ c.requires.left_nonzero.0 c.if-place-furthest.false _ _ c.dust_forward-st.ensures (λ e. c.if-st-len.false (e ∙ window_long (goal.at.returns c).Start)) _ (cleared (goal.at.returns c).After-clear_from) c.if-p.false _ c.max.ensures _ c.going-2.ensures
