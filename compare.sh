@@ -6,7 +6,7 @@ set -euo pipefail
 cd "$(dirname "$0")"
 
 (cd crates/longdust_c && rt lib)
-(cd crates/contigs && rt run < /dev/null)
+tools/start contigs < /dev/null > /dev/null
 (cd compare && cargo build --release --offline)
 program=compare/target/release/compare
 example=$(mktemp)
@@ -103,8 +103,8 @@ check "compare record" cmp <("$program" record) crates/replay/stdin
 
 echo "== the texts of crates/contigs and crates/contigs_cases"
 check "compare contigs text" cmp <("$program" contigs text crates/contigs/stdin) crates/contigs/stdout
-check "contigs: a directory as input" test "$(crates/contigs/out/contigs < . 2>&1)" = 'contigs: standard input: Is a directory'
-check "contigs: a full disk" test "$(printf '>a\nAAAAAAAAAAAA\n' | crates/contigs/out/contigs 2>&1 > /dev/full)" \
+check "contigs: a directory as input" test "$(target/bin/contigs < . 2>&1)" = 'contigs: standard input: Is a directory'
+check "contigs: a full disk" test "$(printf '>a\nAAAAAAAAAAAA\n' | target/bin/contigs 2>&1 > /dev/full)" \
   = 'contigs: standard output: No space left on device'
 check "compare contigs cases" cmp <("$program" contigs cases) crates/contigs_cases/stdout
 

@@ -1,4 +1,4 @@
-"""Shorten the prover's text: lists in infix, and a name for each type, row, slot and block of these that it repeats."""
+"""Of the kit rattle-kit-5b-plain (tools/lift). Shorten the prover's text: lists in infix, and a name for each type, row, slot and block of these that it repeats."""
 import re
 
 TOKEN = re.compile(r'"[^"]*"|[(){},;]|[^\s(){},;"]+')

@@ -17,16 +17,14 @@ const SHOWN: usize = 3;
 /// Something that prints the text of a file.
 pub type Port = fn(&[u8]) -> Vec<u8>;
 
-/// Runs `crates/contigs/out/contigs` on a file; what it says on standard error belongs to no right answer.
+/// Runs `target/bin/contigs` on a file; what it says on standard error belongs to no right answer.
 pub fn program(file: &[u8]) -> Vec<u8> {
-    let mut child = Command::new("crates/contigs/out/contigs")
+    let mut child = Command::new("target/bin/contigs")
         .stdin(Stdio::piped())
         .stdout(Stdio::piped())
         .stderr(Stdio::piped())
         .spawn()
-        .unwrap_or_else(|error| {
-            crate::stop(&format!("crates/contigs/out/contigs: {error} (run `rt run` in crates/contigs)"))
-        });
+        .unwrap_or_else(|error| crate::stop(&format!("target/bin/contigs: {error} (run ./contigs once)")));
     // The program reads no more than it needs to see that a file is too large.
     let _ = child.stdin.take().unwrap().write_all(file);
     let output = child.wait_with_output().unwrap();
