@@ -4,8 +4,8 @@ use mathlib.Core.List.{List, ◌∷◌, ◌++◌, append-nil}
 use Prim.Native.Nat.{ℕ, suc, ◌+◌, ◌≤◌, ◌<◌}
 use native.Mathlib.Numerals.{add-one}
 use native.Mathlib.Omega.{arith}
-use lib.ListN.{length, take, drop, replicate, get_or, set, length-set, drop_of_length-le}
-use lib.Seq.{take-suc, drop-cons, append_snoc, set_at, length-take-le, take-length, drop-length}
+use lib.ListN.{length, take, drop, get_or, set, length-set, drop_of_length-le}
+use lib.Seq.{take-suc, drop-cons, append_snoc, set_at, length-take-le, take-length}
 use Rattle.buffers.specs.Fill.{put}
 
 abbrev pub part {ℓ} : {A : Type ℓ} → List A → List A → ℕ → List A
@@ -24,6 +24,14 @@ module _ {ℓ} {A : Type ℓ} (xs d : List A) (fits : length xs ≤ length d) wh
 
   part_all : part xs d (length xs) ≡ put xs d
   part_all = ap (λ (l : List A). l ++ drop (length xs) d) (take-length xs)
+
+-- The same for a loop that says `l ≡ part xs d i`.
+module _ {A : Type 0} (xs d l : List A) (i : ℕ) where
+  pub part_turn : (z v : A) → l ≡ part xs d i → i < length xs → length xs ≤ length d → v ≡ get_or xs i z → set l i v ≡ part xs d (i + 1)
+  part_turn z v e h fits g = rw (e, g) (part_more xs d fits z i h)
+
+  pub part_end : l ≡ part xs d i → i ≤ length xs → length xs ≤ i → l ≡ put xs d
+  part_end e h k = e ∙ ap (λ (j : ℕ). part xs d j) (let q : i ≡ length xs = omega arith in q) ∙ ap (λ (m : List A). m ++ drop (length xs) d) (take-length xs)
 
 -- The loop: after i of its n turns the buffer is l.
 pub record Fills {A : Type 0} (xs d : List A) (n i : ℕ) (l : List A) : Type 0 where
@@ -60,7 +68,3 @@ module _ {A : Type 0} {xs d : List A} {n : ℕ} where
 -- A buffer filled whole is the list itself.
 pub put_all {ℓ} : {A : Type ℓ} (xs d : List A) → length d ≡ length xs → put xs d ≡ xs
 put_all {A = A} xs d e = ap (λ (z : List A). xs ++ z) (drop_of_length-le d (let h : length d ≤ length xs = omega arith in h)) ∙ append-nil xs
-
--- A buffer with the same value in every entry.
-pub filled {ℓ} : {A : Type ℓ} (d : List A) (v : A) (i : ℕ) → i ≡ length d → replicate i v ++ drop i d ≡ replicate (length d) v
-filled d v i e = rw (e, drop-length, append-nil)

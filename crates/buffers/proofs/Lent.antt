@@ -3,8 +3,8 @@ use mathlib.Core.Path.{◌≡◌, sym, ap, ◌∙◌}
 use mathlib.Core.List.{List, ◌++◌}
 use Prim.Native.Nat.{ℕ, ◌≤◌}
 use native.Mathlib.Omega.{arith}
-use lib.ListN.{length, take, drop, length-append, length-drop, take-append-drop}
-use lib.Seq.{length-take-le, drop-append_seam, drop-append-le}
+use lib.ListN.{length, take, drop, length-append, length-drop}
+use lib.Seq.{length-take-le, drop-append_seam}
 use Rattle.buffers.specs.Free.{Free}
 
 module _ {A : Type 0} (m : ℕ) (xs ys : List A) (fits : m ≤ length xs) (long : length ys ≡ length (take m xs)) where
@@ -18,16 +18,6 @@ module _ {A : Type 0} (m : ℕ) (xs ys : List A) (fits : m ≤ length xs) (long 
         long = length-append ys (drop m xs) ∙ omega (arith, length-drop m xs);
         past = ap (λ (k : ℕ). drop k (ys ++ drop m xs)) (sym e) ∙ drop-append_seam ys (drop m xs);
       }
-
-  -- Entries from r on that the part left as they were are as they were in the whole.
-  pub part_kept : (r : ℕ) → r ≤ m → drop r ys ≡ drop r (take m xs) → drop r (ys ++ drop m xs) ≡ drop r xs
-  part_kept r h e =
-      let l = as_long in
-      let t = length-take-le m xs fits in
-      drop-append-le r ys (drop m xs) (omega arith)
-      ∙ ap (λ (z : List A). z ++ drop m xs) e
-      ∙ sym (drop-append-le r (take m xs) (drop m xs) (omega arith))
-      ∙ ap (λ (z : List A). drop r z) (take-append-drop m xs)
 
 pub free_at : {A : Type 0} (m m' : ℕ) (xs xs' : List A) → m ≡ m' → Free m xs xs' → Free m' xs xs'
 free_at m m' xs xs' e f = record { long = f.long; past = ap (λ (z : ℕ). drop z xs') (sym e) ∙ f.past ∙ ap (λ (z : ℕ). drop z xs) e }

@@ -1,11 +1,11 @@
 -- What `put` and `put_at` leave: the length, one write after another, a single store, and a copy entry by entry.
-use mathlib.Core.Path.{◌≡◌, refl, sym, ap, ap₂, ◌∙◌}
+use mathlib.Core.Path.{◌≡◌, sym, ap, ap₂, ◌∙◌}
 use mathlib.Core.List.{List, [], ◌∷◌, ◌++◌, append_assoc}
-use Prim.Native.Nat.{ℕ, suc, ◌+◌, ◌-◌, ◌≤◌, ◌<◌}
+use Prim.Native.Nat.{ℕ, suc, ◌+◌, ◌≤◌, ◌<◌}
 use native.Mathlib.Numerals.{add-one}
 use native.Mathlib.Omega.{arith}
 use lib.ListN.{length, take, drop, get_or, set, length-append, length-drop, take-append-drop}
-use lib.Seq.{length-take-le, take-append_seam, drop-append-le, drop-append-add, take_at, drop_at, drop-drop, set_split, take-suc}
+use lib.Seq.{length-take-le, take-append_seam, drop-append-le, take_at, drop_at, drop-drop, set_split, take-suc}
 use Rattle.buffers.specs.Fill.{put, put_at}
 
 module _ {ℓ} {A : Type ℓ} where
@@ -14,17 +14,6 @@ module _ {ℓ} {A : Type ℓ} where
 
   pub take_put : (xs d : List A) → take (length xs) (put xs d) ≡ xs
   take_put xs d = take-append_seam xs (drop (length xs) d)
-
-  -- A write over a shorter one.
-  pub put_over : (xs ys d : List A) → length xs ≤ length ys → put ys (put xs d) ≡ put ys d
-  put_over xs ys d h =
-      let m : ℕ = length ys - length xs in
-      let e : length ys ≡ length xs + m = omega arith in
-      ap (λ (l : List A). ys ++ l)
-      (ap (λ (k : ℕ). drop k (put xs d)) e
-      ∙ drop-append-add xs (drop (length xs) d) m
-      ∙ drop-drop m (length xs) d
-      ∙ ap (λ (k : ℕ). drop k d) (sym e))
 
   -- The first m entries were lent and written to.
   pub put_part : (m : ℕ) (xs d : List A) → length xs ≤ m → m ≤ length d → put xs (take m d) ++ drop m d ≡ put xs d
@@ -40,9 +29,6 @@ module _ {ℓ} {A : Type ℓ} where
       let t = length-take-le i d (omega arith) in
       let p = put_length xs (drop i d) (omega arith) in
       length-append (take i d) (put xs (drop i d)) ∙ omega arith
-
-  pub put_at_zero : (xs d : List A) → put_at 0 xs d ≡ put xs d
-  put_at_zero xs d = refl
 
   pub put_at_none : (i : ℕ) (d : List A) → put_at i [] d ≡ d
   put_at_none i d = take-append-drop i d

@@ -1,16 +1,3 @@
-// Lent buffers.
+// What lent buffers hold after something was written to them: definitions and laws, no code.
 
 #![tactic(auto)]
-
-ghost use Rattle.std.specs.Prelude.{◌≡◌, length, replicate};
-
-// Sets every count to 0.
-pub fn clear(counts: &mut [u16])
-    ensures { counts.new ≡ replicate (length counts.old) 0 }
-{
-    let mut i = 0;
-    while i < counts.len() {
-        counts[i] = 0;
-        i += 1;
-    }
-}

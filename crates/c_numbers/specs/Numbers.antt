@@ -1,6 +1,7 @@
 -- What the numbers of the calls for C stand for, and the number that such a call returns.
-use Rattle.std.specs.Prelude.{ℕ, zero, suc, Bool, not, cond, eqb, ℤ, pos, negsuc, Float}
+use Rattle.std.specs.Prelude.{ℕ, zero, suc, Bool, not, cond, eqb, ℤ, pos, negsuc, Float, Result, Ok, Err}
 use Rattle.std.specs.Float.{nan}
+use Rattle.checks.specs.declared.refusal.Refusal.{Refusal}
 use Rattle.floats.specs.Binary64.{zero64}
 use Rattle.scans.specs.declared.Xdrop.{Xdrop}
 use Rattle.scans.specs.declared.Xdrop.TheVariants.{Off, Length}
@@ -53,6 +54,11 @@ kind_of kind = cond (eqb kind 0) Either (cond (eqb kind 1) Both Outside)
 abbrev pub count_or : ℕ → ℕ → ℤ
 count_or zero count = pos count
 count_or (suc number) count = negsuc number
+
+-- The count of an answer; 0 for a refused request.
+abbrev pub count_of : Result ℕ Refusal → ℕ
+count_of (Ok count) = count
+count_of (Err _) = 0
 
 abbrev pub flag : Bool → ℕ
 flag b = cond b 1 0

@@ -2,9 +2,11 @@
 
 #![tactic(auto)]
 
-ghost use Rattle.std.specs.Prelude.{◌≡◌, ◌<◌};
-ghost use Rattle.c_numbers.specs.Numbers.{gc_choice, xdrop_choice, options_of, small_options, masking_of, kind_of, count_or, flag};
+ghost use Rattle.std.specs.Prelude.{◌≡◌, ◌<◌, ◌^◌, IfOk};
+ghost use Rattle.checks.specs.Refusal.{number_of};
+ghost use Rattle.c_numbers.specs.Numbers.{gc_choice, xdrop_choice, options_of, small_options, masking_of, kind_of, count_or, count_of, flag};
 
+use checks::Refusal;
 use longdust::LongdustOptions;
 use masked_copy::Masking;
 use scans::Xdrop;
@@ -127,6 +129,17 @@ pub fn count_or_refusal(refusal: u32, count: usize) -> i64
         return count as i64;
     }
     -(refusal as i64)
+}
+
+/// The count, or minus the refusal's number.
+pub fn returned(answer: Result<usize, Refusal>) -> i64
+    requires { IfOk answer (λ count. count < 2 ^ 63) }
+    ensures { result ≡ count_or (number_of answer) (count_of answer) }
+{
+    match answer {
+        Ok(count) => count as i64,
+        Err(refusal) => -(refusal.number() as i64),
+    }
 }
 
 // The flag as a number.

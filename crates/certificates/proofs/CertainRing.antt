@@ -16,7 +16,6 @@ use Rattle.letters.specs.Terms.Entry.{decode}
 use Rattle.scans.specs.declared.Params.{Params}
 use Rattle.search.specs.declared.Certificate.{Certificate}
 use Rattle.search.specs.declared.Carry.{Carry}
-use Rattle.search.specs.declared.Scanned.{Scanned}
 use Rattle.scans.specs.Setup.{Setup, kmers}
 use Rattle.scans.specs.Counts.{raise, cleared}
 use Rattle.scans.specs.Scans.{at, dust_backward}
@@ -25,10 +24,9 @@ use Rattle.scans.specs.Terms.Numbers.{setup_of}
 use Rattle.scans.specs.Terms.Window.{ring_index, window, newest_in, Windowed, Joining}
 use Rattle.scans.specs.Terms.Units.{distance}
 use Rattle.search.specs.Terms.Certified.{Bounds, Certified}
-use Rattle.search.specs.Terms.Carry.{Carried, newest_score, CarriesOn}
-use Rattle.certificates.specs.Terms.Certain.{FindsCertain}
+use Rattle.search.specs.Terms.Carry.{Answers, Carried, newest_score, CarriesOn}
 use Rattle.scans.proofs.Counting.{count_le, below_right, raise_counted}
-use Rattle.scans.proofs.Ring.{window_length, window_newest}
+use Rattle.scans.proofs.Rings.{window_length, window_newest}
 use Rattle.scans.proofs.Touched.{touched_cleared, counted_touched, touched_more}
 use Rattle.scans.proofs.Shape.{usual_range}
 use Rattle.search.proofs.CarriedScan.{counted_unique}
@@ -74,11 +72,8 @@ module _ (p : Params) (ring : List ℕ) (head len : ℕ) (wc : List ℕ) (ln f :
   raised = subst (λ (l : List Place). Counted (kmers S) (raise counts e) l) (sym more) (raise_counted (kmers S) counts (drop start q₀) e (below_right (kmers S) q₀ (e ∷ []) all).0 n)
 
   -- Nothing is told.
-  none_found : {r : Scanned} {counts' : List ℕ} → r.found ≡ 0 → Touched counts' (drop start q) → FindsCertain S q start r counts'
-  none_found z t = record { tells = λ m. absurd (m z); touched = λ _. t }
-
-  pub none_led : {r : Scanned} → r.found ≡ 0 → FindsCertain S q start r counts
-  none_led z = none_found z (subst (λ (l : List Place). Touched counts l) (sym more) (touched_more counts (drop start q₀) (e ∷ []) (counted_touched (kmers S) counts (drop start q₀) n)))
+  pub none_led : Touched counts (drop start q)
+  none_led = subst (λ (l : List Place). Touched counts l) (sym more) (touched_more counts (drop start q₀) (e ∷ []) (counted_touched (kmers S) counts (drop start q₀) n))
 
   module _ (counts' : List ℕ) (is : counts' ≡ raise counts e) where
     pub next_touched : Touched counts' (drop start q)
@@ -86,12 +81,6 @@ module _ (p : Params) (ring : List ℕ) (head len : ℕ) (wc : List ℕ) (ln f :
 
     pub next_counted : Counted (kmers S) counts' (drop start q)
     next_counted = subst (λ (c : List ℕ). Counted (kmers S) c (drop start q)) (sym is) raised
-
-    pub none_usual : {r : Scanned} → r.found ≡ 0 → FindsCertain S q start r counts'
-    none_usual z = none_found z next_touched
-
-  pub none_made : {r : Scanned} {counts' : List ℕ} → r.found ≡ 0 → counts' ≡ cleared S → FindsCertain S q start r counts'
-  none_made z clear = none_found z (subst (λ (c : List ℕ). Touched c (drop start q)) (sym clear) (touched_cleared (kmers S) (drop start q)))
 
   -- The start is the find.
   module _ (c : Carry) (on : c.on ≡ true) (k : Carried S q₀ start c) (entry : ℕ) (is : entry ≡ newest_in ring head len) (b : Bool)
@@ -128,17 +117,14 @@ module _ (p : Params) (ring : List ℕ) (head len : ℕ) (wc : List ℕ) (ln f :
           (and_l (le (c.best ⊕ distance) sl) (le distance sl) tests) (and_r (le (c.best ⊕ distance) sl) (le distance sl) tests)
           ∙ ap (λ (z : List ℕ). record { find = at start; counts = z }) (counted_unique (kmers S) (raise counts e) counts' (drop start q) raised m)
 
-      pub certain_found : FindsCertain S q start (record { found = start + 1; carry = r }) counts'
+      pub certain_found : Answers S q (dust_backward S q) (record { found = start + 1; carry = r }) counts'
       certain_found =
-          record {
-            tells = λ _. rw find
-                (record {
-                  settles = record { find_is = rw (add-one start); counts_are = refl };
-                  begins = λ i z. let x : start ≡ i = omega arith in (r_on, subst (λ (y : ℕ). Carried S q y r) x carried);
-                  ends = λ z. absurd (let x : ⊥ = omega arith in x);
-                });
-            touched = λ z. absurd (let x : ⊥ = omega arith in x);
-          }
+          rw find
+          (record {
+            settles = record { find_is = rw (add-one start); counts_are = refl };
+            begins = λ i z. let x : start ≡ i = omega arith in (r_on, subst (λ (y : ℕ). Carried S q y r) x carried);
+            ends = λ z. absurd (let x : ⊥ = omega arith in x);
+          })
 
 -- A certificate that is made anew.
 pub remade : {S : Setup} {q : List Place} {j : ℕ} (c : Carry) (d : Certificate) → c.on ≡ true → Carried S q j c → Certified S q j d → Carried S q j (record { on = true; s = c.s; best = c.best; certificate = d })

@@ -33,7 +33,7 @@ use Rattle.scans.specs.Terms.Units.{distance}
 use Rattle.search.specs.Terms.Certified.{no_certificate, StartUnits, Bounds}
 use Rattle.certificates.specs.Terms.Made.{Making, Summed, none_read, read_of, near_most, Reads, no_middle, middle_of, Steady, ReadsNewer, older_of, OlderUnits, ReadsOlder, Able, certificate_of, Attempts, Certifies}
 use Rattle.scans.proofs.Counting.{count_le, count_snoc, below_drop, raise_counted, cleared_counted}
-use Rattle.scans.proofs.Ring.{ring_index_at, queue_at, window_at, window_length}
+use Rattle.scans.proofs.Rings.{ring_index_at, queue_at, window_at, window_length}
 use Rattle.scans.proofs.Values.{raised_value}
 use Rattle.scans.proofs.Touched.{counted_touched}
 use Rattle.scans.proofs.Walk.{queued_below, queued_as, ringed_as}
@@ -102,12 +102,17 @@ not_within a b t = go (order_of b a)
     go (inl o) = o
     go (inr o) = absurd (never (leb a b) (le→leb a b o) t)
 
+is_on : (b : Bool) → not b ≡ false → b ≡ true
+is_on true e = refl
+is_on false e = sym e
+
 read_at : (a : Reading) (i : ℕ) (v s score : Float) (near : Bool) → (read_of a i v s score near).at ≡ i
 read_at a i v s score true = refl
 read_at a i v s score false = refl
 
--- The entries from a's oldest on are read, and a certificate may still be made.
-pub record NewerRead (p : Params) (q : List Place) (ln f : List Float) (start m : ℕ) (reach : Float) (a : Reading) (b : Middle) (counts : List ℕ) : Type 0 where
+-- The entries from index `at` on are read, and a certificate may still be made.
+pub record NewerRead (p : Params) (q : List Place) (ln f : List Float) (start m : ℕ) (reach : Float) (at : ℕ) (a : Reading) (b : Middle) (counts : List ℕ) : Type 0 where
+  pub here : a.at ≡ at
   pub reach_is : reach ≡ p.drop_limit ⊖ distance
   pub counted : Counted (4 ^ p.kmer) counts (drop a.at q)
   pub reads : Reads (setup_of p ln f) q a
@@ -115,8 +120,9 @@ pub record NewerRead (p : Params) (q : List Place) (ln f : List Float) (start m 
   pub on : b.on ≡ true
   pub steady : Steady (setup_of p ln f) q m a.at b
 
--- The entries from a's oldest on are read, and older ones may matter; `top` is the start's score.
-pub record OlderRead (p : Params) (q : List Place) (ln f : List Float) (start : ℕ) (s top : Float) (a : Older) (counts : List ℕ) : Type 0 where
+-- The entries from index `at` on are read, and older ones may matter; `top` is the start's score.
+pub record OlderRead (p : Params) (q : List Place) (ln f : List Float) (start : ℕ) (s top : Float) (at : ℕ) (a : Older) (counts : List ℕ) : Type 0 where
+  pub here : a.at ≡ at
   pub top_is : top ≡ s ⊖ get_or f (length q - start) nan
   pub counted : Counted (4 ^ p.kmer) counts (drop a.at q)
   pub olds : Olds (setup_of p ln f) q start a
@@ -154,7 +160,7 @@ module _ (p : Params) (ring : List ℕ) (head len : ℕ) (ln f : List Float) (c�
 
   module _ (start m : ℕ) (start_in : start < len) (room : len + m ≤ start + p.window_size) where
     pub newer_start : (counts : List ℕ) → length counts ≡ c₀ → counts ≡ replicate (length counts) 0 → (a : Reading) → a ≡ none_read len → (b : Middle) → b ≡ no_middle len
-        → NewerRead p q ln f start m (p.drop_limit ⊖ distance) a b counts
+        → NewerRead p q ln f start m (p.drop_limit ⊖ distance) len a b counts
     newer_start counts same clear a ea b eb =
         let none : drop len q ≡ [] = subst (λ (z : ℕ). drop z q ≡ []) long (drop-length q) in
         let many : length counts ≡ kmers S = same ∙ w.counts_are in
@@ -162,6 +168,7 @@ module _ (p : Params) (ring : List ℕ) (head len : ℕ) (ln f : List Float) (c�
         rw none (subst (λ (z : List ℕ). Counted (kmers S) z []) (sym (clear ∙ ap (λ (z : ℕ). replicate z 0) many)) (cleared_counted (kmers S))) in
         rw (ea, eb)
         (record {
+          here = refl;
           reach_is = refl;
           counted = counted;
           reads = subst (λ (z : ℕ). Reads S q (none_read z)) long (reads_none S R q q_below in_window);
@@ -170,30 +177,27 @@ module _ (p : Params) (ring : List ℕ) (head len : ℕ) (ln f : List Float) (c�
           steady = subst (λ (z : ℕ). Steady S q m z (no_middle z)) long (steady_none S R q q_below in_window m);
         })
 
-    module _ (reach : Float) (a : Reading) (b : Middle) (counts : List ℕ) (k : NewerRead p q ln f start m reach a b counts) where
-      pub newer_same : length counts ≡ c₀
-      newer_same = k.counted.long ∙ sym w.counts_are
-
+    module _ (reach : Float) (at : ℕ) (a : Reading) (b : Middle) (counts : List ℕ) (k : NewerRead p q ln f start m reach at a b counts) where
       pub newer_inside : a.at ≤ len
       newer_inside = omega (arith, k.reads.inside, long)
 
-      pub newer_end : a.at ≤ start + 1 → ReadsNewer S q start m (record { reading = a; middle = b }) counts
+      pub newer_end : at ≤ start + 1 → ReadsNewer S q start m (record { reading = a; middle = b }) counts
       newer_end h =
-          let e : a.at ≡ suc start = omega (arith, k.before) in
+          let e : a.at ≡ suc start = omega (arith, k.here, k.before) in
           record { counted = k.counted; reads = k.reads; before = k.before; steady = λ _. (e, subst (λ (z : ℕ). Steady S q m z b) e k.steady) }
 
-      module _ (more : start + 1 < a.at) where
+      module _ (more : start + 1 < at) where
         abbrev i : ℕ
-        i = a.at - 1
+        i = at - 1
 
         abbrev l : ℕ
         l = len - i
 
         here : a.at ≡ suc i
-        here = omega arith
+        here = omega (arith, k.here)
 
         i_in : i < len
-        i_in = omega (arith, newer_inside)
+        i_in = omega (arith, here, newer_inside)
 
         at_end : i + l ≡ length q
         at_end = omega (arith, i_in, long)
@@ -227,14 +231,16 @@ module _ (p : Params) (ring : List ℕ) (head len : ℕ) (ln f : List Float) (c�
               rw ea
               (reads_next S R q q_below in_window a i l at_end here v (value_next S R q q_below i (omega (arith, i_in, long)) counts counted_here v counts' taken) k.reads (leb l near_most) (leb→le l near_most) (not_within l near_most))
 
-          pub newer_next : b'.on ≡ true → NewerRead p q ln f start m reach a' b' counts'
-          newer_next on =
+          pub newer_next : not b'.on ≡ false → NewerRead p q ln f start m reach i a' b' counts'
+          newer_next going =
+              let on = is_on b'.on going in
               let e : a.at ≡ suc a'.at = here ∙ ap suc (sym at_is) in
               let was : Steady S q m (suc a'.at) b = subst (λ (z : ℕ). Steady S q m z b) e k.steady in
               let r : Float = p.drop_limit ⊖ distance in
               let eb' : b' ≡ middle_of b a' (a'.s ⊖ get_or f (l + m) nan) r = eb ∙ ap (λ (x : Float). middle_of b a' (a'.s ⊖ get_or f (l + m) nan) x) k.reach_is in
               let st = steady_next S R q q_below in_window w.drop_ranged m a' l (omega (arith, at_is, at_end)) (omega (arith, i_in)) (omega (arith, i_in)) reads_more b was in
               record {
+                here = at_is;
                 reach_is = k.reach_is;
                 counted = counted_more;
                 reads = reads_more;
@@ -243,49 +249,41 @@ module _ (p : Params) (ring : List ℕ) (head len : ℕ) (ln f : List Float) (c�
                 steady = subst (λ (x : Middle). Steady S q m a'.at x) (sym eb') (st (sym (ap (λ (x : Middle). x.on) eb') ∙ on));
               }
 
-          pub newer_stop : b'.on ≡ false → ReadsNewer S q start m (record { reading = a'; middle = b' }) counts'
+          pub newer_stop : not b'.on ≡ true → ReadsNewer S q start m (record { reading = a'; middle = b' }) counts'
           newer_stop off =
-              record { counted = counted_more; reads = reads_more; before = omega (arith, at_is); steady = λ on. absurd (true≢false (sym on ∙ off)) }
-
-          pub newer_less : a'.at < a.at
-          newer_less = omega (arith, at_is)
+              record { counted = counted_more; reads = reads_more; before = omega (arith, at_is); steady = λ on. absurd (true≢false (sym off ∙ ap not on)) }
 
   -- ---- The loop over the entries older than the start.
   module _ (start : ℕ) (start_in : start < len) (s : Float) (summed : Summed S (drop start q) s) where
-    pub older_start : (counts : List ℕ) → Counted c₀ counts (drop start q) → OlderRead p q ln f start s (s ⊖ get_or f (len - start) nan) (record { at = start; s = s; gap = two_to20; done = false }) counts
+    pub older_start : (counts : List ℕ) → Counted c₀ counts (drop start q) → OlderRead p q ln f start s (s ⊖ get_or f (len - start) nan) start (record { at = start; s = s; gap = two_to20; done = false }) counts
     older_start counts c =
         record {
+          here = refl;
           top_is = rw long;
           counted = subst (λ (z : ℕ). Counted z counts (drop start q)) w.counts_are c;
           olds = olds_none S R q q_below in_window start (omega (arith, long)) s summed;
         }
 
-    module _ (top : Float) (a : Older) (counts : List ℕ) (k : OlderRead p q ln f start s top a counts) where
-      pub older_same : length counts ≡ c₀
-      older_same = k.counted.long ∙ sym w.counts_are
-
-      pub older_end : a.at ≡ 0 → ReadsOlder S q start a counts
+    module _ (top : Float) (at : ℕ) (a : Older) (counts : List ℕ) (k : OlderRead p q ln f start s top at a counts) where
+      pub older_end : at ≡ 0 → ReadsOlder S q start a counts
       older_end e =
-          record { counted = k.counted; inside = k.olds.inside; older = olds_ended S R q q_below in_window start (omega (arith, long)) s summed a e k.olds }
+          record { counted = k.counted; inside = k.olds.inside; older = olds_ended S R q q_below in_window start (omega (arith, long)) s summed a (k.here ∙ e) k.olds }
 
-      module _ (more : 0 < a.at) where
+      module _ (more : 0 < at) where
         abbrev i' : ℕ
-        i' = a.at - 1
+        i' = at - 1
 
         abbrev l' : ℕ
         l' = len - i'
 
         here' : a.at ≡ suc i'
-        here' = omega arith
+        here' = omega (arith, k.here)
 
         pub older_in : i' < len
-        older_in = omega (arith, k.olds.inside)
+        older_in = omega (arith, here', k.olds.inside)
 
         at_end' : i' + l' ≡ length q
         at_end' = omega (arith, older_in, long)
-
-        pub older_asks : (Queued ring head len (length counts) × (length ring < length ln) × (i' < len)) × Counted (length counts) counts (drop (i' + 1) q)
-        older_asks = asks a.at i' here' older_in counts k.counted
 
         module _ (v : Float) (counts' : List ℕ) (taken : CountsEntry ln counts (get_or q i' ambiguous) v counts')
             (a' : Older) (ea : a' ≡ older_of a i' (a.s ⊕ (v ⊖ p.score_threshold)) (top ⊖ (a.s ⊕ (v ⊖ p.score_threshold) ⊖ get_or f l' nan)) p.drop_limit) where
@@ -304,22 +302,19 @@ module _ (p : Params) (ring : List ℕ) (head len : ℕ) (ln f : List Float) (c�
           ea' : a' ≡ older_of a i' s' (s ⊖ f_at S (length q - start) ⊖ (s' ⊖ f_at S l')) p.drop_limit
           ea' = ea ∙ ap (λ (x : Float). older_of a i' s' (x ⊖ (s' ⊖ get_or f l' nan)) p.drop_limit) k.top_is
 
-          pub older_next : OlderRead p q ln f start s top a' counts'
+          pub older_next : OlderRead p q ln f start s top i' a' counts'
           older_next =
               rw ea'
-              (record { top_is = k.top_is; counted = counted_more'; olds = olds_next S R q q_below in_window start (omega (arith, long)) s summed a i' l' at_end' here' v value k.olds })
+              (record { here = refl; top_is = k.top_is; counted = counted_more'; olds = olds_next S R q q_below in_window start (omega (arith, long)) s summed a i' l' at_end' here' v value k.olds })
 
           pub older_stop : a'.done ≡ true → ReadsOlder S q start a' counts'
           older_stop done =
               subst (λ (x : Older). ReadsOlder S q start x counts') (sym ea')
               (record {
                 counted = counted_more';
-                inside = omega (arith, k.olds.inside);
+                inside = omega (arith, here', k.olds.inside);
                 older = olds_stopped S R q q_below in_window start (omega (arith, long)) s summed a i' l' at_end' here' v value k.olds w.drop_ranged (sym (ap (λ (x : Older). x.done) ea') ∙ done);
               })
-
-          pub older_less : a'.at < a.at
-          older_less = rw ea (omega arith)
 
   -- ---- The certificate.
   making_as : (n : ℕ) → n ≡ c₀ → Making p ring head len ln f n
@@ -336,19 +331,9 @@ module _ (p : Params) (ring : List ℕ) (head len : ℕ) (ln f : List Float) (c�
   attempt_none start i counts h k c e = record { inside = h; counted = k; made = λ on. absurd (true≢false (sym on ∙ ap (λ (x : Certificate). x.on) e)) }
 
   module _ (start m : ℕ) (start_in : start < len) (room : len + m ≤ start + p.window_size) (r : Newer) (counts : List ℕ) (k : ReadsNewer S q start m r counts) where
-    pub attempt_newer : (c : Certificate) → c ≡ no_certificate → Attempts S q start (record { certificate = c; at = r.reading.at }) counts
-    attempt_newer = attempt_none start r.reading.at counts k.reads.inside k.counted
-
-    module _ (on : r.middle.on ≡ true) where
-      pub start_asks : (Queued ring head len (length counts) × (length ring < length ln) × (start < len)) × Counted (length counts) counts (drop (start + 1) q)
-      start_asks = asks r.reading.at start (k.steady on).0 start_in counts k.counted
-
-      pub start_fits : (len - start + m ≤ 65535) × (len - start + m < length f)
-      start_fits =
-          let u = w.ringed.queued.small in
-          let x = w.ringed.f_long in
-          let y = w.ring_is in
-          (omega arith, omega arith)
+    module _ (going : not r.middle.on ≡ false) where
+      on : r.middle.on ≡ true
+      on = is_on r.middle.on going
 
       pub near_in : r.middle.near ≤ len
       near_in = omega (arith, (k.steady on).1.low.within, long)
@@ -430,8 +415,6 @@ module _ (p : Params) (ring : List ℕ) (head len : ℕ) (ln f : List Float) (c�
               })
 
 -- ---- A certificate or none, by the code's tests.
-pub certifies_none : (S : Setup) (q : List Place) (start : ℕ) (counts : List ℕ) → counts ≡ cleared S → (c : Certificate) → c ≡ no_certificate → Certifies S q start c counts
-certifies_none S q start counts clear c e = record { made = λ on. absurd (true≢false (sym on ∙ ap (λ (x : Certificate). x.on) e)); none = λ _. clear }
 
 module _ (p : Params) (ring : List ℕ) (head len : ℕ) (ln f : List Float) (counts₀ : List ℕ) (r : Ringed ring head len (length ln) (length f) (length counts₀))
     (ring_is : length ring ≡ p.window_size) (start : ℕ) (start_in : start < len) (clear : counts₀ ≡ replicate (4 ^ p.kmer) 0) (shaped : Shaped p ln f) where
@@ -444,9 +427,8 @@ module _ (p : Params) (ring : List ℕ) (head len : ℕ) (ln f : List Float) (co
   many₀ : length counts₀ ≡ kmers S₁
   many₀ = ap length clear ∙ length-replicate (4 ^ p.kmer) 0
 
-  pub making_begins : (told : Bool) → Able p ln told → told ≡ true → (m : ℕ) → m ≤ length ring - (len - start)
-      → Making p ring head len ln f (length counts₀) × ((start < len) × (len + m ≤ start + p.window_size) × (counts₀ ≡ replicate (length counts₀) 0))
-  making_begins told able on m few =
+  pub making_begins : (told : Bool) → Able p ln told → told ≡ true → Making p ring head len ln f (length counts₀)
+  making_begins told able on =
       let a : Bool = p.usual in
       let b : Bool = le (get_or ln 1 nan) zero64 in
       let c : Bool = le distance p.score_threshold in
@@ -456,21 +438,19 @@ module _ (p : Params) (ring : List ℕ) (head len : ℕ) (ln f : List Float) (co
       let rest = and_r a (b && (c && (d && e))) all in
       let more = and_r b (c && (d && e)) rest in
       let drops = and_r c (d && e) more in
-      let ranged = ranged_20 p.drop_limit able.fitting (and_l d e drops) (and_r d e drops) in (
-        record {
-          ringed = r;
-          ring_is = ring_is;
-          counts_are = many₀;
-          able = record {
-            usual = shaped.told (true_is a (and_l a (b && (c && (d && e))) all));
-            ln_first = and_l b (c && (d && e)) rest;
-            t_some = and_l c (d && e) more;
-            drop_number = ranged.ok;
-          };
-          drop_ranged = ranged;
-        },
-        (start_in, omega (arith, r.queued.len_in), clear ∙ ap (λ (z : ℕ). replicate z 0) (sym many₀)),
-      )
+      let ranged = ranged_20 p.drop_limit able.fitting (and_l d e drops) (and_r d e drops) in
+      record {
+        ringed = r;
+        ring_is = ring_is;
+        counts_are = many₀;
+        able = record {
+          usual = shaped.told (true_is a (and_l a (b && (c && (d && e))) all));
+          ln_first = and_l b (c && (d && e)) rest;
+          t_some = and_l c (d && e) more;
+          drop_number = ranged.ok;
+        };
+        drop_ranged = ranged;
+      }
     where
       true_is : (x : Bool) → T x → x ≡ true
       true_is true t = refl
@@ -480,22 +460,8 @@ module _ (p : Params) (ring : List ℕ) (head len : ℕ) (ln f : List Float) (co
     same : length counts ≡ length counts₀
     same = k.counted.long ∙ sym many₀
 
-    pub uncount_asks : a.certificate.on ≡ true → Queued ring head len (length counts) × ((a.at ≤ start) × (start ≤ len) × Counted (length counts) counts (drop a.at q₁))
-    uncount_asks on =
-        (queued_as (length counts) same r.queued, ((k.made on).0, omega arith, subst (λ (z : ℕ). Counted z counts (drop a.at q₁)) (sym k.counted.long) k.counted))
-
-    pub certifies_made : a.certificate.on ≡ true → (counts' : List ℕ) → Counted (length counts) counts' (drop start q₁) → Certifies S₁ q₁ start a.certificate counts'
-    certifies_made on counts' c =
-        record {
-          made = λ _. (record { bounds = λ yes. (k.made yes).1 }, subst (λ (z : ℕ). Counted z counts' (drop start q₁)) k.counted.long c);
-          none = λ off. absurd (true≢false (sym on ∙ off));
-        }
-
     pub clear_asks : Queued ring head len (length counts) × ((a.at ≤ len) × Touched counts (drop a.at q₁))
     clear_asks = (
       queued_as (length counts) same r.queued,
       (omega (arith, k.inside, window_length ring head len r.queued.head_in r.queued.len_in), counted_touched (kmers S₁) counts (drop a.at q₁) k.counted),
     )
-
-    pub certifies_failed : (counts' : List ℕ) → counts' ≡ replicate (length counts) 0 → (c : Certificate) → c ≡ no_certificate → Certifies S₁ q₁ start c counts'
-    certifies_failed counts' e = certifies_none S₁ q₁ start counts' (e ∙ ap (λ (z : ℕ). replicate z 0) k.counted.long)

@@ -6,10 +6,11 @@ use mathlib.Core.Logic.{◌⊎◌, inl, inr}
 use Prim.Native.Nat.{ℕ, suc, ◌+◌, ◌*◌, ◌-◌, ◌/◌, ◌%◌, ◌^◌, ◌≤◌, ◌<◌}
 use native.Mathlib.Nat.{mul-le-mul_left, mul-le-mul_right}
 use native.Mathlib.Omega.{arith}
+use Rattle.std.specs.Prelude.{Option, Some, None, IfSome}
 use lib.ListN.{length, get_or, take, drop, replicate, length-take, length-drop, length-replicate}
 use lib.Seq.{drop-cons}
 use lib.Dec.{T, not_T}
-use borrow.Author.Tests.{ltb-true}
+use Rattle.std.proofs.Common.{ltb, ltb→lt}
 use lib.Ieee.{Float, binary64, lt, le, neg, of_bits, of_fields}
 use Rattle.floats.specs.Arithmetic.{◌⊕◌, ◌⊖◌}
 use Rattle.floats.specs.Binary64.{one, zero64, two_to20}
@@ -22,11 +23,10 @@ use Rattle.letters.specs.Terms.Entry.{decode}
 use Rattle.letters.proofs.Entries.{decode_plain}
 use Rattle.certificates.specs.declared.LowStarts.{LowStarts}
 use Rattle.scans.specs.declared.Params.{Params}
-use Rattle.certificates.specs.declared.low.LowRead.{LowRead}
 use Rattle.certificates.specs.declared.low.NearRead.{NearRead}
 use Rattle.scans.specs.declared.backward.BackwardState.{BackwardState}
 use Rattle.scans.specs.Setup.{Setup, f_at, kmers}
-use Rattle.scans.specs.Counts.{hit, count, cleared}
+use Rattle.scans.specs.Counts.{hit, count}
 use Rattle.scans.specs.Terms.Counted.{Counted, Touched}
 use Rattle.scans.specs.Terms.Numbers.{setup_of}
 use Rattle.scans.specs.Terms.Shape.{Usual}
@@ -36,11 +36,11 @@ use Rattle.scans.specs.Terms.Units.{distance, gain, loss}
 use Rattle.search.specs.Terms.Certified.{Kept}
 use Rattle.certificates.specs.Terms.Made.{larger}
 use Rattle.search.specs.Terms.Fails.{TellsNone}
-use Rattle.certificates.specs.Terms.Low.{near_starts, no_low_starts, low_starts_to, LowBounds, Low, FindsLow, ReadsNewest, ReadsLow, ReadsNear}
+use Rattle.certificates.specs.Terms.Low.{near_starts, low_starts_to, LowBounds, ReadsNewest, ReadsLow, ReadsNear}
 use Rattle.scans.proofs.Test.{by_test}
 use Rattle.scans.proofs.Counting.{hit_self, count_le, below_drop, below_take}
 use Rattle.scans.proofs.Gain.{gain_bound}
-use Rattle.scans.proofs.Ring.{ring_index_at}
+use Rattle.scans.proofs.Rings.{ring_index_at}
 use Rattle.scans.proofs.Windows.{long, count_in, entry_in, entry_place}
 use Rattle.scans.proofs.Walk.{windowed_queued, queued_below}
 use Rattle.scans.proofs.Touched.{counted_touched}
@@ -156,9 +156,6 @@ module _ (p : Params) (ring : List ℕ) (head len : ℕ) (window_counts : List �
     pub read_inside : l ≤ len
     read_inside = omega (arith, k.inside, long w)
 
-    pub read_same : (counts₀ : List ℕ) → counts₀ ≡ replicate (4 ^ p.kmer) 0 → length counts ≡ length counts₀
-    read_same counts₀ clear = k.counted.long ∙ sym (ap length clear ∙ length-replicate (4 ^ p.kmer) 0)
-
     read_counted : Counted (kmers S) counts (drop (len - l) q)
     read_counted = subst (λ (n : ℕ). Counted (kmers S) counts (drop (n - l) q)) (long w) k.counted
 
@@ -224,11 +221,11 @@ module _ (p : Params) (ring : List ℕ) (head len : ℕ) (window_counts : List �
         record { newest = newest_none S q a len counts fresh clear; near = omega arith; below = λ k some h. absurd (let z : ⊥ = omega arith in z); still = λ _. refl; moved = λ some h. absurd (let z : ⊥ = omega arith in z) }
 
     module _ (l : ℕ) (a : BackwardState) (bound : Float) (counts : List ℕ) (k : Near' l a bound counts) where
-      pub near_end : age + near_starts ≤ l → ReadsNear S q (record { told = lt bound (neg distance); at = len - l }) counts
+      pub near_end : age + near_starts ≤ l → ReadsNear S q (record { told = lt bound (neg distance); at = len - (age + near_starts) }) counts
       near_end ended =
           record {
             inside = omega (arith, long w);
-            counted = read_counted l a counts k.newest;
+            counted = let e : l ≡ age + near_starts = omega (arith, k.near) in subst (λ (n : ℕ). Counted (kmers S) counts (drop (len - n) q)) e (read_counted l a counts k.newest);
             told = λ told.
                 nothing_low S q q_below in_window age low (subst (λ (n : ℕ). LowBounds S (take (n - age) q) low) (sym (long w)) known) (omega (arith, long w)) bound k.still (λ some. k.moved some (omega arith)) (so _ told)
                 (λ j some h. not_zero (x S q j) (k.below j some (omega arith)));
@@ -280,12 +277,13 @@ module _ (p : Params) (ring : List ℕ) (head len : ℕ) (window_counts : List �
     pub low_start : (a : BackwardState) (counts : List ℕ) → Fresh len a → counts ≡ replicate (4 ^ p.kmer) 0 → LowReading S q 0 a (neg two_to20) counts
     low_start a counts fresh clear = record { newest = newest_none S q a len counts fresh clear; kept = lowest_kept; low = λ k far h. absurd (let z : ⊥ = omega arith in z) }
 
-    known_to : (l : ℕ) → l ≤ length q → (score : Float) → Kept 0 score → ((k : ℕ) → near_starts < k → k ≤ l → T (le (x S q k) score)) → T (le (y S q l) score) ⊎ (l ≡ length q) → Low S q (low_starts_to l score)
+    known_to : (l : ℕ) → l ≤ length q → (score : Float) → Kept 0 score → ((k : ℕ) → near_starts < k → k ≤ l → T (le (x S q k) score)) → T (le (y S q l) score) ⊎ (l ≡ length q) → IfSome (low_starts_to l score) (LowBounds S q)
     known_to l inside score kept low ends =
-        record { bounds = λ on. subst (λ (z : Bool). LowBounds S q (record { on = z; reach = l; score = score })) (sym on) (low_made S u q q_below in_window l (ltb-true _ _ on) inside score kept low ends) }
+        by_test (λ (c : Option LowStarts). IfSome c (LowBounds S q)) (ltb near_starts l) (Some (record { reach = l; score = score })) None
+        (λ far. low_made S u q q_below in_window l (ltb→lt near_starts l far) inside score kept low ends) (λ _. tt)
 
     module _ (l : ℕ) (a : BackwardState) (score : Float) (counts : List ℕ) (k : LowReading S q l a score counts) where
-      pub low_end : len ≤ l → (c : LowStarts) → c ≡ low_starts_to len score → ReadsLow S q (record { low = c; at = 0 }) counts
+      pub low_end : len ≤ l → (c : Option LowStarts) → c ≡ low_starts_to len score → ReadsLow S q (record { low = c; at = 0 }) counts
       low_end ended c is =
           let e : l ≡ len = omega (arith, read_inside l a counts k.newest) in
           let z : len - l ≡ 0 = omega arith in
@@ -307,9 +305,8 @@ module _ (p : Params) (ring : List ℕ) (head len : ℕ) (window_counts : List �
         pub low_near : l + 1 ≤ near_starts → LowReading S q (l + 1) b score counts'
         low_near h = record { newest = low_read; kept = k.kept; low = λ j far o. absurd (let z : ⊥ = omega arith in z) }
 
-        pub low_none : (c : LowStarts) → c ≡ no_low_starts → ReadsLow S q (record { low = c; at = len - (l + 1) }) counts'
-        low_none c is =
-            record { inside = omega (arith, long w); counted = counted; low = rw is (record { bounds = λ e. absurd (true≢false (sym e)) }) }
+        pub low_none : ReadsLow S q (record { low = None; at = len - (l + 1) }) counts'
+        low_none = record { inside = omega (arith, long w); counted = counted; low = tt }
 
         module _ (score' : Float) (s_is : score' ≡ larger score (b.s ⊖ f_at S (l + 1))) where
           x_is : b.s ⊖ f_at S (l + 1) ≡ x S q (l + 1)
@@ -329,7 +326,7 @@ module _ (p : Params) (ring : List ℕ) (head len : ℕ) (window_counts : List �
           pub low_next : LowReading S q (l + 1) b score' counts'
           low_next = record { newest = low_read; kept = kept_next; low = low_upto }
 
-          pub low_stops : (score'' : Float) → score'' ≡ larger score' (b.sw ⊖ f_at S (l + 1)) → (c : LowStarts) → c ≡ low_starts_to (l + 1) score'' → ReadsLow S q (record { low = c; at = len - (l + 1) }) counts'
+          pub low_stops : (score'' : Float) → score'' ≡ larger score' (b.sw ⊖ f_at S (l + 1)) → (c : Option LowStarts) → c ≡ low_starts_to (l + 1) score'' → ReadsLow S q (record { low = c; at = len - (l + 1) }) counts'
           low_stops score'' e c is =
               let y_is = y_here l a counts k.newest more at i b counts' adds in
               let y_number : Kept 0 (b.sw ⊖ f_at S (l + 1)) = rw y_is (y_kept S u q q_below in_window (l + 1) (omega arith) low_read.inside) in
@@ -342,13 +339,4 @@ module _ (p : Params) (ring : List ℕ) (head len : ℕ) (window_counts : List �
                     (λ j far h. le_trans (x S q j) score' (larger score' (b.sw ⊖ f_at S (l + 1))) (low_upto j far h) (larger_left kept_next y_number))
                     (inl (subst (λ (z : Float). T (le z (larger score' (b.sw ⊖ f_at S (l + 1))))) y_is (larger_right kept_next y_number))));
               }
-
-  -- ---- The counts are cleared again.
-  pub finds_nothing : (counts : List ℕ) → counts ≡ cleared S → (c : LowStarts) → c ≡ no_low_starts → FindsLow S q c counts
-  finds_nothing counts clear c is = record { low = rw is (record { bounds = λ e. absurd (true≢false (sym e)) }); clear = clear }
-
-  pub finds_read : (r : LowRead) (counts : List ℕ) → ReadsLow S q r counts → (counts' : List ℕ) → counts' ≡ replicate (length counts) 0 → FindsLow S q r.low counts'
-  finds_read r counts k counts' clear = record { low = k.low; clear = clear ∙ ap (λ (n : ℕ). replicate n 0) k.counted.long }
-
-  pub tells_read : (r : NearRead) (counts : List ℕ) → ReadsNear S q r counts → (counts' : List ℕ) → counts' ≡ replicate (length counts) 0 → TellsNone S q r.told counts'
-  tells_read r counts k counts' clear = record { told = k.told; clear = clear ∙ ap (λ (n : ℕ). replicate n 0) k.counted.long }
+          -- ---- The counts are cleared again.

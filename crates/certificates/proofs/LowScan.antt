@@ -4,7 +4,7 @@ use mathlib.Core.Path.{◌≡◌, refl, sym, ap, ◌∙◌, subst}
 use Prim.Native.Nat.{ℕ, zero, suc, ◌+◌, ◌*◌, ◌-◌, ◌≤◌, ◌<◌}
 use native.Mathlib.Nat.{eq-zero-or-pos, mul-le-mul_left, mul-le-mul_right}
 use native.Mathlib.Omega.{arith}
-use mathlib.Core.Bool.{true, cond, not}
+use mathlib.Core.Bool.{cond, not}
 use mathlib.Core.Logic.{◌⊎◌, inl, inr}
 use mathlib.Core.List.{List, [], ◌∷◌, ◌++◌, reverse}
 use lib.ListN.{length, take, drop, length-take, length-drop, take-append-drop}
@@ -30,7 +30,7 @@ use Rattle.scans.specs.Terms.Units.{margin, distance, gain, loss}
 use Rattle.search.specs.Terms.Certified.{Kept}
 use Rattle.certificates.specs.Terms.Made.{AtLeast}
 use Rattle.scans.specs.Terms.Parts.{fallen_to}
-use Rattle.certificates.specs.Terms.Low.{near_starts, LowBounds, Low}
+use Rattle.certificates.specs.Terms.Low.{near_starts, LowBounds}
 use Rattle.scans.proofs.Test.{by_test}
 use Rattle.scans.proofs.Counting.{below_drop}
 use Rattle.scans.proofs.Gain.{InRange, gain_none, gain_cons, gain_bound}
@@ -113,13 +113,10 @@ low_left S e q b long c k =
           );
     }
 
-bounds_drop : (S : Setup) (q : List Place) → Below (kmers S) q → length q ≤ S.window_size → (d : ℕ) (c : LowStarts) → LowBounds S q c → LowBounds S (drop d q) c
-bounds_drop S q b long zero c k = k
-bounds_drop S [] b long (suc d) c k = k
-bounds_drop S (e ∷ q) b long (suc d) c k = bounds_drop S q b.1 (omega arith) d c (low_left S e q b long c k)
-
-pub low_drop : (S : Setup) (q : List Place) → Below (kmers S) q → length q ≤ S.window_size → (d : ℕ) (c : LowStarts) → Low S q c → Low S (drop d q) c
-low_drop S q b long d c k = record { bounds = λ on. bounds_drop S q b long d c (k.bounds on) }
+pub low_drop : (S : Setup) (q : List Place) → Below (kmers S) q → length q ≤ S.window_size → (d : ℕ) (c : LowStarts) → LowBounds S q c → LowBounds S (drop d q) c
+low_drop S q b long zero c k = k
+low_drop S [] b long (suc d) c k = k
+low_drop S (e ∷ q) b long (suc d) c k = low_drop S q b.1 (omega arith) d c (low_left S e q b long c k)
 
 -- ---- The scores of a window by exact ones.
 module _ (S : Setup) (u : Usual S) (q : List Place) (b : Below (kmers S) q) (long : length q ≤ S.window_size) where
@@ -150,7 +147,7 @@ module _ (S : Setup) (u : Usual S) (q : List Place) (b : Below (kmers S) q) (lon
         let all : AtLeast score (gain S q) (loss S l) = subst (λ (i : ℕ). AtLeast score (gain S (drop i q)) (loss S l)) z (made_low a l at far (omega arith)) in
         omega arith
 
-    pub low_made : T (le (y S q l) score) ⊎ (l ≡ n S q) → LowBounds S q (record { on = true; reach = l; score = score })
+    pub low_made : T (le (y S q l) score) ⊎ (l ≡ n S q) → LowBounds S q (record { reach = l; score = score })
     low_made ends = record { usual = u; kept = kept; reaches = far; low = made_low; ends = made_ends ends }
 
 -- ---- `age` places later.

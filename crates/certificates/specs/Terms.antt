@@ -1,3 +1,2 @@
 pub mod Made
-pub mod Certain
 pub mod Low

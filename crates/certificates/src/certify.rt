@@ -2,14 +2,12 @@
 
 ghost use Rattle.std.specs.Prelude.{◌≡◌, ◌+◌, ◌-◌, ◌^◌, ◌<◌, ◌≤◌, length, get_or, drop, replicate};
 ghost use Rattle.letters.specs.Place.{ambiguous};
-ghost use Rattle.scans.specs.Terms.Numbers.{setup_of};
 ghost use Rattle.scans.specs.Terms.Counted.{Counted};
-ghost use Rattle.scans.specs.Terms.Window.{window, CountsEntry};
-ghost use Rattle.scans.specs.Terms.Parts.{Queued, Ringed};
-ghost use Rattle.scans.specs.Terms.Shape.{Shaped};
-ghost use Rattle.certificates.specs.Terms.Made.{larger, smaller, none_read, read_of, no_middle, middle_of, older_of, certificate_of, Able, Making, Summed, ReadsNewer, ReadsOlder, Attempts, Certifies};
+ghost use Rattle.scans.specs.Terms.Run.{as_setup, entries_of, KmersCounted, TablesReach};
+ghost use Rattle.scans.specs.Terms.Window.{CountsEntry};
+ghost use Rattle.certificates.specs.Terms.Made.{larger, smaller, none_read, read_of, no_middle, middle_of, older_of, certificate_of, Able, Makes, Summed, ReadsNewer, ReadsOlder, Attempts, Certifies};
 
-use scans::{Params, clear_from, count_entry, ring_index, uncount};
+use scans::{Ring, Setup, count_entry};
 use search::{Certificate, DISTANCE};
 
 // A certificate lasts at most this many letters,
@@ -46,21 +44,14 @@ fn smaller(a: f64, b: f64) -> f64
 }
 
 // Counts entry i, the entries after it being counted, and answers the ln entry of its raised count, 0 if ambiguous.
-fn read_entry(
-    queue: &[u32],
-    head: usize,
-    len: usize,
-    i: usize,
-    ln: &[f64],
-    scan_counts: &mut [u16],
-) -> f64
-    requires queued { Queued queue.now head len (length scan_counts.old) × (length queue.now < length ln.now) × (i < len) }
-    requires counted { Counted (length scan_counts.old) scan_counts.old (drop (i + 1) (window queue.now head len)) }
-    ensures { CountsEntry ln.now scan_counts.old (get_or (window queue.now head len) i ambiguous) result
+fn read_entry(setup: &Setup, ring: &Ring, i: usize, scan_counts: &mut [u16]) -> f64
+    requires queued { KmersCounted ring.now (length scan_counts.old) × (length ring.now.queue.now < length setup.now.ln.now) × (i < ring.now.len) }
+    requires counted { Counted (length scan_counts.old) scan_counts.old (drop (i + 1) (entries_of ring.now)) }
+    ensures { CountsEntry setup.now.ln.now scan_counts.old (get_or (entries_of ring.now) i ambiguous) result
         scan_counts.new }
 {
-    let at = ring_index(queue.len(), head, i);
-    count_entry(scan_counts, ln, queue[at])
+    let at = ring.index(i);
+    count_entry(scan_counts, setup.ln, ring.queue[at])
 }
 
 // What is known of the entries from `at` on: the sum, a bound of all their scores, one of those of the entries that are not near,
@@ -172,40 +163,30 @@ struct Newer {
 }
 
 // Reads the entries newer than the start, from cleared counts, for a certificate of m letters.
-fn read_newer(
-    p: Params,
-    start: usize,
-    m: usize,
-    queue: &[u32],
-    head: usize,
-    len: usize,
-    ln: &[f64],
-    f: &[f64],
-    scan_counts: &mut [u16],
-) -> Newer
-    requires making { Making p queue.now head len ln.now f.now (length scan_counts.old) }
-    requires start_lt_len { (start < len) × (len + m ≤ start + p.window_size)
+fn read_newer(setup: &Setup, start: usize, m: usize, ring: &Ring, scan_counts: &mut [u16]) -> Newer
+    requires making { Makes setup.now ring.now (length scan_counts.old) }
+    requires start_lt_len { (start < ring.now.len) × (ring.now.len + m ≤ start + setup.now.params.window_size)
         × (scan_counts.old ≡ replicate (length scan_counts.old) 0) }
-    ensures { ReadsNewer (setup_of p ln.now f.now) (window queue.now head len) start m result
+    ensures { ReadsNewer (as_setup setup.now) (entries_of ring.now) start m result
         scan_counts.new }
 {
-    let mut a = Reading::new(len);
-    let mut b = Middle::new(len);
-    let reach = p.drop_limit - DISTANCE;
-    while start + 1 < a.at {
-        let i = a.at - 1;
-        let v = read_entry(queue, head, len, i, ln, scan_counts);
-        let l = len - i;
-        let s = a.s + (v - p.score_threshold);
+    let f = setup.f;
+    let t = setup.params.score_threshold;
+    let mut a = Reading::new(ring.len);
+    let mut b = Middle::new(ring.len);
+    let reach = setup.params.drop_limit - DISTANCE;
+    for i in (start + 1..ring.len).rev() {
+        let v = read_entry(setup, ring, i, scan_counts);
+        let l = ring.len - i;
+        let s = a.s + (v - t);
         a = a.read(i, v, s, s - f[l], l <= NEAR);
         b = b.read(a, a.s - f[l + m], reach);
-        if b.on {
-            continue;
+        if !b.on {
+            return Newer {
+                reading: a,
+                middle: b,
+            };
         }
-        return Newer {
-            reading: a,
-            middle: b,
-        };
     }
     Newer {
         reading: a,
@@ -237,35 +218,26 @@ impl Older {
 }
 
 // Reads the entries older than the start, the others being counted and s their sum.
-fn read_older(
-    p: Params,
-    start: usize,
-    s: f64,
-    queue: &[u32],
-    head: usize,
-    len: usize,
-    ln: &[f64],
-    f: &[f64],
-    scan_counts: &mut [u16],
-) -> Older
-    requires making { Making p queue.now head len ln.now f.now (length scan_counts.old) }
-    requires start_lt_len { (start < len) × Summed (setup_of p ln.now f.now) (drop start (window queue.now head len)) s
-        × Counted (length scan_counts.old) scan_counts.old (drop start (window queue.now head len)) }
-    ensures { ReadsOlder (setup_of p ln.now f.now) (window queue.now head len) start result
+fn read_older(setup: &Setup, start: usize, s: f64, ring: &Ring, scan_counts: &mut [u16]) -> Older
+    requires making { Makes setup.now ring.now (length scan_counts.old) }
+    requires start_lt_len { (start < ring.now.len) × Summed (as_setup setup.now) (drop start (entries_of ring.now)) s
+        × Counted (length scan_counts.old) scan_counts.old (drop start (entries_of ring.now)) }
+    ensures { ReadsOlder (as_setup setup.now) (entries_of ring.now) start result
         scan_counts.new }
 {
-    let top = s - f[len - start];
+    let f = setup.f;
+    let p = setup.params;
+    let top = s - f[ring.len - start];
     let mut a = Older {
         at: start,
         s: s,
         gap: HIGHEST,
         done: false,
     };
-    while 0 < a.at {
-        let i = a.at - 1;
-        let v = read_entry(queue, head, len, i, ln, scan_counts);
+    for i in (0..start).rev() {
+        let v = read_entry(setup, ring, i, scan_counts);
         let t = a.s + (v - p.score_threshold);
-        let score = t - f[len - i];
+        let score = t - f[ring.len - i];
         a = a.read(i, t, top - score, p.drop_limit);
         if a.done {
             return a;
@@ -283,23 +255,19 @@ struct Attempt {
 
 // Reads for a certificate of m letters of the start, from cleared counts.
 fn make_certificate(
-    p: Params,
+    setup: &Setup,
     start: usize,
     m: usize,
-    queue: &[u32],
-    head: usize,
-    len: usize,
-    ln: &[f64],
-    f: &[f64],
+    ring: &Ring,
     scan_counts: &mut [u16],
 ) -> Attempt
-    requires making { Making p queue.now head len ln.now f.now (length scan_counts.old) }
-    requires start_lt_len { (start < len) × (len + m ≤ start + p.window_size)
+    requires making { Makes setup.now ring.now (length scan_counts.old) }
+    requires start_lt_len { (start < ring.now.len) × (ring.now.len + m ≤ start + setup.now.params.window_size)
         × (scan_counts.old ≡ replicate (length scan_counts.old) 0) }
-    ensures { Attempts (setup_of p ln.now f.now) (window queue.now head len) start result
+    ensures { Attempts (as_setup setup.now) (entries_of ring.now) start result
         scan_counts.new }
 {
-    let newer = read_newer(p, start, m, queue, head, len, ln, f, scan_counts);
+    let newer = read_newer(setup, start, m, ring, scan_counts);
     let b = newer.middle;
     if !b.on {
         return Attempt {
@@ -307,12 +275,12 @@ fn make_certificate(
             at: newer.reading.at,
         };
     }
-    let v = read_entry(queue, head, len, start, ln, scan_counts);
-    let s = newer.reading.s + (v - p.score_threshold);
-    if b.peak + DISTANCE <= s - f[len - start + m] {
-        let older = read_older(p, start, s, queue, head, len, ln, f, scan_counts);
+    let v = read_entry(setup, ring, start, scan_counts);
+    let s = newer.reading.s + (v - setup.params.score_threshold);
+    if b.peak + DISTANCE <= s - setup.f[ring.len - start + m] {
+        let older = read_older(setup, start, s, ring, scan_counts);
         return Attempt {
-            certificate: b.certificate(m, len, older.gap),
+            certificate: b.certificate(m, ring.len, older.gap),
             at: older.at,
         };
     }
@@ -323,55 +291,38 @@ fn make_certificate(
 }
 
 // Whether certificates are kept for these numbers and tables.
-fn is_able(p: Params, ln: &[f64]) -> bool
-    requires { 1 < length ln.now }
-    ensures { Able p ln.now result }
+fn is_able(setup: &Setup) -> bool
+    requires { 1 < length setup.now.ln.now }
+    ensures { Able setup.now.params setup.now.ln.now result }
 {
+    let p = setup.params;
     let limit = p.drop_limit;
     let drops = (0.0 <= limit) & (limit <= HIGHEST);
-    p.usual & ((ln[1] <= 0.0) & ((DISTANCE <= p.score_threshold) & drops))
-}
-
-fn letters_ahead(most: usize) -> usize
-    ensures { result ≤ most }
-{
-    if most < HORIZON {
-        return most;
-    }
-    HORIZON
+    p.usual & ((setup.ln[1] <= 0.0) & ((DISTANCE <= p.score_threshold) & drops))
 }
 
 // The certificate of `start`, from cleared counts, which are then those of the entries from `start` on; where there is none, they are cleared again.
-pub fn certify(
-    p: Params,
-    start: usize,
-    queue: &[u32],
-    head: usize,
-    len: usize,
-    ln: &[f64],
-    f: &[f64],
-    scan_counts: &mut [u16],
-) -> Certificate
-    requires ringed { Ringed queue.now head len (length ln.now) (length f.now) (length scan_counts.old) }
-    requires queue_len { (length queue.now ≡ p.window_size) × (start < len) × (scan_counts.old ≡ replicate (4 ^ p.kmer) 0) }
-    requires shaped { Shaped p ln.now f.now }
-    ensures { Certifies (setup_of p ln.now f.now) (window queue.now head len) start result
+#[inline(never)]
+pub fn certify(setup: &Setup, start: usize, ring: &Ring, scan_counts: &mut [u16]) -> Certificate
+    requires tables_reach { TablesReach setup.now ring.now (length scan_counts.old) }
+    requires queue_len { (length ring.now.queue.now ≡ setup.now.params.window_size) × (start < ring.now.len)
+        × (scan_counts.old ≡ replicate (4 ^ setup.now.params.kmer) 0) }
+    ensures { Certifies (as_setup setup.now) (entries_of ring.now) start result
         scan_counts.new }
 {
-    let l = len - start;
-    let m = letters_ahead(queue.len() - l);
+    let l = ring.len - start;
+    let m = (ring.queue.len() - l).min(HORIZON);
     if (l < SHORTEST) | (m < FEWEST) {
         return Certificate::none();
     }
-    if !is_able(p, ln) {
+    if !is_able(setup) {
         return Certificate::none();
     }
-    let a = make_certificate(p, start, m, queue, head, len, ln, f, scan_counts);
-    let at = a.at;
+    let a = make_certificate(setup, start, m, ring, scan_counts);
     if a.certificate.on {
-        uncount(queue, head, len, at, start, scan_counts);
+        ring.uncount(a.at, start, scan_counts);
         return a.certificate;
     }
-    clear_from(queue, head, len, at, scan_counts);
+    ring.clear_from(a.at, scan_counts);
     Certificate::none()
 }

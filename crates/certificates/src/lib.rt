@@ -14,11 +14,10 @@ mod low;
 pub use certain::find_certain;
 pub use low::{find_low, low_tells};
 
-// While `on`, what a search that found nothing says of the window: each start of more than 32 and at most `reach` places scores `score` or less,
+// What a search that found nothing says of the window: each start of more than 32 and at most `reach` places scores `score` or less,
 // and so does the second sum over `reach` places.
 #[derive(Clone, Copy)]
 pub struct LowStarts {
-    pub on: bool,
     pub reach: usize,
     pub score: f64,
 }

@@ -1,15 +1,15 @@
 // Low starts: what a search that found nothing tells of the next searches.
 
-ghost use Rattle.std.specs.Prelude.{◌≡◌, ◌+◌, ◌-◌, ◌^◌, ◌<◌, length, replicate, take};
-ghost use Rattle.scans.specs.Terms.Numbers.{setup_of};
-ghost use Rattle.scans.specs.Terms.Shape.{Usual, Shaped};
-ghost use Rattle.scans.specs.Terms.Window.{window, Windowed};
+ghost use Rattle.std.specs.Prelude.{◌≡◌, ◌+◌, ◌-◌, ◌<◌, IfSome, take};
+ghost use Rattle.scans.specs.Counts.{cleared};
+ghost use Rattle.scans.specs.Terms.Run.{as_setup, entries_of, WindowCounted};
+ghost use Rattle.scans.specs.Terms.Shape.{Usual};
 ghost use Rattle.search.specs.Terms.Fails.{TellsNone};
-ghost use Rattle.certificates.specs.Terms.Low.{near_starts, no_low_starts, low_starts_to, LowBounds, Low, ReadsNear, ReadsLow, FindsLow};
+ghost use Rattle.certificates.specs.Terms.Low.{near_starts, low_starts_to, LowBounds, ReadsNear, ReadsLow};
 
 use crate::LowStarts;
 use crate::certify::{HIGHEST, larger};
-use scans::{BackwardState, Params, clear_from, ring_index};
+use scans::{BackwardState, Ring, Setup};
 use search::DISTANCE;
 
 // The starts of this many newest places are judged anew at each search.
@@ -28,68 +28,52 @@ const DEEP: f64 = -2.0;
 const FAR: f64 = -20.0;
 
 impl LowStarts {
-    // Nothing is known.
-    pub fn none() -> Self
-        ensures { result ≡ no_low_starts }
-    {
-        Self {
-            on: false,
-            reach: 0,
-            score: 0.0,
-        }
-    }
-
     // The starts of up to `reach` places score `score` or less; none is known where all of them are judged anew.
-    fn to(reach: usize, score: f64) -> Self
+    fn to(reach: usize, score: f64) -> Option<Self>
         ensures { result ≡ low_starts_to reach score }
     {
-        Self {
-            on: NEAR < reach,
-            reach: reach,
-            score: score,
+        if NEAR < reach {
+            return Some(Self {
+                reach: reach,
+                score: score,
+            });
         }
+        None
     }
 }
 
-// Low starts, or none, and the oldest entry that is counted.
+// Low starts, if any are known, and the oldest entry that is counted.
 #[derive(Clone, Copy)]
 struct LowRead {
-    low: LowStarts,
+    low: Option<LowStarts>,
     at: usize,
 }
 
 // Reads from the newest entry back, from cleared counts, down to where the second sum's score is far below 0 or to the oldest.
-fn read_low(
-    p: Params,
-    queue: &[u32],
-    head: usize,
-    len: usize,
-    window_counts: &[u16],
-    ln: &[f64],
-    f: &[f64],
-    scan_counts: &mut [u16],
-) -> LowRead
-    requires windowed { Windowed p queue.now head len window_counts.now (length ln.now) }
-    requires window_size_in_bounds { (p.window_size < length f.now) × (scan_counts.old ≡ replicate (4 ^ p.kmer) 0) }
-    requires usual { Usual (setup_of p ln.now f.now) }
-    ensures { ReadsLow (setup_of p ln.now f.now) (window queue.now head len) result
+fn read_low(setup: &Setup, ring: &Ring, window_counts: &[u16], scan_counts: &mut [u16]) -> LowRead
+    requires windowed { WindowCounted setup.now ring.now window_counts.now }
+    requires clear { scan_counts.old ≡ cleared (as_setup setup.now) }
+    requires usual { Usual (as_setup setup.now) }
+    ensures { ReadsLow (as_setup setup.now) (entries_of ring.now) result
         scan_counts.new }
 {
+    let t = setup.params.score_threshold;
+    let queue = ring.queue;
+    let len = ring.len;
     let mut st = BackwardState::new(len);
     let mut score = -HIGHEST;
-    let mut l = 0;
-    while l < len {
-        l += 1;
-        let i = ring_index(queue.len(), head, len - l);
-        st = st.add_entry(p.score_threshold, queue[i], window_counts, ln, scan_counts);
+    for read in 0..len {
+        let l = read + 1;
+        let i = ring.index(len - l);
+        st = st.add_entry(t, queue[i], window_counts, setup.ln, scan_counts);
         if l <= NEAR {
             continue;
         }
-        let fl = f[l];
+        let fl = setup.f[l];
         let x = st.s - fl;
         if !(x < DEEP) {
             return LowRead {
-                low: LowStarts::none(),
+                low: None,
                 at: len - l,
             };
         }
@@ -110,28 +94,22 @@ fn read_low(
 
 // The low starts of the window, from cleared counts, which are cleared again; `read` is how many entries the search that found nothing has read.
 pub fn find_low(
-    p: Params,
+    setup: &Setup,
     read: usize,
-    queue: &[u32],
-    head: usize,
-    len: usize,
+    ring: &Ring,
     window_counts: &[u16],
-    ln: &[f64],
-    f: &[f64],
     scan_counts: &mut [u16],
-) -> LowStarts
-    requires windowed { Windowed p queue.now head len window_counts.now (length ln.now) }
-    requires window_size_in_bounds { (p.window_size < length f.now) × (scan_counts.old ≡ replicate (4 ^ p.kmer) 0) }
-    requires shaped { Shaped p ln.now f.now }
-    ensures { FindsLow (setup_of p ln.now f.now) (window queue.now head len) result
-        scan_counts.new }
+) -> Option<LowStarts>
+    requires windowed { WindowCounted setup.now ring.now window_counts.now }
+    requires clear { scan_counts.old ≡ cleared (as_setup setup.now) }
+    ensures low { IfSome result (LowBounds (as_setup setup.now) (entries_of ring.now)) }
+    ensures clear { scan_counts.new ≡ scan_counts.old }
 {
-    if (read < WORTH) | !p.usual {
-        return LowStarts::none();
+    if (read < WORTH) | !setup.params.usual {
+        return None;
     }
-    let a = read_low(p, queue, head, len, window_counts, ln, f, scan_counts);
-    let at = a.at;
-    clear_from(queue, head, len, at, scan_counts);
+    let a = read_low(setup, ring, window_counts, scan_counts);
+    ring.clear_from(a.at, scan_counts);
     a.low
 }
 
@@ -144,31 +122,30 @@ struct NearRead {
 
 // Reads the newest entries, from cleared counts: those that came since the low starts were found, and as many as are judged anew.
 fn read_near(
-    p: Params,
+    setup: &Setup,
     low: LowStarts,
     age: usize,
-    queue: &[u32],
-    head: usize,
-    len: usize,
+    ring: &Ring,
     window_counts: &[u16],
-    ln: &[f64],
-    f: &[f64],
     scan_counts: &mut [u16],
 ) -> NearRead
-    requires windowed { Windowed p queue.now head len window_counts.now (length ln.now) }
-    requires window_size_in_bounds { (p.window_size < length f.now) × (scan_counts.old ≡ replicate (4 ^ p.kmer) 0) × (age + near_starts < len) }
-    requires low_bounds { LowBounds (setup_of p ln.now f.now) (take (len - age) (window queue.now head len)) low }
-    ensures { ReadsNear (setup_of p ln.now f.now) (window queue.now head len) result
+    requires windowed { WindowCounted setup.now ring.now window_counts.now }
+    requires clear { (scan_counts.old ≡ cleared (as_setup setup.now)) × (age + near_starts < ring.now.len) }
+    requires low_bounds { LowBounds (as_setup setup.now) (take (ring.now.len - age) (entries_of ring.now)) low }
+    ensures { ReadsNear (as_setup setup.now) (entries_of ring.now) result
         scan_counts.new }
 {
+    let t = setup.params.score_threshold;
+    let queue = ring.queue;
+    let len = ring.len;
     let mut st = BackwardState::new(len);
     let mut bound = low.score;
-    let mut l = 0;
-    while l < age + NEAR {
-        l += 1;
-        let i = ring_index(queue.len(), head, len - l);
-        st = st.add_entry(p.score_threshold, queue[i], window_counts, ln, scan_counts);
-        let fl = f[l];
+    let last = age + NEAR;
+    for read in 0..last {
+        let l = read + 1;
+        let i = ring.index(len - l);
+        st = st.add_entry(t, queue[i], window_counts, setup.ln, scan_counts);
+        let fl = setup.f[l];
         let y = st.sw - fl;
         if y < -DISTANCE {
             return NearRead {
@@ -189,48 +166,32 @@ fn read_near(
     }
     NearRead {
         told: bound < -DISTANCE,
-        at: len - l,
+        at: len - last,
     }
 }
 
 // Whether low starts that were found `age` entries ago tell that a search finds nothing, from cleared counts, which are cleared again.
 pub fn low_tells(
-    p: Params,
+    setup: &Setup,
     low: LowStarts,
     age: usize,
-    queue: &[u32],
-    head: usize,
-    len: usize,
+    ring: &Ring,
     window_counts: &[u16],
-    ln: &[f64],
-    f: &[f64],
     scan_counts: &mut [u16],
 ) -> bool
-    requires windowed { Windowed p queue.now head len window_counts.now (length ln.now) }
-    requires window_size_in_bounds { (p.window_size < length f.now) × (scan_counts.old ≡ replicate (4 ^ p.kmer) 0) }
-    requires low { Low (setup_of p ln.now f.now) (take (len - age) (window queue.now head len)) low }
-    ensures { TellsNone (setup_of p ln.now f.now) (window queue.now head len) result
+    requires windowed { WindowCounted setup.now ring.now window_counts.now }
+    requires clear { scan_counts.old ≡ cleared (as_setup setup.now) }
+    requires low_bounds { LowBounds (as_setup setup.now) (take (ring.now.len - age) (entries_of ring.now)) low }
+    ensures { TellsNone (as_setup setup.now) (entries_of ring.now) result
         scan_counts.new }
 {
-    if !low.on | (LASTS < age) {
+    if LASTS < age {
         return false;
     }
-    if len <= age + NEAR {
+    if ring.len <= age + NEAR {
         return false;
     }
-    let a = read_near(
-        p,
-        low,
-        age,
-        queue,
-        head,
-        len,
-        window_counts,
-        ln,
-        f,
-        scan_counts,
-    );
-    let at = a.at;
-    clear_from(queue, head, len, at, scan_counts);
+    let a = read_near(setup, low, age, ring, window_counts, scan_counts);
+    ring.clear_from(a.at, scan_counts);
     a.told
 }

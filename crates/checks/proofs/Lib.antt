@@ -1,3 +1,4 @@
 pub mod Bytes
 pub mod Sizes
 pub mod Next
+pub mod Refusing

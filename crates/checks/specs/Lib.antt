@@ -1,3 +1,5 @@
 pub mod Checks
 pub mod Tests
+pub mod Refusal
+pub mod Sequence
 pub mod Terms

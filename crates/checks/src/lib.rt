@@ -4,10 +4,16 @@
 
 #![tactic(auto)]
 
+mod refusal;
+mod sequence;
+
 ghost use Rattle.std.specs.Prelude.{◌≡◌, ◌+◌, ltb};
 ghost use Rattle.checks.specs.Tests.{kmer_outside, is_other, any_high, any_other, too_few_letters, window_below, window_above, threshold_bad};
 ghost use Rattle.checks.specs.Tests.{min_start_below, too_many_letters, most_intervals};
 ghost use Rattle.checks.specs.Terms.Next.{next_check};
+
+pub use refusal::Refusal;
+pub use sequence::check_sequence;
 
 pub const MAX_KMER: usize = 12;
 

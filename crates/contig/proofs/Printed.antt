@@ -7,7 +7,7 @@ use native.Mathlib.Omega.{arith}
 use lib.ListN.{length, take, length-append}
 use lib.Seq.{length-take-le, take_all}
 use borrow.Author.Tests.{lt-ltb, le-ltb}
-use Rattle.intervals.specs.Interval.{Interval, list_of}
+use Rattle.intervals.specs.declared.Interval.{Interval}
 use Rattle.intervals.proofs.Slice.{wrote_list}
 use Rattle.intervals.proofs.Shape.{ascending_inside, canonical_room}
 use Rattle.intervals.proofs.Order.{lt_or_le}
@@ -34,7 +34,7 @@ few s h = rw (le-ltb 32768 (length s) h)
 pub refusal_fits : (n : ℕ) (d : List ℕ) → n < 4294967296 → 49167 ≤ length d → Fits (refusal_line n) d 0
 refusal_fits n d h l = record { room = simp length-append (omega (arith, length_decimal n 10 (omega arith) (omega arith))) }
 
-module _ {s : List ℕ} {xs xs' : List (List ℕ)} {r : Outcome} (few_letters : length s ≤ 32768) (run : Ran s xs xs' r) where
+module _ {s : List ℕ} {xs xs' : List Interval} {r : Outcome} (few_letters : length s ≤ 32768) (run : Ran s xs xs' r) where
   pub refused : 0 < r.refusal → refusal_line r.refusal ≡ printed s
   refused h = go (contig_refusal s) run.number ∙ few s few_letters
     where
@@ -42,7 +42,7 @@ module _ {s : List ℕ} {xs xs' : List (List ℕ)} {r : Outcome} (few_letters : 
       go zero e = absurd (omega arith)
       go (suc n) e = ap refusal_line e
 
-  pub accepted : r.refusal ≡ 0 → report (list_of (take r.count xs')) ≡ printed s
+  pub accepted : r.refusal ≡ 0 → report (take r.count xs') ≡ printed s
   accepted h = ap report (wrote_list run.list) ∙ go (contig_refusal s) (sym run.number ∙ h) ∙ few s few_letters
     where
       go : (n : ℕ) → n ≡ 0 → report (unless n (contig_mask s)) ≡ answered n (contig_mask s)
@@ -52,7 +52,7 @@ module _ {s : List ℕ} {xs xs' : List (List ℕ)} {r : Outcome} (few_letters : 
   pub count_room : r.count ≤ 4096
   count_room = omega (arith, canonical_room (length s) 7 (unless (contig_refusal s) (contig_mask s)) run.shape, run.list.count_is)
 
-  pub report_fits : (d : List ℕ) → 49167 ≤ length d → Fits (report (list_of (take r.count xs'))) d 0
+  pub report_fits : (d : List ℕ) → 49167 ≤ length d → Fits (report (take r.count xs')) d 0
   report_fits d l =
       let is : List Interval = unless (contig_refusal s) (contig_mask s) in
       let h = count_room in

@@ -8,7 +8,8 @@ use lib.Seq.{take_at}
 use lib.Ieee.{Float}
 use Rattle.floats.specs.Binary64.{zero64}
 use Rattle.letters.specs.Code.{codes}
-use Rattle.intervals.specs.Interval.{Interval, Canonical, Wrote}
+use Rattle.intervals.specs.declared.Interval.{Interval}
+use Rattle.intervals.specs.Interval.{Canonical, Wrote}
 use Rattle.intervals.proofs.Slice.{wrote_list}
 use Rattle.tables.specs.declared.GcOption.TheVariants.{Uniform}
 use Rattle.tables.specs.declared.Density.{Density}
@@ -28,7 +29,7 @@ use Rattle.contig.specs.Run.{lent, contig_refusal, contig_mask}
 use Rattle.contig.specs.Terms.Ran.{unless, Ran}
 
 -- The buffers before the run, whatever the candidates and the lists are.
-abbrev pub fresh : List ForwardPosition → List (List ℕ) → List (List ℕ) → List (List ℕ) → Buffers
+abbrev pub fresh : List ForwardPosition → List Interval → List Interval → List Interval → Buffers
 fresh candidates forward_list reverse_list list =
     buffers
     (replicate 5001 zero64)
@@ -44,7 +45,7 @@ fresh candidates forward_list reverse_list list =
     list
     (replicate 4096 0)
 
-module _ (cs : List ForwardPosition) (fl rl xs : List (List ℕ)) (lc : length cs ≡ 5000) (lf : length fl ≡ 4096) (lr : length rl ≡ 4096) (lx : length xs ≡ 4096) where
+module _ (cs : List ForwardPosition) (fl rl xs : List Interval) (lc : length cs ≡ 5000) (lf : length fl ≡ 4096) (lr : length rl ≡ 4096) (lx : length xs ≡ 4096) where
   fresh_lent : lengths (fresh cs fl rl xs) ≡ lent
   fresh_lent = simp (length-replicate, lc, lf, lr, lx)
 

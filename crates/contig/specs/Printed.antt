@@ -1,6 +1,6 @@
 -- The paper, 'Tables and the program': what `track` prints.
 use Rattle.std.specs.Prelude.{ℕ, zero, suc, cond, List, ltb, length}
-use Rattle.intervals.specs.Interval.{Interval}
+use Rattle.intervals.specs.declared.Interval.{Interval}
 use Rattle.report.specs.Letters.{letters_of}
 use Rattle.report.specs.Text.{report, refusal_line, size_line}
 use Rattle.contig.specs.Run.{most_letters, contig_refusal, contig_mask}

@@ -1,7 +1,7 @@
 -- The paper, 'Tables and the program': the run of the program `track` on its letters.
 use Rattle.std.specs.Prelude.{ℕ, List}
 use Rattle.letters.specs.Code.{codes}
-use Rattle.intervals.specs.Interval.{Interval}
+use Rattle.intervals.specs.declared.Interval.{Interval}
 use Rattle.tables.specs.declared.GcOption.TheVariants.{Uniform}
 use Rattle.tables.specs.Density.{density}
 use Rattle.tables.specs.Tables.{ln_table, f_table}

@@ -10,6 +10,7 @@ ghost use Rattle.contig.specs.Run.{most_letters, list_room, text_room};
 ghost use Rattle.contig.specs.Printed.{printed, text_of};
 ghost use Rattle.contig.specs.Terms.Ran.{Ran};
 
+use intervals::Interval;
 use longdust::LongdustOptions;
 use scans::ForwardPosition;
 
@@ -36,14 +37,14 @@ fn no_candidates() -> [ForwardPosition; 5000] {
     }; 5000]
 }
 
-pub fn no_intervals() -> [[u32; 2]; LIST_ROOM]
+pub fn no_intervals() -> [Interval; LIST_ROOM]
     ensures { list_room ≡ length result }
 {
-    [[0, 0]; LIST_ROOM]
+    [Interval { start: 0, end: 0 }; LIST_ROOM]
 }
 
 // Masks the letters, in work buffers of its own that have exactly the paper's sizes. The intervals go to the front of the list.
-pub fn mask_letters(letters: &[u8], list: &mut [[u32; 2]]) -> Outcome
+pub fn mask_letters(letters: &[u8], list: &mut [Interval]) -> Outcome
     requires { length list.old ≡ list_room }
     ensures { Ran letters.now list.old list.new result }
 {

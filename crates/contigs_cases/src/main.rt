@@ -101,26 +101,18 @@ fn print_sizes(rt: &impl Print) -> io::Result<()> {
 
 // A header whose name has 30,000 bytes, then 18 letters A between each 282 letters n.
 fn long_name_byte(i: usize) -> u8 {
-    if i == 0 {
-        return b'>';
+    match i {
+        0 => b'>',
+        30001 => b'\n',
+        1..=30000 => b'n',
+        _ if i % 300 < 282 => b'n',
+        _ => b'A',
     }
-    if i == 30001 {
-        return b'\n';
-    }
-    if i < 30001 {
-        return b'n';
-    }
-    if i % 300 < 282 {
-        return b'n';
-    }
-    b'A'
 }
 
 fn put_long_name(file: &mut [u8]) {
-    let mut i = 0;
-    while i < file.len() {
-        file[i] = long_name_byte(i);
-        i += 1;
+    for (i, byte) in file.iter_mut().enumerate() {
+        *byte = long_name_byte(i);
     }
 }
 

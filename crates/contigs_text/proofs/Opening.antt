@@ -6,7 +6,7 @@ use native.Mathlib.Omega.{arith}
 use lib.ListN.{length, take, length-take}
 use lib.Seq.{take_all, length-take-le}
 use borrow.Author.Tests.{lt-ltb, le-ltb}
-use Rattle.intervals.specs.Interval.{Interval, list_of}
+use Rattle.intervals.specs.declared.Interval.{Interval}
 use Rattle.intervals.proofs.Slice.{wrote_list}
 use Rattle.fasta.specs.Contents.{Record}
 use Rattle.report.specs.Letters.{letters_of}
@@ -37,7 +37,7 @@ part_left e p = record { part = p.part; fits = p.fits; written = p.written; all_
 pub part_all : {xs all d d' rest : List ℕ} {from end : ℕ} → Fits xs d from → Written xs d from d' end → xs ≡ all → rest ≡ [] → PartOf all d from d' end rest
 part_all {xs} h w e r = record { part = xs; fits = h; written = w; all_is = ap (λ (l : List ℕ). xs ++ l) r ∙ append-nil xs ∙ e }
 
-pub no_lines : (name : List ℕ) (list : List (List ℕ)) → mask_lines name (list_of (take 0 list)) ≡ []
+pub no_lines : (name : List ℕ) (list : List Interval) → mask_lines name (take 0 list) ≡ []
 unfolding mask_lines
 no_lines name list = refl
 
@@ -63,7 +63,7 @@ few : (name u : List ℕ) → length u ≤ 32768 → answered name (contig_refus
 unfolding record_text
 few name u h = rw (le-ltb 32768 (length u) h)
 
-module _ {u : List ℕ} {xs xs' : List (List ℕ)} {r : Outcome} (name : List ℕ) (few_letters : length u ≤ 32768) (run : Ran u xs xs' r) where
+module _ {u : List ℕ} {xs xs' : List Interval} {r : Outcome} (name : List ℕ) (few_letters : length u ≤ 32768) (run : Ran u xs xs' r) where
   pub refused : 0 < r.refusal → refused_line name r.refusal ≡ record_text (named name u)
   refused h = go (contig_refusal u) run.number ∙ few name u few_letters
     where
@@ -71,12 +71,12 @@ module _ {u : List ℕ} {xs xs' : List (List ℕ)} {r : Outcome} (name : List �
       go zero e = absurd (omega arith)
       go (suc n) e = ap (λ (m : ℕ). refused_line name m) e
 
-  pub accepted : r.refusal ≡ 0 → mask_lines name (list_of (take r.count xs')) ≡ record_text (named name u)
+  pub accepted : r.refusal ≡ 0 → mask_lines name (take r.count xs') ≡ record_text (named name u)
   accepted h = ap (λ (is : List Interval). mask_lines name is) (wrote_list run.list) ∙ go (contig_refusal u) (sym run.number ∙ h) ∙ few name u few_letters
     where
       go : (n : ℕ) → n ≡ 0 → mask_lines name (unless n (contig_mask u)) ≡ answered name n (contig_mask u)
       go zero e = refl
       go (suc n) e = absurd (omega arith)
 
-pub ran_as : {u v : List ℕ} {xs xs' : List (List ℕ)} {r : Outcome} → u ≡ v → Ran u xs xs' r → Ran v xs xs' r
+pub ran_as : {u v : List ℕ} {xs xs' : List Interval} {r : Outcome} → u ≡ v → Ran u xs xs' r → Ran v xs xs' r
 ran_as e run = rw e at run

@@ -7,20 +7,21 @@ use native.Mathlib.Omega.{arith}
 use lib.ListN.{length, take, length-append}
 use lib.Seq.{take_all, length-take-le}
 use borrow.Author.Tests.{lt-ltb, le-ltb}
+use Rattle.fasta.specs.declared.Fault.{Fault}
+use Rattle.fasta.specs.declared.Fault.TheVariants.{LettersFirst, EmptyName}
+use Rattle.fasta.specs.Steps.{number}
+use Rattle.intervals.specs.declared.Interval.{Interval}
 use Rattle.intervals.proofs.Order.{lt_or_le}
 use Rattle.fasta.specs.Contents.{contents_of, records_of, fault_of}
 use Rattle.report.specs.Text.{refusal_line, size_line}
 use Rattle.report.specs.Terms.Fits.{Fits}
 use Rattle.report.proofs.Decimal.{length_decimal}
 use Rattle.contigs_text.specs.Text.{file_room, mask_lines, records_text, unless_fault, file_text}
-use Rattle.contigs_text.specs.Parts.{left, Standing}
+use Rattle.contigs_text.specs.Parts.{left}
 use Rattle.contigs_text.specs.declared.Place.{Place}
 
 abbrev pub start : Place
 start = record { name = record { start = 0; end = 0 }; line = 0; count = 0; next = record { at = 0 } }
-
-pub start_stands : (list : List (List ℕ)) → length list ≡ 4096 → Standing list start
-start_stands list e = record { room = e; lines = omega arith; held = omega arith }
 
 pub refusal_fits : (n : ℕ) (d : List ℕ) → n < 4294967296 → 131120 ≤ length d → Fits (refusal_line n) d 0
 refusal_fits n d h l = record { room = simp length-append (omega (arith, length_decimal n 10 (omega arith) (omega arith))) }
@@ -58,6 +59,10 @@ module _ (file : List ℕ) where
         go zero q = absurd (omega arith)
         go (suc n) q = rw q
 
-    pub faultless : fault ≡ 0 → (list : List (List ℕ)) → left file list start ≡ file_text file
+    pub faultless : fault ≡ 0 → (list : List Interval) → left file list start ≡ file_text file
     unfolding left mask_lines
     faultless z list = by_records z
+
+pub fault_positive : (fault : Fault) → 0 < number fault
+fault_positive LettersFirst = omega arith
+fault_positive EmptyName = omega arith

@@ -1,6 +1,6 @@
 -- The text that is still to be written where the writer stands, and a part of it that was written.
 use Rattle.std.specs.Prelude.{ℕ, suc, ◌+◌, ◌*◌, ◌-◌, ◌≤◌, ◌≡◌, Bool, true, false, List, [], ◌++◌, length, take, drop}
-use Rattle.intervals.specs.Interval.{list_of}
+use Rattle.intervals.specs.declared.Interval.{Interval}
 use Rattle.fasta.specs.Contents.{contents_of, records_of}
 use Rattle.fasta.specs.Steps.{bytes_of}
 use Rattle.report.specs.Written.{Written}
@@ -15,13 +15,13 @@ abbrev pub text_room : ℕ
 text_room = 131120
 
 -- The lines left of the record whose intervals are in the list, and the records after it.
-unfoldable pub left : List ℕ → List (List ℕ) → Place → List ℕ
+unfoldable pub left : List ℕ → List Interval → Place → List ℕ
 left file list p =
-    mask_lines (bytes_of p.name file) (drop p.line (list_of (take p.count list)))
+    mask_lines (bytes_of p.name file) (drop p.line (take p.count list))
     ++ records_text (records_of (contents_of (drop p.next.at file)))
 
 -- Nothing, if there is no more.
-abbrev pub left_if : Bool → List ℕ → List (List ℕ) → Place → List ℕ
+abbrev pub left_if : Bool → List ℕ → List Interval → Place → List ℕ
 left_if true file list p = left file list p
 left_if false file list p = []
 
@@ -33,7 +33,7 @@ pub record PartOf (all d : List ℕ) (from : ℕ) (d' : List ℕ) (end : ℕ) (r
   pub all_is : part ++ rest ≡ all
 
 -- The list has room for the intervals of a run, and the lines left are of intervals in it.
-pub record Standing (list : List (List ℕ)) (p : Place) : Type 0 where
+pub record Standing (list : List Interval) (p : Place) : Type 0 where
   pub room : length list ≡ list_room
   pub lines : p.line ≤ p.count
   pub held : p.count ≤ list_room
@@ -47,7 +47,7 @@ steps_if true file p = suc (steps file p)
 steps_if false file p = 0
 
 -- The writer went on from the place p, with the list and the text d, which became list' and d'.
-pub record Moved (file : List ℕ) (list : List (List ℕ)) (p : Place) (d : List ℕ) (from : ℕ) (list' : List (List ℕ)) (d' : List ℕ) (r : Filled) : Type 0 where
+pub record Moved (file : List ℕ) (list : List Interval) (p : Place) (d : List ℕ) (from : ℕ) (list' : List Interval) (d' : List ℕ) (r : Filled) : Type 0 where
   pub part : PartOf (left file list p) d from d' r.end (left_if r.more file list' r.place)
   pub stands : Standing list' r.place
   pub fewer : steps_if r.more file r.place ≤ steps file p

@@ -1,6 +1,6 @@
 -- L5: what `contigs` prints for a file.
 use Rattle.std.specs.Prelude.{ℕ, zero, suc, cond, List, [], ◌∷◌, ◌++◌, ltb, length}
-use Rattle.intervals.specs.Interval.{Interval}
+use Rattle.intervals.specs.declared.Interval.{Interval}
 use Rattle.fasta.specs.Contents.{Record, contents_of, records_of, fault_of}
 use Rattle.report.specs.Ascii.{ascii}
 use Rattle.report.specs.Text.{line, numbered, refusal_line, size_line}

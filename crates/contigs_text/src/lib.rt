@@ -4,7 +4,8 @@
 
 ghost use Rattle.std.specs.Prelude.{◌≡◌, true, false, List, [], ℕ, ◌+◌, ◌≤◌, ◌<◌, length, take, get_or, IfOk, OnOk};
 ghost use Rattle.std.specs.Io.KnownBytes.{Appends};
-ghost use Rattle.intervals.specs.Interval.{interval, list_of};
+ghost use Rattle.intervals.specs.declared.Interval.{Interval};
+ghost use Rattle.intervals.specs.Interval.{interval};
 ghost use Rattle.report.specs.Letters.{letters_of};
 ghost use Rattle.report.specs.Written.{Written};
 ghost use Rattle.report.specs.Terms.Fits.{Fits};
@@ -13,7 +14,8 @@ ghost use Rattle.contigs_text.specs.Text.{most_bytes, name_line, mask_lines, ref
 ghost use Rattle.contigs_text.specs.Parts.{text_room, left_if, PartOf, Standing, Moved};
 ghost use Rattle.contigs_text.specs.Terms.Room.{LineFits};
 
-use fasta::{Cursor, Part, Step};
+use fasta::{Cursor, Part};
+use intervals::Interval;
 use std::io::{Result, Write};
 
 // The most bytes of a file, and room for one more, so that too many show; room for the longest line, and for a text of two.
@@ -79,7 +81,7 @@ fn open_record(
     name: &[u8],
     lines: &[u8],
     letters: &mut [u8],
-    list: &mut [[u32; 2]],
+    list: &mut [Interval],
     text: &mut [u8],
     from: usize,
 ) -> Opened
@@ -88,7 +90,7 @@ fn open_record(
     requires line_fits { LineFits name.now text.old from }
     ensures written { let N = name.now in
         PartOf (record_text (record { name = N; letters = letters_of lines.now })) text.old from
-        text.new result.end (mask_lines N (list_of (take result.count list.new))) }
+        text.new result.end (mask_lines N (take result.count list.new)) }
     ensures count_le_list_room { result.count ≤ list_room }
 {
     let n = report::keep_letters(lines, letters, 0);
@@ -108,34 +110,21 @@ fn open_record(
     }
 }
 
-fn entry(list: &[[u32; 2]], i: usize, side: usize) -> u32
-    requires { (i < length list.now) × (side < 2) }
-    ensures { result ≡ get_or (get_or list.now i []) side 0 }
-{
-    list[i][side]
-}
-
 // The next line of the record in the list.
-fn next_line(file: &[u8], place: Place, list: &[[u32; 2]], text: &mut [u8], from: usize) -> Filled
+fn next_line(file: &[u8], place: Place, list: &[Interval], text: &mut [u8], from: usize) -> Filled
     requires standing { Standing list.now place }
     requires line_fits { LineFits file.now text.old from }
     requires line_lt_count { place.line < place.count }
     ensures { let L = list.now in
         Moved file.now L place text.old from L text.new result }
 {
-    let name = place.name;
-    let next = place.next;
-    let line = place.line;
-    let count = place.count;
-    let first = entry(list, line, 0);
-    let past = entry(list, line, 1);
-    let end = write_name_line(fasta::bytes(file, name), first, past, text, from);
+    let first = list[place.line].start;
+    let past = list[place.line].end;
+    let end = write_name_line(fasta::bytes(file, place.name), first, past, text, from);
     Filled {
         place: Place {
-            name,
-            line: line + 1,
-            count,
-            next,
+            line: place.line + 1,
+            ..place
         },
         end,
         more: true,
@@ -147,7 +136,7 @@ fn next_record(
     file: &[u8],
     place: Place,
     letters: &mut [u8],
-    list: &mut [[u32; 2]],
+    list: &mut [Interval],
     text: &mut [u8],
     from: usize,
 ) -> Filled
@@ -157,36 +146,33 @@ fn next_record(
     requires count_le_line { place.count ≤ place.line }
     ensures { Moved file.now list.old place text.old from list.new text.new result }
 {
-    let cursor = place.next;
-    let step = cursor.next(file);
-    match step {
-        Step::Found { name, lines, next } => {
+    match place.next.next(file) {
+        Ok(Some(found)) => {
             let opened = open_record(
-                fasta::bytes(file, name),
-                fasta::bytes(file, lines),
+                fasta::bytes(file, found.name),
+                fasta::bytes(file, found.lines),
                 letters,
                 list,
                 text,
                 from,
             );
-            let count = opened.count;
             Filled {
                 place: Place {
-                    name,
+                    name: found.name,
                     line: 0,
-                    count,
-                    next,
+                    count: opened.count,
+                    next: found.next,
                 },
                 end: opened.end,
                 more: true,
             }
         }
-        Step::End => Filled {
+        Ok(None) => Filled {
             place,
             end: from,
             more: false,
         },
-        Step::Fault(_) => Filled {
+        Err(_) => Filled {
             place,
             end: from,
             more: false,
@@ -199,7 +185,7 @@ fn go_on(
     file: &[u8],
     place: Place,
     letters: &mut [u8],
-    list: &mut [[u32; 2]],
+    list: &mut [Interval],
     text: &mut [u8],
     from: usize,
 ) -> Filled
@@ -217,8 +203,8 @@ fn go_on(
 // What is printed before any record: the file's refusal, or nothing.
 pub fn first_part(file: &[u8], text: &mut [u8]) -> Filled
     requires { text_room ≤ length text.old }
-    ensures standing { (list : List (List ℕ)) → length list ≡ list_room → Standing list result.place }
-    ensures part { (list : List (List ℕ)) → (let F = file.now in
+    ensures standing { (list : List Interval) → length list ≡ list_room → Standing list result.place }
+    ensures part { (list : List Interval) → (let F = file.now in
         PartOf (file_text F) text.old 0 text.new result.end (left_if result.more F list result.place)) }
     ensures file_len_bound { result.more ≡ true → length file.now ≤ most_bytes }
 {
@@ -236,19 +222,20 @@ pub fn first_part(file: &[u8], text: &mut [u8]) -> Filled
             more: false,
         };
     }
-    let fault = fasta::first_fault(file);
-    if fault > 0 {
-        let end = report::write_refusal(fault, text, 0);
-        return Filled {
+    match fasta::first_fault(file) {
+        Some(fault) => {
+            let end = report::write_refusal(fault.number(), text, 0);
+            Filled {
+                place,
+                end,
+                more: false,
+            }
+        }
+        None => Filled {
             place,
-            end,
-            more: false,
-        };
-    }
-    Filled {
-        place,
-        end: 0,
-        more: true,
+            end: 0,
+            more: true,
+        },
     }
 }
 
@@ -257,7 +244,7 @@ pub fn next_part(
     file: &[u8],
     place: Place,
     letters: &mut [u8],
-    list: &mut [[u32; 2]],
+    list: &mut [Interval],
     text: &mut [u8],
 ) -> Filled
     requires file_len_bound { length file.now ≤ most_bytes }
@@ -285,7 +272,7 @@ pub fn next_part(
 fn print_parts<W: Write>(
     file: &[u8],
     letters: &mut [u8],
-    list: &mut [[u32; 2]],
+    list: &mut [Interval],
     text: &mut [u8],
     out: &mut W,
 ) -> Result<usize>

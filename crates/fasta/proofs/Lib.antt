@@ -1,7 +1,5 @@
-pub mod Scanning
 pub mod Lengths
 pub mod Lines
-pub mod Parts
 pub mod Stepping
 pub mod Walk
 pub mod Kept

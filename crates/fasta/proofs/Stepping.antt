@@ -9,17 +9,21 @@ use lib.ListN.{length, take, drop, get_or, length-drop, drop_of_length-le}
 use lib.Seq.{drop-cons, drop-drop, get_or-drop, length-take-le}
 use Rattle.report.specs.Letters.{letters_of}
 use Rattle.fasta.specs.Lines.{lines}
-use Rattle.fasta.specs.Contents.{Contents, holds, letters_below, opened, contents, contents_of, fault_of}
-use Rattle.fasta.specs.Steps.{shown, Told}
+use Rattle.fasta.specs.Contents.{Contents, holds, letters_below, opened, contents, contents_of}
+use Rattle.fasta.specs.Steps.{Told}
 use Rattle.fasta.specs.Terms.Lengths.{empty_lines, name_length, line_length, lines_length}
-use Rattle.fasta.specs.declared.Step.{Step}
-use Rattle.fasta.specs.declared.Step.TheVariants.{Found, End, Fault}
+use Rattle.std.specs.Prelude.{None, Some, Ok, Err}
+use Rattle.fasta.specs.declared.Fault.TheVariants.{LettersFirst, EmptyName}
 use Rattle.fasta.proofs.Lengths.{name_within, line_within, lines_within}
 use Rattle.fasta.proofs.Lines.{after_empty, not_empty, letters_first, name_line_lem, opening, letters_are, rest_is}
 
 named : (name letters : List ℕ) (rest : Contents) → 0 < length name → opened name letters rest ≡ holds (record { name = name; letters = letters }) rest
 named [] letters rest h = absurd (let b : ⊥ = omega arith in b)
 named (b ∷ name) letters rest h = refl
+
+pub past_end : (file : List ℕ) (at : ℕ) → length file ≤ at → Told file at (Ok None)
+unfolding contents lines
+past_end file at h = record { contents_are = ap contents_of (sym (drop_of_length-le file h)); in_order = tt }
 
 -- Past the empty lines from the cursor on, at p.
 module _ (file : List ℕ) (at p : ℕ) (e : p ≡ at + empty_lines (drop at file)) where
@@ -29,7 +33,7 @@ module _ (file : List ℕ) (at p : ℕ) (e : p ≡ at + empty_lines (drop at fil
       ∙ ap contents_of (sym (drop-drop (empty_lines (drop at file)) at file))
       ∙ after_empty (drop at file)
 
-  pub ended : length file ≤ p → Told file at End
+  pub ended : length file ≤ p → Told file at (Ok None)
   unfolding contents lines
   ended h = record { contents_are = sym (ap contents_of (drop_of_length-le file h)) ∙ same; in_order = tt }
 
@@ -39,7 +43,7 @@ module _ (file : List ℕ) (at p : ℕ) (e : p ≡ at + empty_lines (drop at fil
         not_empty (drop at file) (omega (arith, length-drop at file))
         (get_or-drop at file (empty_lines (drop at file)) 0 ∙ ap (λ (n : ℕ). get_or file n 0) (sym e) ∙ q)
 
-    pub unnamed_letters : get_or file p 0 ≢ 62 → Told file at (Fault 14)
+    pub unnamed_letters : get_or file p 0 ≢ 62 → Told file at (Err LettersFirst)
     unnamed_letters k =
         record {
           contents_are = sym (letters_first (get_or file p 0) (drop (suc p) file) not_10 k) ∙ ap contents_of (sym (drop-cons file p 0 h)) ∙ same;
@@ -59,7 +63,7 @@ module _ (file : List ℕ) (at p : ℕ) (e : p ≡ at + empty_lines (drop at fil
           ∙ opening B
           ∙ ap (λ (i : ℕ). opened (take i B) (letters_below A) (contents true A)) (let z : name_length B ≡ q - n = omega arith in z)
 
-      pub empty_name : q ≡ n → Told file at (Fault 15)
+      pub empty_name : q ≡ n → Told file at (Err EmptyName)
       empty_name z =
           let B : List ℕ = drop n file in
           let A : List (List ℕ) = lines (drop (line_length B) B) in
@@ -69,7 +73,7 @@ module _ (file : List ℕ) (at p : ℕ) (e : p ≡ at + empty_lines (drop at fil
           }
 
       pub found : q ≢ n → (m end : ℕ) → m ≡ q + line_length (drop q file) → end ≡ m + lines_length true (drop m file)
-          → Told file at (Found (record { start = n; end = q }) (record { start = m; end = end }) (record { at = end }))
+          → Told file at (Ok (Some (record { name = record { start = n; end = q }; lines = record { start = m; end = end }; next = record { at = end } })))
       found z m end em ee =
           let B : List ℕ = drop n file in
           let A : List ℕ = drop m file in
@@ -98,10 +102,3 @@ module _ (file : List ℕ) (at p : ℕ) (e : p ≡ at + empty_lines (drop at fil
                 (rest_is A ∙ ap contents_of de));
             in_order = (omega arith, omega arith, omega arith, omega arith, refl, omega arith);
           }
-
-pub told_as : {file : List ℕ} {at : ℕ} {r s : Step} → r ≡ s → Told file at r → Told file at s
-told_as e t = rw e at t
-
--- What follows an answer has the fault that is still to be found.
-pub fault_is : {file : List ℕ} {at : ℕ} {r : Step} → Told file at r → fault_of (shown file r) ≡ fault_of (contents_of (drop at file))
-fault_is t = ap fault_of t.contents_are

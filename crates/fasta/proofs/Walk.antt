@@ -5,17 +5,16 @@ use mathlib.Core.Path.{◌≡◌, ap, ◌∙◌}
 use mathlib.Core.List.{List, [], ◌∷◌}
 use lib.ListN.{drop}
 use Rattle.fasta.specs.Contents.{Contents, holds, contents_of}
-use Rattle.fasta.specs.Steps.{record_at}
+use Rattle.std.specs.Prelude.{None, Some, Ok, Err}
+use Rattle.fasta.specs.Steps.{Step, record_at}
 use Rattle.fasta.specs.Walk.{Answers, gathered}
-use Rattle.fasta.specs.declared.Step.{Step}
-use Rattle.fasta.specs.declared.Step.TheVariants.{Found, End, Fault}
 
 walk_from : (file : List ℕ) (at : ℕ) (rs : List Step) → Answers file at rs → gathered file rs ≡ contents_of (drop at file)
 walk_from file at [] a = absurd a
-walk_from file at (End ∷ rs) a = a.contents_are
-walk_from file at (Fault n ∷ rs) a = a.contents_are
-walk_from file at (Found name lines next ∷ rs) a =
-    ap (λ (c : Contents). holds (record_at file name lines) c) (walk_from file next.at rs a.1)
+walk_from file at (Ok None ∷ rs) a = a.contents_are
+walk_from file at (Err fault ∷ rs) a = a.contents_are
+walk_from file at (Ok (Some found) ∷ rs) a =
+    ap (λ (c : Contents). holds (record_at file found.name found.lines) c) (walk_from file found.next.at rs a.1)
     ∙ a.0.contents_are
 
 pub walk : (file : List ℕ) (rs : List Step) → Answers file 0 rs → gathered file rs ≡ contents_of file

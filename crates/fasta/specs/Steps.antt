@@ -1,10 +1,25 @@
 -- What a step of the reader tells about the file from its cursor on.
-use Rattle.std.specs.Prelude.{ℕ, ◌-◌, ◌≤◌, ◌<◌, ◌≡◌, List, length, take, drop}
+use Rattle.std.specs.Prelude.{ℕ, ◌-◌, ◌≤◌, ◌<◌, ◌≡◌, List, length, take, drop, Option, None, Some, Result, Ok, Err}
 use Rattle.report.specs.Letters.{letters_of}
 use Rattle.fasta.specs.Contents.{Record, Contents, ends, fails, holds, contents_of}
 use Rattle.fasta.specs.declared.Part.{Part}
-use Rattle.fasta.specs.declared.Step.{Step}
-use Rattle.fasta.specs.declared.Step.TheVariants.{Found, End, Fault}
+use Rattle.fasta.specs.declared.Found.{Found}
+use Rattle.fasta.specs.declared.Fault.{Fault}
+use Rattle.fasta.specs.declared.Fault.TheVariants.{LettersFirst, EmptyName}
+
+-- The next record, nothing at the end, or the fault.
+abbrev pub Step : Type 0
+Step = Result (Option Found) Fault
+
+-- A fault's number.
+abbrev pub number : Fault → ℕ
+number LettersFirst = 14
+number EmptyName = 15
+
+-- 0 for none.
+abbrev pub number_of : Option Fault → ℕ
+number_of None = 0
+number_of (Some fault) = number fault
 
 -- The bytes of a part of a file.
 abbrev pub bytes_of : Part → List ℕ → List ℕ
@@ -16,21 +31,21 @@ record_at file name lines = record { name = bytes_of name file; letters = letter
 
 -- The contents that an answer stands for.
 abbrev pub shown : List ℕ → Step → Contents
-shown file End = ends
-shown file (Fault n) = fails n
-shown file (Found name lines next) = holds (record_at file name lines) (contents_of (drop next.at file))
+shown file (Ok None) = ends
+shown file (Err fault) = fails (number fault)
+shown file (Ok (Some found)) = holds (record_at file found.name found.lines) (contents_of (drop found.next.at file))
 
 -- A record's name, its lines and the next cursor stand in this order, after the cursor and within the file.
 abbrev pub InOrder : List ℕ → ℕ → Step → Type 0
-InOrder file at End = Unit
-InOrder file at (Fault n) = Unit
-InOrder file at (Found name lines next) =
-    (at < name.start)
-    × (name.start ≤ name.end)
-    × (name.end ≤ lines.start)
-    × (lines.start ≤ lines.end)
-    × (lines.end ≡ next.at)
-    × (next.at ≤ length file)
+InOrder file at (Ok None) = Unit
+InOrder file at (Err fault) = Unit
+InOrder file at (Ok (Some found)) =
+    (at < found.name.start)
+    × (found.name.start ≤ found.name.end)
+    × (found.name.end ≤ found.lines.start)
+    × (found.lines.start ≤ found.lines.end)
+    × (found.lines.end ≡ found.next.at)
+    × (found.next.at ≤ length file)
 
 pub record Told (file : List ℕ) (at : ℕ) (r : Step) : Type 0 where
   pub contents_are : shown file r ≡ contents_of (drop at file)

@@ -1,10 +1,10 @@
-// A reader of FASTA files over a lent slice: a cursor by value whose step answers the next record, the end or the fault.
+// A reader of FASTA files over a lent slice: a cursor by value whose step answers the next record, nothing at the end, or the fault.
 
 #![tactic(auto)]
 
 ghost use Rattle.std.specs.Prelude.{◌≡◌, true, ◌+◌, ◌≤◌, length, drop};
 ghost use Rattle.fasta.specs.Contents.{contents_of, fault_of};
-ghost use Rattle.fasta.specs.Steps.{bytes_of, Told};
+ghost use Rattle.fasta.specs.Steps.{number_of, bytes_of, Told};
 ghost use Rattle.fasta.specs.Terms.Lengths.{empty_lines, name_length, line_length, lines_length};
 
 #[derive(Clone, Copy)]
@@ -18,17 +18,29 @@ pub struct Cursor {
     pub at: usize,
 }
 
+// A record: where its name and its lines stand, and the cursor after it.
 #[derive(Clone, Copy)]
-pub enum Step {
-    // The next record: where its name and its lines stand, and the cursor after it.
-    Found {
-        name: Part,
-        lines: Part,
-        next: Cursor,
-    },
-    End,
-    // 14, letters before the first name; 15, an empty name.
-    Fault(u32),
+pub struct Found {
+    pub name: Part,
+    pub lines: Part,
+    pub next: Cursor,
+}
+
+// Why a file is refused: letters before the first name, or an empty name.
+#[derive(Clone, Copy)]
+pub enum Fault {
+    LettersFirst = 14,
+    EmptyName = 15,
+}
+
+impl Fault {
+    ghost use Rattle.fasta.specs.Steps.{number};
+
+    pub fn number(self) -> u32
+        ensures { result ≡ number self }
+    {
+        self as u32
+    }
 }
 
 impl Cursor {
@@ -38,56 +50,47 @@ impl Cursor {
         Cursor { at: 0 }
     }
 
-    // Reads the file from the cursor on; a cursor past the file is at its end.
-    pub fn next(self, file: &[u8]) -> Step
+    // The next record of the file from the cursor on, if there is one; a cursor past the file is at its end.
+    pub fn next(self, file: &[u8]) -> Result<Option<Found>, Fault>
         ensures { Told file.now self.at result }
     {
+        if file.len() <= self.at {
+            return Ok(None);
+        }
         let at = skip_empty(file, self.at);
         if file.len() <= at {
-            return Step::End;
+            return Ok(None);
         }
         if file[at] != b'>' {
-            return Step::Fault(14);
+            return Err(Fault::LettersFirst);
         }
         let name = at + 1;
         let name_end = name_end(file, name);
         if name_end == name {
-            return Step::Fault(15);
+            return Err(Fault::EmptyName);
         }
         let lines = after_line(file, name_end);
         let end = lines_end(file, lines);
-        Step::Found {
+        Ok(Some(Found {
             name: Part {
                 start: name,
                 end: name_end,
             },
             lines: Part { start: lines, end },
             next: Cursor { at: end },
-        }
+        }))
     }
 }
 
-// The number of the file's first fault, 0 if there is none.
-pub fn first_fault(file: &[u8]) -> u32
-    ensures { result ≡ fault_of (contents_of file.now) }
+pub fn first_fault(file: &[u8]) -> Option<Fault>
+    ensures { number_of result ≡ fault_of (contents_of file.now) }
 {
     let mut cursor = Cursor::new();
     loop {
-        let step = cursor.next(file);
-        match step {
-            Step::Found {
-                name: _,
-                lines: _,
-                next,
-            } => {
-                cursor = next;
-            }
-            Step::End => {
-                return 0;
-            }
-            Step::Fault(number) => {
-                return number;
-            }
+        match cursor.next(file) {
+            Ok(Some(found)) => cursor = found.next,
+            Ok(None) => return None,
+            Err(fault) => return Some(fault),
         }
     }
 }
@@ -96,77 +99,65 @@ pub fn first_fault(file: &[u8]) -> u32
 pub fn bytes(file: &[u8], part: Part) -> &[u8]
     ensures { result.now ≡ bytes_of part file.now }
 {
-    let start = part.start;
-    let end = part.end;
-    if file.len() <= start {
-        return &file[..0];
-    }
-    if end <= start {
-        return &file[..0];
-    }
-    if file.len() < end {
-        return &file[start..];
-    }
+    let end = part.end.min(file.len());
+    let start = part.start.min(end);
     &file[start..end]
 }
 
 // Past the empty lines.
+#[tactic(auto, using(crate::proofs::Lengths::of_empty))]
 fn skip_empty(file: &[u8], from: usize) -> usize
+    requires { from ≤ length file.now }
     ensures { result ≡ from + empty_lines (drop from file.now) }
 {
-    let mut i = from;
-    while i < file.len() {
-        if file[i] != 10 {
+    for i in from..file.len() {
+        if file[i] != b'\n' {
             return i;
         }
-        i += 1;
     }
-    i
+    file.len()
 }
 
+#[tactic(auto, using(crate::proofs::Lengths::of_name))]
 fn name_end(file: &[u8], from: usize) -> usize
     requires { from ≤ length file.now }
     ensures { result ≡ from + name_length (drop from file.now) }
 {
-    let mut i = from;
-    while i < file.len() {
+    for i in from..file.len() {
         let byte = file[i];
-        if (byte == 32) | (byte == 9) | (byte == 10) {
+        if (byte == b' ') | (byte == b'\t') | (byte == b'\n') {
             return i;
         }
-        i += 1;
     }
-    i
+    file.len()
 }
 
+#[tactic(auto, using(crate::proofs::Lengths::of_line))]
 fn after_line(file: &[u8], from: usize) -> usize
     requires { from ≤ length file.now }
     ensures { result ≡ from + line_length (drop from file.now) }
 {
-    let mut i = from;
-    while i < file.len() {
-        if file[i] == 10 {
+    for i in from..file.len() {
+        if file[i] == b'\n' {
             return i + 1;
         }
-        i += 1;
     }
-    i
+    file.len()
 }
 
 // Up to the next line that starts with `>`; a line starts at `from`.
+#[tactic(auto, using(crate::proofs::Lengths::of_lines))]
 fn lines_end(file: &[u8], from: usize) -> usize
     requires { from ≤ length file.now }
     ensures { result ≡ from + lines_length true (drop from file.now) }
 {
     let mut fresh = true;
-    let mut i = from;
-    while i < file.len() {
+    for i in from..file.len() {
         let byte = file[i];
         if fresh & (byte == b'>') {
             return i;
         }
-        fresh = byte == 10;
-        i += 1;
+        fresh = byte == b'\n';
     }
-    i
+    file.len()
 }

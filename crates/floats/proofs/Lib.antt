@@ -11,4 +11,3 @@ pub mod Constants
 pub mod Range
 pub mod Sums
 pub mod Whole
-pub mod Cut

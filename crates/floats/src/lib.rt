@@ -17,14 +17,5 @@ pub fn near_zero(x: f64) -> bool
 pub fn to_i32(x: f64) -> i32
     ensures { result ≡ to_signed 31 x }
 {
-    if x >= 2147483648.0 {
-        return i32::MAX;
-    }
-    if x <= -2147483648.0 {
-        return i32::MIN;
-    }
-    if x > -2147483648.0 {
-        return std::num::truncating_f64_to_i64(x) as i32;
-    }
-    0
+    std::num::saturating_f64_to_i32(x)
 }

@@ -4,7 +4,8 @@ use mathlib.Core.Path.{◌≡◌, refl}
 use mathlib.Core.List.{List, [], ◌∷◌, ◌++◌}
 use mathlib.Core.Logic.{inl, inr, ⊎_elim, ◌↔◌}
 use native.Mathlib.Omega.{arith}
-use Rattle.intervals.specs.Interval.{Interval, interval, Covers, Ascending, Canonical}
+use Rattle.intervals.specs.declared.Interval.{Interval}
+use Rattle.intervals.specs.Interval.{interval, Covers, Ascending, Canonical}
 use Rattle.intervals.specs.Merge.{flip, backwards}
 use Rattle.intervals.proofs.Shape.{ascending_more}
 use Rattle.intervals.proofs.Covered.{append_covers}

@@ -8,7 +8,8 @@ use native.Mathlib.Omega.{arith}
 use lib.Dec.{ltb, leb}
 use lib.ListN.{length, get_or}
 use borrow.Author.Tests.{leb-true, ltb-true, le-leb, lt-leb, lt-ltb}
-use Rattle.intervals.specs.Interval.{Interval, interval, Holds, Covers, covered, covered_in}
+use Rattle.intervals.specs.declared.Interval.{Interval}
+use Rattle.intervals.specs.Interval.{interval, Holds, Covers, covered, covered_in}
 use Rattle.intervals.proofs.Order.{lt_or_le}
 
 not_true : false ≡ true → ⊥

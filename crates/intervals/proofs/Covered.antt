@@ -3,7 +3,8 @@ use Prim.Native.Nat.{ℕ, max}
 use mathlib.Core.List.{List, [], ◌∷◌, ◌++◌}
 use mathlib.Core.Logic.{◌⊎◌, inl, inr, ⊎_elim, ◌↔◌}
 use native.Mathlib.Omega.{arith}
-use Rattle.intervals.specs.Interval.{Interval, interval, Holds, Covers, Canonical}
+use Rattle.intervals.specs.declared.Interval.{Interval}
+use Rattle.intervals.specs.Interval.{interval, Holds, Covers, Canonical}
 use Rattle.intervals.specs.Merge.{insert, interleave, nonempty, join, merge}
 use Rattle.intervals.proofs.Order.{lt_or_le}
 use Rattle.intervals.proofs.Joining.{insert_here, insert_later, nonempty_some, nonempty_none, join_touch, join_gap}

@@ -3,7 +3,8 @@ use Prim.Native.Nat.{ℕ, ◌≤◌, ◌<◌, max}
 use mathlib.Core.Path.{◌≡◌}
 use mathlib.Core.List.{List, [], ◌∷◌, ◌++◌}
 use borrow.Author.Tests.{lt-ltb, le-ltb, le-leb, lt-leb}
-use Rattle.intervals.specs.Interval.{Interval, interval}
+use Rattle.intervals.specs.declared.Interval.{Interval}
+use Rattle.intervals.specs.Interval.{interval}
 use Rattle.intervals.specs.declared.Marked.{Marked}
 use Rattle.intervals.specs.Merge.{insert, nonempty, join, insert_marked, nonempty_marked, grown, join_marked}
 

@@ -8,7 +8,8 @@ use native.Mathlib.Omega.{arith}
 use lib.Dec.{T}
 use lib.ListN.{length}
 use Rattle.intervals.specs.declared.Marked.{Marked}
-use Rattle.intervals.specs.Interval.{Interval, interval, Holds, Covers, Canonical, Ascending}
+use Rattle.intervals.specs.declared.Interval.{Interval}
+use Rattle.intervals.specs.Interval.{interval, Holds, Covers, Canonical, Ascending}
 use Rattle.intervals.specs.Terms.Bounds.{Inside}
 use Rattle.intervals.specs.Merge.{insert, interleave, nonempty, join, merge, flip, backwards}
 use Rattle.intervals.specs.Merge.{marked, from_forward, from_reverse, insert_marked, interleave_marked, nonempty_marked, grown, join_marked, merge_marked, range, ranges, flip_marked, backwards_marked}

@@ -3,22 +3,19 @@ use Prim.Native.Nat.{ℕ, zero, suc, ◌+◌, ◌-◌, ◌≤◌, ◌<◌}
 use mathlib.Core.Path.{◌≡◌, ap, ◌∙◌}
 use mathlib.Core.List.{List, [], ◌∷◌, map}
 use native.Mathlib.Omega.{arith}
-use native.Mathlib.Numerals.{add-one}
 use lib.ListN.{length, take, drop, get_or, drop_of_length-le}
-use lib.Seq.{drop-cons, take-suc}
-use Rattle.intervals.specs.Interval.{Interval, interval, list_of}
+use lib.Seq.{take-suc}
+use Rattle.intervals.specs.declared.Interval.{Interval}
+use Rattle.intervals.specs.Interval.{interval}
 use Rattle.intervals.specs.Merge.{from_forward, from_reverse, insert_marked, interleave_marked, flip, backwards}
 use Rattle.intervals.specs.Terms.Pick.{picked, remaining, Picks}
 use Rattle.intervals.specs.declared.Picked.{Picked}
 use Rattle.intervals.proofs.Joining.{marked_here, marked_later}
 use Rattle.intervals.proofs.Backward.{backwards_snoc}
-use Rattle.intervals.proofs.Slice.{length_list, list_at}
+use Rattle.intervals.proofs.Slice.{list_next}
 
 abbrev at : List Interval → ℕ → Interval
 at is i = get_or is i (interval 0 0)
-
-forward_next : (fs : List Interval) (i : ℕ) → i < length fs → drop i fs ≡ at fs i ∷ drop (i + 1) fs
-forward_next fs i h = rw add-one (drop-cons fs i (interval 0 0) h)
 
 reverse_next : (n j : ℕ) (rs : List Interval) → 0 < j → j ≤ length rs
     → backwards n (take j rs) ≡ flip n (at rs (j - 1)) ∷ backwards n (take (j - 1) rs)
@@ -43,41 +40,34 @@ module _ {fs : List Interval} {i : ℕ} {rs : List Interval} {j n : ℕ} {p : Pi
   takes_reverse h l f q = rw q (record { first = f; forward_within = h; reverse_within = omega arith; one_less = omega arith })
 
 -- What `pick` answers in each of its four cases, with the lists in the slices fs and rs.
-module _ (fs rs : List (List ℕ)) {i j n : ℕ} {p : Picked} where
-  pub forward_only : i < length fs → j ≡ 0 → p ≡ picked (from_forward (at (list_of fs) i)) (i + 1) j
-      → Picks (list_of fs) i (list_of rs) j n p
+module _ (fs rs : List Interval) {i j n : ℕ} {p : Picked} where
+  pub forward_only : i < length fs → j ≡ 0 → p ≡ picked (from_forward (at fs i)) (i + 1) j
+      → Picks fs i rs j n p
   unfolding remaining backwards interleave_marked insert_marked
   forward_only h z =
-      let h' : i < length (list_of fs) = omega (arith, length_list fs) in
-      takes_forward h' (rw (z, forward_next (list_of fs) i h'))
+      takes_forward h (rw (z, list_next fs i h))
 
-  pub reverse_only : i ≡ length fs → 0 < j → j ≤ length rs → p ≡ picked (from_reverse (flip n (at (list_of rs) (j - 1)))) i (j - 1)
-      → Picks (list_of fs) i (list_of rs) j n p
+  pub reverse_only : i ≡ length fs → 0 < j → j ≤ length rs → p ≡ picked (from_reverse (flip n (at rs (j - 1)))) i (j - 1)
+      → Picks fs i rs j n p
   unfolding remaining interleave_marked
   reverse_only h l m =
-      let e : length (list_of fs) ≡ i = omega (arith, length_list fs) in
-      let m' : j ≤ length (list_of rs) = omega (arith, length_list rs) in
-      takes_reverse (omega arith) l (rw (drop_of_length-le (list_of fs) {i = i} (omega arith), reverse_next n j (list_of rs) l m'))
+      takes_reverse (omega arith) l (rw (drop_of_length-le fs {i = i} (omega arith), reverse_next n j rs l m))
 
   module _ (h : i < length fs) (l : 0 < j) (m : j ≤ length rs) where
-    pub forward_first : get_or (get_or fs i []) 0 0 < n - get_or (get_or rs (j - 1) []) 1 0 → p ≡ picked (from_forward (at (list_of fs) i)) (i + 1) j
-        → Picks (list_of fs) i (list_of rs) j n p
+    pub forward_first : (get_or fs i (interval 0 0)).start < n - (get_or rs (j - 1) (interval 0 0)).end → p ≡ picked (from_forward (at fs i)) (i + 1) j
+        → Picks fs i rs j n p
     unfolding remaining interleave_marked
     forward_first t =
-        let h' : i < length (list_of fs) = omega (arith, length_list fs) in
-        let m' : j ≤ length (list_of rs) = omega (arith, length_list rs) in
-        takes_forward h'
-        (rw (forward_next (list_of fs) i h', reverse_next n j (list_of rs) l m')
-        (marked_here (from_forward (at (list_of fs) i)) (interleave_marked (map from_forward (drop (i + 1) (list_of fs)))) (from_reverse (flip n (at (list_of rs) (j - 1))))
-        (map from_reverse (backwards n (take (j - 1) (list_of rs)))) (rw (list_at fs i, list_at rs (j - 1)) t)))
+        takes_forward h
+        (rw (list_next fs i h, reverse_next n j rs l m)
+        (marked_here (from_forward (at fs i)) (interleave_marked (map from_forward (drop (i + 1) fs))) (from_reverse (flip n (at rs (j - 1))))
+        (map from_reverse (backwards n (take (j - 1) rs))) t))
 
-    pub reverse_first : n - get_or (get_or rs (j - 1) []) 1 0 ≤ get_or (get_or fs i []) 0 0 → p ≡ picked (from_reverse (flip n (at (list_of rs) (j - 1)))) i (j - 1)
-        → Picks (list_of fs) i (list_of rs) j n p
+    pub reverse_first : n - (get_or rs (j - 1) (interval 0 0)).end ≤ (get_or fs i (interval 0 0)).start → p ≡ picked (from_reverse (flip n (at rs (j - 1)))) i (j - 1)
+        → Picks fs i rs j n p
     unfolding remaining interleave_marked
     reverse_first t =
-        let h' : i < length (list_of fs) = omega (arith, length_list fs) in
-        let m' : j ≤ length (list_of rs) = omega (arith, length_list rs) in
         takes_reverse (omega arith) l
-        (rw (forward_next (list_of fs) i h', reverse_next n j (list_of rs) l m')
-        (marked_later (from_forward (at (list_of fs) i)) (interleave_marked (map from_forward (drop (i + 1) (list_of fs)))) (from_reverse (flip n (at (list_of rs) (j - 1))))
-        (map from_reverse (backwards n (take (j - 1) (list_of rs)))) (rw (list_at fs i, list_at rs (j - 1)) t)))
+        (rw (list_next fs i h, reverse_next n j rs l m)
+        (marked_later (from_forward (at fs i)) (interleave_marked (map from_forward (drop (i + 1) fs))) (from_reverse (flip n (at rs (j - 1))))
+        (map from_reverse (backwards n (take (j - 1) rs))) t))

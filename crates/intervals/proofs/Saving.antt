@@ -6,7 +6,8 @@ use mathlib.Core.Logic.{◌⊎◌, inl, inr, ⊎_elim, ◌↔◌}
 use native.Mathlib.Omega.{arith}
 use lib.ListN.{length, get_or}
 use borrow.Author.Tests.{le-leb, lt-leb}
-use Rattle.intervals.specs.Interval.{Interval, interval, Holds, Covers, Ascending, Canonical}
+use Rattle.intervals.specs.declared.Interval.{Interval}
+use Rattle.intervals.specs.Interval.{interval, Holds, Covers, Ascending, Canonical}
 use Rattle.intervals.specs.Terms.Bounds.{EndsBelow}
 use Rattle.intervals.specs.Save.{staying, save}
 use Rattle.intervals.proofs.Order.{lt_or_le}

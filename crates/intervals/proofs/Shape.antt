@@ -5,7 +5,8 @@ use mathlib.Core.Logic.{⊎_elim}
 use native.Mathlib.Omega.{arith}
 use native.Mathlib.Nat.{suc-mul, le-div_iff_mul-le}
 use lib.ListN.{length}
-use Rattle.intervals.specs.Interval.{Interval, Covers, Ascending, Canonical}
+use Rattle.intervals.specs.declared.Interval.{Interval}
+use Rattle.intervals.specs.Interval.{Covers, Ascending, Canonical}
 use Rattle.intervals.specs.Terms.Bounds.{Inside}
 use Rattle.intervals.specs.Merge.{insert, interleave, nonempty, join, merge}
 use Rattle.intervals.proofs.Order.{lt_or_le}

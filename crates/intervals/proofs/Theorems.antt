@@ -4,7 +4,8 @@ use mathlib.Core.Path.{◌≡◌}
 use mathlib.Core.List.{List, []}
 use mathlib.Core.Logic.{inl, inr, ⊎_elim, ◌↔◌}
 use native.Mathlib.Omega.{arith}
-use Rattle.intervals.specs.Interval.{Interval, Covers, Canonical}
+use Rattle.intervals.specs.declared.Interval.{Interval}
+use Rattle.intervals.specs.Interval.{Covers, Canonical}
 use Rattle.intervals.specs.Merge.{merge, backwards}
 use Rattle.intervals.proofs.Shape.{covers_below, merge_canonical}
 use Rattle.intervals.proofs.Covered.{merge_covers}

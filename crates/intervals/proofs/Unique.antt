@@ -4,7 +4,8 @@ use mathlib.Core.Path.{◌≡◌, refl, sym, ap₂}
 use mathlib.Core.List.{List, [], ◌∷◌}
 use mathlib.Core.Logic.{inl, inr, ⊎_elim}
 use native.Mathlib.Omega.{arith}
-use Rattle.intervals.specs.Interval.{Interval, interval, Covers, Ascending}
+use Rattle.intervals.specs.declared.Interval.{Interval}
+use Rattle.intervals.specs.Interval.{interval, Covers, Ascending}
 use Rattle.intervals.proofs.Order.{lt_or_le}
 use Rattle.intervals.proofs.Shape.{covers_above}
 

@@ -1,15 +1,16 @@
 -- The test of a list of the usual kind: it agrees with `Canonical n 1`; its walk over a slice.
 use Prim.Native.Nat.{ℕ, ◌+◌, ◌≤◌, ◌<◌}
-use mathlib.Core.Path.{◌≡◌, refl, sym, ap, ap₂, ◌∙◌}
-use mathlib.Core.Bool.{Bool, true, false, ◌&&◌}
+use mathlib.Core.Path.{◌≡◌, refl, ap, ◌∙◌}
+use mathlib.Core.Bool.{true, false, ◌&&◌}
 use mathlib.Core.List.{List, [], ◌∷◌}
 use mathlib.Core.Logic.{◌↔◌}
 use native.Mathlib.Omega.{arith}
 use lib.Dec.{ltb, leb}
 use lib.ListN.{length, get_or, drop, drop_of_length-le}
-use Rattle.intervals.specs.Interval.{Interval, Ascending, Canonical, usual_entry, usual_from, usual, list_of}
+use Rattle.intervals.specs.declared.Interval.{Interval}
+use Rattle.intervals.specs.Interval.{interval, Ascending, Canonical, usual_entry, usual_from, usual}
 use Rattle.intervals.proofs.Counted.{and_agrees, leb_agrees, ltb_agrees}
-use Rattle.intervals.proofs.Slice.{length_list, list_next}
+use Rattle.intervals.proofs.Slice.{list_next}
 
 from_agrees : (n lo : ℕ) (is : List Interval) → (usual_from n lo is ≡ true) ↔ Ascending n 1 lo is
 unfolding usual_from
@@ -27,21 +28,24 @@ from_agrees n lo (i ∷ is) =
 pub usual_agrees : (n : ℕ) (is : List Interval) → (usual n is ≡ true) ↔ Canonical n 1 is
 usual_agrees n is = from_agrees n 0 is
 
-module _ (n lo : ℕ) (ps : List (List ℕ)) (i : ℕ) where
-  module _ {s e : ℕ} {b : Bool} (h : i < length ps) (p : s ≡ get_or (get_or ps i []) 0 0) (q : e ≡ get_or (get_or ps i []) 1 0) (t : b ≡ usual_entry n lo s e) where
-    usual_next : usual_from n lo (drop i (list_of ps)) ≡ (b && usual_from n (e + 1) (drop (i + 1) (list_of ps)))
+module _ (n lo : ℕ) (is : List Interval) (i : ℕ) where
+  module _ (h : i < length is) where
+    usual_next : usual_from n lo (drop i is)
+        ≡ (usual_entry n lo (get_or is i (interval 0 0)).start (get_or is i (interval 0 0)).end
+        && usual_from n ((get_or is i (interval 0 0)).end + 1) (drop (i + 1) is))
     unfolding usual_from
-    usual_next =
-        ap (λ (is : List Interval). usual_from n lo is) (list_next ps i h)
-        ∙ ap₂ (λ (x y : ℕ). usual_entry n lo x y && usual_from n (y + 1) (drop (i + 1) (list_of ps))) (sym p) (sym q)
-        ∙ ap (λ (z : Bool). z && usual_from n (e + 1) (drop (i + 1) (list_of ps))) (sym t)
+    usual_next = ap (λ (js : List Interval). usual_from n lo js) (list_next is i h)
 
-    pub usual_go : b ≡ true → usual_from n lo (drop i (list_of ps)) ≡ usual_from n (e + 1) (drop (i + 1) (list_of ps))
+    pub usual_go : usual_entry n lo (get_or is i (interval 0 0)).start (get_or is i (interval 0 0)).end ≡ true
+        → usual_from n lo (drop i is) ≡ usual_from n ((get_or is i (interval 0 0)).end + 1) (drop (i + 1) is)
     usual_go g = usual_next ∙ rw g
 
-    pub usual_stop : b ≡ false → usual_from n lo (drop i (list_of ps)) ≡ false
+    pub usual_stop : usual_entry n lo (get_or is i (interval 0 0)).start (get_or is i (interval 0 0)).end ≡ false
+        → usual_from n lo (drop i is) ≡ false
     usual_stop g = usual_next ∙ rw g
 
-  pub usual_end : length ps ≤ i → usual_from n lo (drop i (list_of ps)) ≡ true
+  pub usual_end : length is ≤ i → usual_from n lo (drop i is) ≡ true
   unfolding usual_from
-  usual_end h = rw (drop_of_length-le (list_of ps) {i = i} (omega (arith, length_list ps)))
+  usual_end h = rw (drop_of_length-le is {i = i} h)
+
+pub ruleset of_usual = (usual_go, usual_stop, usual_end)

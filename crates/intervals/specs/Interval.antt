@@ -1,12 +1,9 @@
 -- The paper, 'Records' and 'Both strands': intervals of letters, the letters that a list of them covers, the shape of a mask, and a list in a slice.
-use Rattle.std.specs.Prelude.{ℕ, zero, suc, ◌+◌, ◌≤◌, ◌<◌, ◌≡◌, Bool, true, false, ◌&&◌, ◌||◌, cond, List, [], ◌∷◌, map, ◌⊎◌, ltb, leb, length, get_or}
+use Rattle.std.specs.Prelude.{ℕ, zero, suc, ◌+◌, ◌≤◌, ◌<◌, ◌≡◌, Bool, true, false, ◌&&◌, ◌||◌, cond, List, [], ◌∷◌, ◌⊎◌, ltb, leb, length}
 use Rattle.buffers.specs.Fill.{put}
+use Rattle.intervals.specs.declared.Interval.{Interval}
 
 -- [start, end): the letters start, start + 1, .., end - 1.
-pub record Interval : Type 0 where
-  pub start : ℕ
-  pub end : ℕ
-
 abbrev pub interval : ℕ → ℕ → Interval
 interval s e = record { start = s; end = e }
 
@@ -48,21 +45,7 @@ usual_from n lo (i ∷ is) = usual_entry n lo i.start i.end && usual_from n (i.e
 abbrev pub usual : ℕ → List Interval → Bool
 usual n is = usual_from n 0 is
 
--- A list of intervals as a slice holds it: an entry of two numbers for each.
-abbrev pub pair : Interval → List ℕ
-pair i = i.start ∷ i.end ∷ []
-
-abbrev pub entries : List Interval → List (List ℕ)
-entries is = map pair is
-
--- The list that a slice holds.
-abbrev pub interval_of : List ℕ → Interval
-interval_of p = interval (get_or p 0 0) (get_or p 1 0)
-
-abbrev pub list_of : List (List ℕ) → List Interval
-list_of ps = map interval_of ps
-
 -- The list was written to the front of a slice xs, which is now xs', and has count intervals.
-pub record Wrote (is : List Interval) (xs xs' : List (List ℕ)) (count : ℕ) : Type 0 where
-  pub list_is : xs' ≡ put (entries is) xs
+pub record Wrote (is : List Interval) (xs xs' : List Interval) (count : ℕ) : Type 0 where
+  pub list_is : xs' ≡ put is xs
   pub count_is : count ≡ length is

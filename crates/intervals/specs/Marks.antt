@@ -1,7 +1,8 @@
 -- Terms of theorems about marks: what a mark says of the list that it stands for.
 use Rattle.std.specs.Prelude.{ℕ, ◌≤◌, ◌<◌, List, [], ◌∷◌, ◌⊎◌, T}
 use Rattle.intervals.specs.declared.Marked.{Marked}
-use Rattle.intervals.specs.Interval.{Interval, Holds, Covers}
+use Rattle.intervals.specs.declared.Interval.{Interval}
+use Rattle.intervals.specs.Interval.{Holds, Covers}
 use Rattle.intervals.specs.Merge.{range}
 
 abbrev pub Some : (Interval → Type 0) → List Interval → Type 0

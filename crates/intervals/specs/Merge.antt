@@ -1,7 +1,8 @@
 -- The paper, 'Both strands': two lists joined, as `merge_intervals` does, with marks and without, and a list read backwards.
 use Rattle.std.specs.Prelude.{ℕ, ◌-◌, max, ◌≡◌, Bool, true, false, cond, ◌||◌, List, [], ◌∷◌, ◌++◌, map, ltb, leb}
 use Rattle.buffers.specs.Fill.{put}
-use Rattle.intervals.specs.Interval.{Interval, interval, Wrote}
+use Rattle.intervals.specs.declared.Interval.{Interval}
+use Rattle.intervals.specs.Interval.{interval, Wrote}
 use Rattle.intervals.specs.declared.Marked.{Marked}
 
 -- Two lists in one by their starts; of two equal starts the second list's goes first. `others` puts what follows i among a list.
@@ -74,7 +75,7 @@ abbrev pub marks_of : List Marked → List ℕ
 marks_of ms = map mark_of ms
 
 -- The list and its marks were written to the fronts of two slices.
-pub record WroteMarked (ms : List Marked) (xs xs' : List (List ℕ)) (ys ys' : List ℕ) (count : ℕ) : Type 0 where
+pub record WroteMarked (ms : List Marked) (xs xs' : List Interval) (ys ys' : List ℕ) (count : ℕ) : Type 0 where
   pub list : Wrote (ranges ms) xs xs' count
   pub marks_are : ys' ≡ put (marks_of ms) ys
 

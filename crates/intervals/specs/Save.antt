@@ -1,6 +1,7 @@
 -- The paper, 'Step and scans': saving an interval to a list, as `save_interval` does to any list.
 use Rattle.std.specs.Prelude.{ℕ, zero, suc, min, max, cond, List, [], ◌∷◌, ◌++◌, leb, length, take, drop, get_or}
-use Rattle.intervals.specs.Interval.{Interval, interval}
+use Rattle.intervals.specs.declared.Interval.{Interval}
+use Rattle.intervals.specs.Interval.{interval}
 
 -- How many of the first m intervals stay: from the last one back they go, up to the first whose end is below s.
 unfoldable pub staying : List Interval → ℕ → ℕ → ℕ

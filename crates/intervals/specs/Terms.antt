@@ -1,4 +1,3 @@
-pub mod Saved
 pub mod Pick
 pub mod Bounds
 pub mod Leading

@@ -1,20 +1,21 @@
-// Lists of intervals, each in a slice: its entries [start, end], one for each interval [start, end).
+// Lists of intervals, each in a slice.
 
 #![tactic(auto)]
 
 ghost use Rattle.std.specs.Prelude.{◌≡◌, ◌+◌, ◌-◌, ◌≤◌, ◌<◌, min, max, length, take, get_or};
-ghost use Rattle.buffers.specs.Fill.{put_at};
-ghost use Rattle.intervals.specs.Interval.{interval, usual_entry, usual, entries, list_of};
+ghost use Rattle.buffers.specs.Fill.{put, put_at};
+ghost use Rattle.intervals.specs.Interval.{interval, usual_entry, usual};
 ghost use Rattle.intervals.specs.Terms.Bounds.{Inside};
 ghost use Rattle.intervals.specs.Save.{staying, save};
 ghost use Rattle.intervals.specs.Merge.{merge, from_forward, from_reverse, nonempty_marked, grown, merge_marked, ranges, mark_of, marks_of, WroteMarked, flip, backwards};
-ghost use Rattle.intervals.specs.Terms.Saved.{Saved};
 ghost use Rattle.intervals.specs.Terms.Pick.{picked, Picks};
 
-fn wide(x: u32) -> usize
-    ensures { (result ≡ x) × (result < 4294967296) }
-{
-    x as usize
+/// The letters from `start` up to `end`, which is not included.
+#[repr(C)]
+#[derive(Clone, Copy)]
+pub struct Interval {
+    pub start: u32,
+    pub end: u32,
 }
 
 fn usual_entry(n: usize, lo: usize, start: usize, end: usize) -> bool
@@ -23,64 +24,50 @@ fn usual_entry(n: usize, lo: usize, start: usize, end: usize) -> bool
     (lo <= start) & ((start < end) & (end <= n))
 }
 
-// Whether the list is of the usual kind in n letters: no entry empty or past n, ascending, a letter or more between.
-pub fn is_usual(list: &[[u32; 2]], n: usize) -> bool
-    ensures { result ≡ usual n (list_of list.now) }
+/// Whether the list is of the usual kind in n letters: no entry empty or past n, ascending, a letter or more between.
+#[tactic(auto, using(crate::proofs::Usual::of_usual))]
+pub fn is_usual(list: &[Interval], n: usize) -> bool
+    ensures { result ≡ usual n list.now }
 {
     let mut lo = 0;
-    let mut i = 0;
-    while i < list.len() {
-        let start = wide(list[i][0]);
-        let end = wide(list[i][1]);
-        if !usual_entry(n, lo, start, end) {
+    for interval in list {
+        if !usual_entry(n, lo, interval.start as usize, interval.end as usize) {
             return false;
         }
-        lo = end + 1;
-        i += 1;
+        lo = interval.end as usize + 1;
     }
     true
 }
 
-pub fn min_u32(a: u32, b: u32) -> u32
-    ensures { result ≡ min a b }
-{
-    if a < b { a } else { b }
-}
-
-pub fn max_u32(a: u32, b: u32) -> u32
-    ensures { result ≡ max a b }
-{
-    if a < b { b } else { a }
-}
-
 // How many intervals stay when one that begins at `start` is saved.
-fn count_staying(list: &[[u32; 2]], start: u32) -> usize
-    ensures { result ≡ staying (list_of list.now) start (length list.now) }
+#[tactic(auto, using(crate::proofs::SaveSteps::of_staying))]
+fn count_staying(list: &[Interval], start: u32) -> usize
+    ensures { result ≡ staying list.now start (length list.now) }
 {
-    let mut k = list.len();
-    while 0 < k {
-        if list[k - 1][1] < start {
-            return k;
+    for k in (0..list.len()).rev() {
+        if list[k].end < start {
+            return k + 1;
         }
-        k -= 1;
     }
     0
 }
 
 // Saves [start, end) to the list of the first `count` entries, and answers how many there are then.
-pub fn save_interval(list: &mut [[u32; 2]], count: usize, start: u32, end: u32) -> usize
+#[tactic(auto, using(crate::proofs::SaveSteps::of_save))]
+pub fn save_interval(list: &mut [Interval], count: usize, start: u32, end: u32) -> usize
     requires count_in_bounds { count ≤ length list.old }
-    requires end_in_bounds { length (save (list_of (take count list.old)) start end) ≤ length list.old }
-    ensures { Saved (save (list_of (take count list.old)) start end) list.old list.new result }
+    requires end_in_bounds { length (save (take count list.old) start end) ≤ length list.old }
+    ensures list { list.new ≡ put (save (take count list.old) start end) list.old }
+    ensures count { result ≡ length (save (take count list.old) start end) }
 {
     let k = count_staying(&list[..count], start);
     if k < count {
-        let s = min_u32(start, list[k][0]);
-        let e = max_u32(end, list[k][1]);
-        list[k] = [s, e];
+        let s = start.min(list[k].start);
+        let e = end.max(list[k].end);
+        list[k] = Interval { start: s, end: e };
         return k + 1;
     }
-    list[k] = [start, end];
+    list[k] = Interval { start, end };
     k + 1
 }
 
@@ -98,9 +85,9 @@ impl Marked {
     fn grown(mut self, part: Marked) -> Self
         ensures { result ≡ grown self part }
     {
-        self.end = max_u32(self.end, part.end);
-        self.forward = self.forward | part.forward;
-        self.reverse = self.reverse | part.reverse;
+        self.end = self.end.max(part.end);
+        self.forward |= part.forward;
+        self.reverse |= part.reverse;
         self
     }
 
@@ -108,28 +95,27 @@ impl Marked {
     fn mark(self) -> u8
         ensures { result ≡ mark_of self }
     {
-        if self.forward {
-            if self.reverse {
-                return 3;
-            }
-            return 1;
+        match (self.forward, self.reverse) {
+            (true, true) => 3,
+            (true, false) => 1,
+            (false, true) => 2,
+            (false, false) => 0,
         }
-        if self.reverse {
-            return 2;
-        }
-        0
     }
 }
 
 // Puts an interval and its marks after the first `count` entries if it has a letter, and answers how many there are then.
-fn push_nonempty(list: &mut [[u32; 2]], marks: &mut [u8], count: usize, part: Marked) -> usize
+fn push_nonempty(list: &mut [Interval], marks: &mut [u8], count: usize, part: Marked) -> usize
     requires { (count + length (nonempty_marked part) ≤ length list.old) × (count + length (nonempty_marked part) ≤ length marks.old) }
-    ensures { (list.new ≡ put_at count (entries (ranges (nonempty_marked part))) list.old)
+    ensures { (list.new ≡ put_at count (ranges (nonempty_marked part)) list.old)
         × (marks.new ≡ put_at count (marks_of (nonempty_marked part)) marks.old)
         × (result ≡ count + length (nonempty_marked part)) }
 {
     if part.start < part.end {
-        list[count] = [part.start, part.end];
+        list[count] = Interval {
+            start: part.start,
+            end: part.end,
+        };
         marks[count] = part.mark();
         return count + 1;
     }
@@ -145,13 +131,13 @@ struct Picked {
 }
 
 // Takes interval i of the forward list.
-fn pick_forward(forward: &[[u32; 2]], i: usize, j: usize) -> Picked
+fn pick_forward(forward: &[Interval], i: usize, j: usize) -> Picked
     requires { i < length forward.now }
-    ensures { result ≡ picked (from_forward (get_or (list_of forward.now) i (interval 0 0))) (i + 1) j }
+    ensures { result ≡ picked (from_forward (get_or forward.now i (interval 0 0))) (i + 1) j }
 {
     let part = Marked {
-        start: forward[i][0],
-        end: forward[i][1],
+        start: forward[i].start,
+        end: forward[i].end,
         forward: true,
         reverse: false,
     };
@@ -163,14 +149,14 @@ fn pick_forward(forward: &[[u32; 2]], i: usize, j: usize) -> Picked
 }
 
 // Takes interval j - 1 of the reverse list, as seen from the other end of n letters.
-fn pick_reverse(reverse: &[[u32; 2]], i: usize, j: usize, n: u32) -> Picked
-    requires { Inside n (list_of reverse.now) × (0 < j) × (j ≤ length reverse.now) }
-    ensures { result ≡ picked (from_reverse (flip n (get_or (list_of reverse.now) (j - 1) (interval 0 0)))) i (j - 1) }
+fn pick_reverse(reverse: &[Interval], i: usize, j: usize, n: u32) -> Picked
+    requires { Inside n reverse.now × (0 < j) × (j ≤ length reverse.now) }
+    ensures { result ≡ picked (from_reverse (flip n (get_or reverse.now (j - 1) (interval 0 0)))) i (j - 1) }
 {
     let last = j - 1;
     let part = Marked {
-        start: n - reverse[last][1],
-        end: n - reverse[last][0],
+        start: n - reverse[last].end,
+        end: n - reverse[last].start,
         forward: false,
         reverse: true,
     };
@@ -182,10 +168,10 @@ fn pick_reverse(reverse: &[[u32; 2]], i: usize, j: usize, n: u32) -> Picked
 }
 
 // Takes the one of these two that starts first; of equal starts the reverse list's.
-fn pick(forward: &[[u32; 2]], i: usize, reverse: &[[u32; 2]], j: usize, n: u32) -> Picked
-    requires inside { Inside n (list_of reverse.now) × (j ≤ length reverse.now) }
+fn pick(forward: &[Interval], i: usize, reverse: &[Interval], j: usize, n: u32) -> Picked
+    requires inside { Inside n reverse.now × (j ≤ length reverse.now) }
     requires i_in_bounds { (i ≤ length forward.now) × (0 < (length forward.now - i) + j) }
-    ensures { Picks (list_of forward.now) i (list_of reverse.now) j n result }
+    ensures { Picks forward.now i reverse.now j n result }
 {
     if j == 0 {
         return pick_forward(forward, i, j);
@@ -193,7 +179,7 @@ fn pick(forward: &[[u32; 2]], i: usize, reverse: &[[u32; 2]], j: usize, n: u32) 
     if i == forward.len() {
         return pick_reverse(reverse, i, j, n);
     }
-    if forward[i][0] < n - reverse[j - 1][1] {
+    if forward[i].start < n - reverse[j - 1].end {
         return pick_forward(forward, i, j);
     }
     pick_reverse(reverse, i, j, n)
@@ -201,16 +187,16 @@ fn pick(forward: &[[u32; 2]], i: usize, reverse: &[[u32; 2]], j: usize, n: u32) 
 
 // Joins the forward list and the reverse list, this one read backwards in n letters, with marks, and answers how many intervals there are then.
 pub fn merge_intervals(
-    forward: &[[u32; 2]],
-    reverse: &[[u32; 2]],
+    forward: &[Interval],
+    reverse: &[Interval],
     n: u32,
-    list: &mut [[u32; 2]],
+    list: &mut [Interval],
     marks: &mut [u8],
 ) -> usize
-    requires inside { Inside n (list_of reverse.now) }
-    requires reverse_in_bounds { (length (merge (list_of forward.now) (backwards n (list_of reverse.now))) ≤ length list.old)
-        × (length (merge (list_of forward.now) (backwards n (list_of reverse.now))) ≤ length marks.old) }
-    ensures { WroteMarked (merge_marked (list_of forward.now) (backwards n (list_of reverse.now)))
+    requires inside { Inside n reverse.now }
+    requires reverse_in_bounds { (length (merge forward.now (backwards n reverse.now)) ≤ length list.old)
+        × (length (merge forward.now (backwards n reverse.now)) ≤ length marks.old) }
+    ensures { WroteMarked (merge_marked forward.now (backwards n reverse.now))
         list.old list.new marks.old marks.new result }
 {
     let mut i = 0;

@@ -3,7 +3,7 @@ use Rattle.std.proofs.Common.{◌≡◌, [], ◌∷◌, pos, refl}
 use lib.Ieee.{binary64, div, of_int}
 use Rattle.letters.specs.Code.{code, codes, complement, reverse_complement}
 use Rattle.letters.specs.Place.{ambiguous, plain, packed, all_plain, place_at, places_from, places}
-use Rattle.letters.specs.Gc.{acgt_count, gc_count, gc_of}
+use Rattle.letters.specs.Gc.{gc_of}
 
 -- "AcgTN-"
 letters : codes (65 ∷ 99 ∷ 103 ∷ 84 ∷ 78 ∷ 45 ∷ []) ≡ 0 ∷ 1 ∷ 2 ∷ 3 ∷ 4 ∷ 4 ∷ []
@@ -26,10 +26,10 @@ two_plain = refl
 
 -- "GCNA"
 two_of_three : gc_of (codes (71 ∷ 67 ∷ 78 ∷ 65 ∷ [])) ≡ div binary64 (of_int binary64 (pos 2)) (of_int binary64 (pos 3))
-unfolding codes code gc_of acgt_count gc_count
+unfolding codes code gc_of
 two_of_three = refl
 
 -- "GUUC"
 two_of_four : gc_of (codes (71 ∷ 85 ∷ 85 ∷ 67 ∷ [])) ≡ div binary64 (of_int binary64 (pos 2)) (of_int binary64 (pos 4))
-unfolding codes code gc_of acgt_count gc_count
+unfolding codes code gc_of
 two_of_four = refl

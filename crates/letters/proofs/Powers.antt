@@ -38,3 +38,6 @@ mod_letter v c j h =
     ∙ ap (λ (x : ℕ). x % (m * 4)) e
     ∙ mul-add-mod_self_left (m * 4) q (r * 4 + c)
     ∙ mod-eq_of_lt (omega arith)
+
+-- What a shift by 2k says of the number of k-mers.
+pub ruleset of_four = (four_two, four_pos, four_small, four_fits, four_large)

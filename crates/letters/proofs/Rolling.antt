@@ -4,7 +4,7 @@ use native.Mathlib.Nat.{mod-one}
 use lib.Bits.{bit_and, bit_or, or_shifted, and_mask}
 use mir.Val.{bool_byte}
 use borrow.Author.Tests.{lt-leb}
-use Rattle.buffers.proofs.At.{default_free}
+use Rattle.std.proofs.lemmas.List.{get_or_default}
 use Rattle.letters.specs.declared.Kmer.{Kmer}
 use Rattle.letters.specs.Place.{ambiguous, plain, packed, all_plain, place_at}
 use Rattle.letters.specs.Terms.Entry.{decode}
@@ -107,7 +107,7 @@ kmer_none k s = refl
 module _ (k : ℕ) (s : List ℕ) (m : ℕ) (q : Kmer) (after : q ≡ kmer_after k s m) where
   pub kmer_next : (r : Kmer) → m < length s → r ≡ rolled_on k q (get_or s m 0) → r ≡ kmer_after k s (m + 1)
   unfolding kmer_after
-  kmer_next r h e = e ∙ rw (after, default_free s m 0 4 h, add-one m)
+  kmer_next r h e = e ∙ rw (after, get_or_default s m 0 4 h, add-one m)
 
   pub run_few : q.run ≤ m
   run_few = rw after (after_few k s m)
@@ -156,3 +156,6 @@ entry_place k s p q e = by (all_plain s (suc p) k) (after_run k s (suc p) k ∙ 
     by false t =
         let v = entry_ambiguous k q (leb-false k q.run (sym t)) in
         decode_ambiguous (entry_of k q) (λ (z : entry_of k q % 2 ≡ 0). omega arith)
+
+-- What the methods of `Kmer` cite.
+pub ruleset of_kmers = (four_pos, four_small, shifted_in, rolled_plain, rolled_other, entry_bits)

@@ -1,17 +1,16 @@
 -- The paper, 'Tables and the program': GC auto is (C+G) / (A+C+G+T), 0.0 if none.
-use Rattle.std.specs.Prelude.{ℕ, ◌+◌, cond, ◌||◌, List, [], ◌∷◌, pos, ◌==◌, from_bits, nat_lt, Float}
+use Rattle.std.specs.Prelude.{ℕ, cond, ◌||◌, List, pos, ◌==◌, from_bits, nat_lt, Float}
 use Rattle.std.specs.Float.{binary64}
 use Rattle.std.specs.Float.Ieee.{div, of_int}
+use Rattle.std.specs.List.{count_by}
 
 -- How many codes are below 4.
-unfoldable pub acgt_count : List ℕ → ℕ
-acgt_count [] = 0
-acgt_count (c ∷ s) = cond (nat_lt c 4) 1 0 + acgt_count s
+abbrev pub acgt_count : List ℕ → ℕ
+acgt_count s = count_by (λ c. nat_lt c 4) s
 
 -- How many codes are C or G.
-unfoldable pub gc_count : List ℕ → ℕ
-gc_count [] = 0
-gc_count (c ∷ s) = cond (c == 1 || c == 2) 1 0 + gc_count s
+abbrev pub gc_count : List ℕ → ℕ
+gc_count s = count_by (λ c. c == 1 || c == 2) s
 
 unfoldable pub gc_of : List ℕ → Float
 gc_of s =

@@ -5,7 +5,7 @@
 ghost use Rattle.std.specs.Prelude.{◌≡◌, ◌^◌, ◌<◌, ◌≤◌, length, nat_lt};
 ghost use Rattle.buffers.specs.Fill.{put};
 ghost use Rattle.letters.specs.Code.{code, codes, complement, reverse_complement};
-ghost use Rattle.letters.specs.Gc.{gc_of};
+ghost use Rattle.letters.specs.Gc.{acgt_count, gc_count, gc_of};
 ghost use Rattle.letters.specs.Terms.Rolling.{no_letter, rolled_on, entry_of};
 
 // Each base in either case, U beside T, and all other bytes.
@@ -24,14 +24,13 @@ fn encode(b: u8) -> u8
     }
 }
 
+#[tactic(auto, using(crate::proofs::Codes::of_codes))]
 pub fn encode_sequence(sequence: &[u8], encoded: &mut [u8])
     requires { length sequence.now ≤ length encoded.old }
     ensures { encoded.new ≡ put (codes sequence.now) encoded.old }
 {
-    let mut i = 0;
-    while i < sequence.len() {
-        encoded[i] = encode(sequence[i]);
-        i += 1;
+    for (i, b) in sequence.iter().enumerate() {
+        encoded[i] = encode(*b);
     }
 }
 
@@ -42,19 +41,19 @@ fn complement(c: u8) -> u8
     if c < 4 { 3 - c } else { c }
 }
 
+#[tactic(auto, using(crate::proofs::Codes::of_reverse_complements))]
 pub fn reverse_complement_encoded_sequence(encoded: &[u8], reversed: &mut [u8])
     requires { length encoded.now ≤ length reversed.old }
     ensures { reversed.new ≡ put (reverse_complement encoded.now) reversed.old }
 {
     let n = encoded.len();
-    let mut i = 0;
-    while i < n {
+    for i in 0..n {
         reversed[i] = complement(encoded[n - 1 - i]);
-        i += 1;
     }
 }
 
 // How many k-mers there are.
+#[tactic(auto, using(crate::proofs::Powers::of_four))]
 pub fn n_kmers(k: usize) -> usize
     requires { k ≤ 12 }
     ensures { result ≡ 4 ^ k }
@@ -63,6 +62,7 @@ pub fn n_kmers(k: usize) -> usize
 }
 
 // Whether a slice of `len` counts is too short for all k-mers, also where there are more of these than a number can say.
+#[tactic(auto, using(crate::proofs::Powers::of_four))]
 pub fn below_n_kmers(len: usize, k: usize) -> bool
     ensures { result ≡ nat_lt len (4 ^ k) }
 {
@@ -87,6 +87,7 @@ impl Kmer {
     }
 
     // The state after one letter more, with the code b.
+    #[tactic(auto, using(crate::proofs::Rolling::of_kmers))]
     pub fn next(mut self, b: u8, k: usize) -> Self
         requires { (k ≤ 12) × (self.run < 4294967296) }
         ensures { result ≡ rolled_on k self b }
@@ -102,6 +103,7 @@ impl Kmer {
     }
 
     // The newest place as a queue entry.
+    #[tactic(auto, using(crate::proofs::Rolling::of_kmers))]
     pub fn entry(self, k: usize) -> u32
         requires { self.value < 16777216 }
         ensures { result ≡ entry_of k self }
@@ -110,20 +112,28 @@ impl Kmer {
     }
 }
 
+// How many codes are below 4.
+fn acgt_count(encoded: &[u8]) -> usize
+    ensures { result ≡ acgt_count encoded.now }
+{
+    encoded.iter().filter(|c| **c < 4).count()
+}
+
+// How many codes are C or G.
+fn gc_count(encoded: &[u8]) -> usize
+    ensures { result ≡ gc_count encoded.now }
+{
+    encoded.iter().filter(|c| **c == 1 || **c == 2).count()
+}
+
+#[tactic(auto, unfolding(crate::specs::Gc::gc_of))]
 pub fn compute_gc_content(encoded: &[u8]) -> f64
     ensures { result ≡ gc_of encoded.now }
 {
-    let mut acgt: u64 = 0;
-    let mut gc: u64 = 0;
-    let mut i = 0;
-    while i < encoded.len() {
-        let c = encoded[i];
-        acgt += (c < 4) as u64;
-        gc += ((c == 1) | (c == 2)) as u64;
-        i += 1;
-    }
+    let acgt = acgt_count(encoded);
     if acgt == 0 {
         return 0.0;
     }
-    std::num::nearest_u64_to_f64(gc) / std::num::nearest_u64_to_f64(acgt)
+    let gc = gc_count(encoded);
+    std::num::nearest_usize_to_f64(gc) / std::num::nearest_usize_to_f64(acgt)
 }

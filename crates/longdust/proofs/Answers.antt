@@ -10,10 +10,11 @@ use Rattle.buffers.proofs.Lent.{free_at}
 use Rattle.buffers.proofs.Put.{put_part}
 use Rattle.letters.specs.Code.{codes}
 use Rattle.letters.proofs.Codes.{codes_length}
-use Rattle.intervals.specs.Interval.{Interval, Canonical, Covers, entries, Wrote}
+use Rattle.intervals.specs.declared.Interval.{Interval}
+use Rattle.intervals.specs.Interval.{Canonical, Covers, Wrote}
 use Rattle.intervals.specs.declared.Marked.{Marked}
 use Rattle.intervals.specs.Merge.{range, ranges, mark_of, marks_of, WroteMarked}
-use Rattle.intervals.proofs.Slice.{wrote_list, length_entries}
+use Rattle.intervals.proofs.Slice.{wrote_list}
 use Rattle.scans.specs.declared.Params.{Params}
 use Rattle.scans.specs.Setup.{Setup}
 use Rattle.scans.specs.Terms.Numbers.{setup_of}
@@ -30,11 +31,11 @@ use Rattle.mask.proofs.Marking.{marked_evidence}
 use Rattle.longdust.proofs.Parts.{fronts, back, Returned, whole}
 
 -- A list written to the lent front of a slice is written to the slice.
-wrote_part : (m : ℕ) {is : List Interval} {xs ys : List (List ℕ)} {count : ℕ} → Wrote is (take m xs) ys count → length is ≤ m → m ≤ length xs
+wrote_part : (m : ℕ) {is : List Interval} {xs ys : List Interval} {count : ℕ} → Wrote is (take m xs) ys count → length is ≤ m → m ≤ length xs
     → Wrote is xs (ys ++ drop m xs) count
 wrote_part m {is} {xs} {ys} {count} w h k =
     record {
-      list_is = ap (λ (z : List (List ℕ)). z ++ drop m xs) w.list_is ∙ put_part m (entries is) xs (omega (arith, length_entries is)) k;
+      list_is = ap (λ (z : List Interval). z ++ drop m xs) w.list_is ∙ put_part m is xs (omega arith) k;
       count_is = w.count_is;
     }
 

@@ -5,6 +5,7 @@ use Prim.Native.Nat.{ℕ, ◌+◌, ◌/◌, ◌^◌, ◌≤◌}
 use native.Mathlib.Omega.{arith}
 use lib.ListN.{length, take, drop}
 use lib.Seq.{length-take-le}
+use Rattle.intervals.specs.declared.Interval.{Interval}
 use Rattle.buffers.specs.Free.{Free}
 use Rattle.buffers.proofs.Lent.{part_free, free_at}
 use Rattle.scans.specs.declared.Params.{Params}
@@ -13,6 +14,7 @@ use Rattle.longdust.specs.declared.LongdustOptions.{LongdustOptions}
 use Rattle.longdust.specs.declared.Lent.{Lent}
 use Rattle.longdust.specs.Buffers.{Buffers, lengths}
 use Rattle.longdust.specs.Terms.Inner.{Admitted}
+use Rattle.mask.specs.declared.Workspace.{Workspace}
 use Rattle.mask.specs.Terms.Both.{BothLent}
 
 -- w + 1 entries of ln, w + 2 of f, w of the queue and the candidates, m of the counts, n codes and R entries of each list and of the marks.
@@ -51,6 +53,16 @@ back w m n R b y =
       marks = y.marks ++ drop R b.marks;
     }
 
+-- The slices of a workspace hold the fronts y.
+pub record Lends (v : Workspace) (y : Buffers) : Type 0 where
+  pub queue : v.queue.now ≡ y.queue
+  pub window_counts : v.window_counts.now ≡ y.window_counts
+  pub scan_counts : v.scan_counts.now ≡ y.scan_counts
+  pub candidates : v.candidates.now ≡ y.candidates
+  pub reverse_codes : v.reverse_codes.now ≡ y.reverse_codes
+  pub forward_list : v.forward_list.now ≡ y.forward_list
+  pub reverse_list : v.reverse_list.now ≡ y.reverse_list
+
 -- The fronts y are as long as b's.
 pub record Returned (b y : Buffers) : Type 0 where
   pub queue : length y.queue ≡ length b.queue
@@ -70,9 +82,8 @@ module _ (o : LongdustOptions) (n m : ℕ) (b : Buffers) (a : Admitted o n (leng
   scans_fit : m ≤ length b.scan_counts
   scans_fit = omega (arith, a.enough.scan_counts)
 
-  sizes : (p : Params) → p.kmer ≡ o.kmer → p.window_size ≡ o.window_size → (list : List (List ℕ)) → (n + 1) / (o.kmer + 1) ≤ length list
-      → StrandLent p n (length (take (o.window_size + 1) b.ln)) (length (take (o.window_size + 2) b.f))
-      (length (take o.window_size b.queue)) (length (take m b.window_counts)) (length (take m b.scan_counts))
+  sizes : (p : Params) → p.kmer ≡ o.kmer → p.window_size ≡ o.window_size → (list : List Interval) → (n + 1) / (o.kmer + 1) ≤ length list
+      → StrandLent p n (length (take o.window_size b.queue)) (length (take m b.window_counts)) (length (take m b.scan_counts))
       (length (take o.window_size b.candidates)) (length (take ((n + 1) / (o.kmer + 1)) list))
   sizes p k w list fits =
       let c = a.bounds in
@@ -85,29 +96,26 @@ module _ (o : LongdustOptions) (n m : ℕ) (b : Buffers) (a : Admitted o n (leng
               kmer_some = omega (arith, c.kmer_low);
               kmer_small = omega (arith, c.kmer_high);
               letters_in = omega (arith, a.letters_high);
-              f_long = omega (arith, length-take-le (o.window_size + 2) b.f g.f);
               counts_is = length-take-le m b.scan_counts scans_fit ∙ e ∙ ap (λ (z : ℕ). 4 ^ z) (omega arith);
               list_long = omega (arith, length-take-le R list fits);
             };
         wide = omega (arith, c.window_low, c.kmer_low);
         small = omega (arith, c.window_high);
-        ln_long = omega (arith, length-take-le (o.window_size + 1) b.ln g.ln);
         ring_is = omega (arith, length-take-le o.window_size b.queue g.queue);
         window_counts_are = length-take-le m b.window_counts windows_fit ∙ e ∙ ap (λ (z : ℕ). 4 ^ z) (omega arith);
         candidates_long = omega (arith, length-take-le o.window_size b.candidates g.candidates);
       }
 
   pub both_lent : (p : Params) → p.kmer ≡ o.kmer → p.window_size ≡ o.window_size
-      → let l : Lent = lengths (fronts o.window_size m n ((n + 1) / (o.kmer + 1)) b) in
-      BothLent p n l.ln l.f l.queue l.window_counts l.scan_counts l.candidates l.reverse_codes l.forward_list l.reverse_list l.list l.marks
-  both_lent p k w =
+      → let y : Buffers = fronts o.window_size m n ((n + 1) / (o.kmer + 1)) b in (v : Workspace) → Lends v y → BothLent p n v (length y.list) (length y.marks)
+  both_lent p k w v e =
       let g = a.enough in
       let R = (n + 1) / (o.kmer + 1) in
       let r : (n + 1) / (p.kmer + 1) ≡ R = ap (λ (z : ℕ). (n + 1) / (z + 1)) k in
       record {
-        forward = sizes p k w b.forward_list g.forward_list;
+        forward = rw (e.queue, e.window_counts, e.scan_counts, e.candidates, e.forward_list) (sizes p k w b.forward_list g.forward_list);
         reverse =
-            record { lent = sizes p k w b.reverse_list g.reverse_list; codes = length-take-le n b.reverse_codes g.reverse_codes };
+            record { lent = rw (e.queue, e.window_counts, e.scan_counts, e.candidates, e.reverse_list) (sizes p k w b.reverse_list g.reverse_list); codes = rw e.reverse_codes (length-take-le n b.reverse_codes g.reverse_codes) };
         list = omega (arith, length-take-le R b.list g.list);
         marks = omega (arith, length-take-le R b.marks g.marks);
       }

@@ -11,7 +11,7 @@ use lib.Ieee.{Float}
 use Rattle.buffers.specs.Fill.{put}
 use Rattle.letters.specs.Code.{codes, reverse_complement}
 use Rattle.letters.proofs.Codes.{codes_length, reverse_complement_twice, reverse_complement_length}
-use Rattle.intervals.specs.Interval.{Interval, entries}
+use Rattle.intervals.specs.declared.Interval.{Interval}
 use Rattle.intervals.specs.declared.Marked.{Marked}
 use Rattle.intervals.specs.Merge.{merge, marks_of, backwards}
 use Rattle.intervals.proofs.Slice.{wrote_list}
@@ -25,8 +25,8 @@ use Rattle.tables.specs.declared.Density.{Density}
 use Rattle.tables.specs.Density.{density}
 use Rattle.tables.specs.Tables.{ln_table, f_table}
 use Rattle.tables.proofs.Tables.{ln_held, f_table_length, density_reverse_complement}
-use Rattle.ln_bound.specs.Logarithm.{EntriesWithin}
-use Rattle.ln_bound.proofs.Theorems.{filled_within}
+use Rattle.tables.specs.Logarithm.{EntriesWithin}
+use Rattle.tables.proofs.LnBound.Theorems.{filled_within}
 use Rattle.longdust.specs.declared.LongdustOptions.{LongdustOptions}
 use Rattle.longdust.specs.declared.Answer.{Answer}
 use Rattle.longdust.specs.declared.Lent.{Lent}
@@ -95,7 +95,7 @@ module _ (o : LongdustOptions) (s : List ℕ) {b b' c c' : Buffers} {r q : Answe
           let flag_is : q.in_range ≡ r.in_range =
           y.flag ∙ ap₂ (λ (m n : List Float). in_range (setup o m n)) ln_is f_is ∙ sym x.flag in (
             rw (same_number, count_is, flag_is),
-            y.buffers.list.list_is ∙ ap₂ (λ (is : List Interval) (d : List (List ℕ)). put (entries is) d) mask_is list
+            y.buffers.list.list_is ∙ ap₂ (λ (is : List Interval) (d : List Interval). put is d) mask_is list
                 ∙ sym x.buffers.list.list_is,
             y.buffers.marks
                 ∙ ap₂ (λ (ms : List Marked) (d : List ℕ). put (marks_of ms) d) (ap₂ (λ (m n : List Float). marked_mask o s m n) ln_is f_is) marks

@@ -1,4 +1,5 @@
 -- The paper, 'Records': the lent buffers, what they hold and how many entries each has.
+use Rattle.intervals.specs.declared.Interval.{Interval}
 use Rattle.std.specs.Prelude.{List, ℕ, length, Float}
 use Rattle.scans.specs.declared.ForwardPosition.{ForwardPosition}
 use Rattle.longdust.specs.declared.Lent.{Lent}
@@ -13,13 +14,13 @@ pub record Buffers : Type 0 where
   pub candidates : List ForwardPosition
   pub codes : List ℕ
   pub reverse_codes : List ℕ
-  pub forward_list : List (List ℕ)
-  pub reverse_list : List (List ℕ)
-  pub list : List (List ℕ)
+  pub forward_list : List Interval
+  pub reverse_list : List Interval
+  pub list : List Interval
   pub marks : List ℕ
 
 abbrev pub buffers : List Float → List Float → List ℕ → List ℕ → List ℕ → List ForwardPosition → List ℕ → List ℕ
-    → List (List ℕ) → List (List ℕ) → List (List ℕ) → List ℕ → Buffers
+    → List Interval → List Interval → List Interval → List ℕ → Buffers
 buffers ln f queue window_counts scan_counts candidates cs reverse_codes forward_list reverse_list list marks =
     record {
       ln = ln;

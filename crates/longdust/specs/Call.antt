@@ -4,7 +4,8 @@ use Rattle.buffers.specs.Fill.{put}
 use Rattle.buffers.specs.Free.{Free}
 use Rattle.checks.specs.Tests.{most_intervals}
 use Rattle.letters.specs.Code.{codes}
-use Rattle.intervals.specs.Interval.{Interval, Canonical, Covers, list_of, Wrote}
+use Rattle.intervals.specs.declared.Interval.{Interval}
+use Rattle.intervals.specs.Interval.{Canonical, Covers, Wrote}
 use Rattle.intervals.specs.Merge.{marks_of}
 use Rattle.intervals.specs.Marks.{Every}
 use Rattle.scans.specs.Range.{in_range}
@@ -30,7 +31,7 @@ list_size o s = most_intervals (length s) o.kmer
 
 -- The intervals that an answer counts, in the final list.
 abbrev pub listed : Answer → Buffers → List Interval
-listed r b = list_of (take r.count b.list)
+listed r b = take r.count b.list
 
 -- And their marks.
 abbrev pub listed_marks : Answer → Buffers → List ℕ

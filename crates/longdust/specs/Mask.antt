@@ -1,7 +1,7 @@
 -- The paper, 'Both strands': the mask of a request.
 use Rattle.std.specs.Prelude.{ℕ, List, Float}
 use Rattle.letters.specs.Code.{codes}
-use Rattle.intervals.specs.Interval.{Interval}
+use Rattle.intervals.specs.declared.Interval.{Interval}
 use Rattle.intervals.specs.declared.Marked.{Marked}
 use Rattle.scans.specs.Setup.{Setup, drop_limit, max_test}
 use Rattle.mask.specs.Mask.{mask_of, marked_mask_of}

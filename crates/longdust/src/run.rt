@@ -8,7 +8,9 @@ ghost use Rattle.longdust.specs.Mask.{setup};
 ghost use Rattle.longdust.specs.Terms.Inner.{Bounds, Admitted, Prepared, accepted, Ran};
 
 use crate::{Answer, LongdustOptions};
-use scans::Params;
+use intervals::Interval;
+use mask::Workspace;
+use scans::{Params, Setup};
 
 // The ends of demand 3's ranges: of the threshold and the ln entries, and of the f entries.
 const LN_END: f64 = 16.0;
@@ -100,9 +102,9 @@ pub fn mask_encoded(
     scan_counts: &mut [u16],
     candidates: &mut [scans::ForwardPosition],
     reverse_codes: &mut [u8],
-    forward_list: &mut [[u32; 2]],
-    reverse_list: &mut [[u32; 2]],
-    list: &mut [[u32; 2]],
+    forward_list: &mut [Interval],
+    reverse_list: &mut [Interval],
+    list: &mut [Interval],
     marks: &mut [u8],
 ) -> Answer
     requires { Admitted options (length codes.now) (lengths
@@ -125,20 +127,25 @@ pub fn mask_encoded(
     let ln = &ln[..w + 1];
     let f = &f[..w + 2];
     let flag = in_range(options, ln, f);
-    let p = prepare(options, flag, n, ln, f);
+    let setup = Setup {
+        params: prepare(options, flag, n, ln, f),
+        ln: ln,
+        f: f,
+    };
+    let mut work = Workspace {
+        queue: &mut queue[..w],
+        window_counts: &mut window_counts[..kmers],
+        scan_counts: &mut scan_counts[..kmers],
+        candidates: &mut candidates[..w],
+        reverse_codes: &mut reverse_codes[..n],
+        forward_list: &mut forward_list[..rows],
+        reverse_list: &mut reverse_list[..rows],
+    };
     let count = mask::both_strands(
-        p,
+        &setup,
         options.forward_only,
         codes,
-        ln,
-        f,
-        &mut queue[..w],
-        &mut window_counts[..kmers],
-        &mut scan_counts[..kmers],
-        &mut candidates[..w],
-        &mut reverse_codes[..n],
-        &mut forward_list[..rows],
-        &mut reverse_list[..rows],
+        &mut work,
         &mut list[..rows],
         &mut marks[..rows],
     );

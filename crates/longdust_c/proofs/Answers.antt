@@ -10,7 +10,7 @@ use mir.Syntax.{w64}
 use mir.Val.{SFits, to_z, of_z}
 use mir.ValLaws.{to_z-of_z}
 use Rattle.checks.specs.Tests.{most_intervals}
-use Rattle.intervals.specs.Interval.{Interval}
+use Rattle.intervals.specs.declared.Interval.{Interval}
 use Rattle.intervals.proofs.Slice.{wrote_list}
 use Rattle.intervals.proofs.Shape.{canonical_room}
 use Rattle.longdust.specs.declared.LongdustOptions.{LongdustOptions}

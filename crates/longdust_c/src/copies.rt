@@ -1,24 +1,29 @@
 // The call for masked copies.
 
-ghost use Rattle.c_numbers.specs.Numbers.{masking_of};
-ghost use Rattle.intervals.specs.Interval.{list_of};
-ghost use Rattle.longdust_c.specs.Copies.{ExportedCopy};
+ghost use Rattle.std.specs.Prelude.{◌≡◌, ◌<◌, length};
+ghost use Rattle.buffers.specs.Fill.{put};
+ghost use Rattle.masked_copy.specs.Copy.{copy_of, refusal};
+ghost use Rattle.c_numbers.specs.Numbers.{masking_of, count_or};
 
-use c_numbers::{count_or_refusal, masking_of};
+use c_numbers::{masking_of, returned};
+use intervals::Interval;
 
 // The sequence over the front of `copy`, its letters masked that an interval of the list holds.
 #[unsafe(no_mangle)]
 pub extern "C" fn longdust_masked_copy(
     sequence: &[u8],
-    list: &[[u32; 2]],
+    list: &[Interval],
     lower_case: u32,
     replacement: u8,
     copy: &mut [u8],
 ) -> i64
-    ensures { ExportedCopy (masking_of lower_case replacement) (list_of list.now) sequence.now
-        copy.old copy.new result }
+    ensures number { let masking = masking_of lower_case replacement in
+        result ≡ count_or (refusal masking sequence.now copy.old) (length sequence.now) }
+    ensures accepted { let masking = masking_of lower_case replacement in
+        refusal masking sequence.now copy.old ≡ 0 → copy.new ≡ put (copy_of masking list.now sequence.now) copy.old }
+    ensures refused { let masking = masking_of lower_case replacement in
+        0 < refusal masking sequence.now copy.old → copy.new ≡ copy.old }
 {
     let masking = masking_of(lower_case, replacement);
-    let copied = masked_copy::masked_copy(sequence, list, masking, copy);
-    count_or_refusal(copied.refusal, copied.count)
+    returned(masked_copy::masked_copy(sequence, list, masking, copy))
 }

@@ -1,26 +1,32 @@
 // The call for joining tracks.
 
-ghost use Rattle.c_numbers.specs.Numbers.{kind_of};
-ghost use Rattle.intervals.specs.Interval.{list_of};
-ghost use Rattle.longdust_c.specs.Tracks.{ExportedJoin};
+ghost use Rattle.std.specs.Prelude.{◌≡◌, ◌<◌, length};
+ghost use Rattle.buffers.specs.Fill.{put};
+ghost use Rattle.tracks.specs.Tracks.{joined, joined_marks, refusal};
+ghost use Rattle.c_numbers.specs.Numbers.{kind_of, count_or};
 
-use c_numbers::{count_or_refusal, kind_of};
+use c_numbers::{kind_of, returned};
+use intervals::Interval;
 
 // The letters of our list and of theirs that are wanted, and the marks of our intervals, over the fronts of `list` and `list_marks`.
 #[unsafe(no_mangle)]
 pub extern "C" fn longdust_join_tracks(
     kind: u32,
     n: usize,
-    ours: &[[u32; 2]],
+    ours: &[Interval],
     marks: &[u8],
-    theirs: &[[u32; 2]],
-    list: &mut [[u32; 2]],
+    theirs: &[Interval],
+    list: &mut [Interval],
     list_marks: &mut [u8],
 ) -> i64
-    ensures { ExportedJoin (kind_of kind) n (list_of ours.now) marks.now (list_of theirs.now)
-        list.old list.new list_marks.old list_marks.new result }
+    ensures number { result ≡ count_or (refusal n ours.now marks.now theirs.now (length list.old) (length list_marks.old))
+        (length (joined (kind_of kind) n ours.now theirs.now)) }
+    ensures accepted { refusal n ours.now marks.now theirs.now (length list.old) (length list_marks.old) ≡ 0
+        → (list.new ≡ put (joined (kind_of kind) n ours.now theirs.now) list.old)
+        × (list_marks.new ≡ put (joined_marks (kind_of kind) n ours.now marks.now theirs.now) list_marks.old) }
+    ensures refused { 0 < refusal n ours.now marks.now theirs.now (length list.old) (length list_marks.old)
+        → (list.new ≡ list.old) × (list_marks.new ≡ list_marks.old) }
 {
     let wanted = kind_of(kind);
-    let joining = tracks::join_tracks(wanted, n, ours, marks, theirs, list, list_marks);
-    count_or_refusal(joining.refusal, joining.count)
+    returned(tracks::join_tracks(wanted, n, ours, marks, theirs, list, list_marks))
 }

@@ -15,6 +15,7 @@ ghost use Rattle.longdust.specs.Call.{Kept, Filled};
 ghost use Rattle.longdust_c.specs.Exported.{Exported};
 
 use c_numbers::{count_or_refusal, flag_of, options_of};
+use intervals::Interval;
 
 // `longdust::process_tables` on numbers and slices: answers the interval count or minus the refusal number, and sets the flag.
 #[unsafe(no_mangle)]
@@ -38,9 +39,9 @@ pub extern "C" fn longdust_process_tables(
     candidates: &mut [scans::ForwardPosition],
     codes: &mut [u8],
     reverse_codes: &mut [u8],
-    forward_list: &mut [[u32; 2]],
-    reverse_list: &mut [[u32; 2]],
-    list: &mut [[u32; 2]],
+    forward_list: &mut [Interval],
+    reverse_list: &mut [Interval],
+    list: &mut [Interval],
     marks: &mut [u8],
     in_range: &mut u32,
 ) -> i64
@@ -110,9 +111,9 @@ pub extern "C" fn longdust_process(
     candidates: &mut [scans::ForwardPosition],
     codes: &mut [u8],
     reverse_codes: &mut [u8],
-    forward_list: &mut [[u32; 2]],
-    reverse_list: &mut [[u32; 2]],
-    list: &mut [[u32; 2]],
+    forward_list: &mut [Interval],
+    reverse_list: &mut [Interval],
+    list: &mut [Interval],
     marks: &mut [u8],
     in_range: &mut u32,
 ) -> i64

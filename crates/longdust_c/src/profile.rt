@@ -1,9 +1,13 @@
 // The small profile's call: numbers and byte slices alone, in work space of its own.
 
-ghost use Rattle.c_numbers.specs.Numbers.{small_options};
-ghost use Rattle.longdust_c.specs.Small.{ExportedSmall};
+ghost use Rattle.std.specs.Prelude.{◌≡◌, ◌<◌, length};
+ghost use Rattle.buffers.specs.Fill.{put};
+ghost use Rattle.small.specs.Bytes.{bytes_of};
+ghost use Rattle.small.specs.Call.{filled_mask};
+ghost use Rattle.small.specs.Profile.{refusal};
+ghost use Rattle.c_numbers.specs.Numbers.{small_options, count_or};
 
-use c_numbers::{count_or_refusal, small_options};
+use c_numbers::{returned, small_options};
 
 // The mask of the sequence over the front of `out`, each interval as its start and its end, four bytes each, lowest first.
 #[unsafe(no_mangle)]
@@ -19,9 +23,12 @@ pub extern "C" fn longdust_small(
     forward_only: u32,
     out: &mut [u8],
 ) -> i64
-    ensures { ExportedSmall
-        (small_options kmer window_size score_threshold xdrop_set xdrop_length min_start_cnt approx forward_only)
-        sequence.now out.old out.new result }
+    ensures number { let options = small_options kmer window_size score_threshold xdrop_set xdrop_length min_start_cnt approx forward_only in
+        result ≡ count_or (refusal options sequence.now (length out.old)) (length (filled_mask options sequence.now)) }
+    ensures accepted { let options = small_options kmer window_size score_threshold xdrop_set xdrop_length min_start_cnt approx forward_only in
+        refusal options sequence.now (length out.old) ≡ 0 → out.new ≡ put (bytes_of (filled_mask options sequence.now)) out.old }
+    ensures refused { let options = small_options kmer window_size score_threshold xdrop_set xdrop_length min_start_cnt approx forward_only in
+        0 < refusal options sequence.now (length out.old) → out.new ≡ out.old }
 {
     let options = small_options(
         kmer,
@@ -33,6 +40,5 @@ pub extern "C" fn longdust_small(
         approx,
         forward_only,
     );
-    let written = small::write_mask(sequence, options, out);
-    count_or_refusal(written.refusal, written.count)
+    returned(small::write_mask(sequence, options, out))
 }

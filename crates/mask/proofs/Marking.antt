@@ -12,7 +12,8 @@ use Rattle.buffers.specs.Fill.{put}
 use Rattle.letters.specs.Code.{reverse_complement}
 use Rattle.letters.proofs.Codes.{reverse_complement_length, reverse_complement_twice}
 use Rattle.intervals.specs.declared.Marked.{Marked}
-use Rattle.intervals.specs.Interval.{Interval, Canonical, Covers}
+use Rattle.intervals.specs.declared.Interval.{Interval}
+use Rattle.intervals.specs.Interval.{Canonical, Covers}
 use Rattle.intervals.specs.Merge.{merge_marked, range, ranges, mark_of, marks_of, backwards, flip_marked, backwards_marked}
 use Rattle.intervals.specs.Marks.{Every, Told, ToldLetters}
 use Rattle.intervals.proofs.Shape.{covers_below}

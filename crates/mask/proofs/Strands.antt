@@ -9,51 +9,38 @@ use Rattle.buffers.specs.Fill.{put}
 use Rattle.buffers.proofs.Filling.{put_all}
 use Rattle.letters.specs.Code.{reverse_complement}
 use Rattle.letters.proofs.Codes.{reverse_complement_length}
-use Rattle.intervals.specs.Interval.{Interval, list_of}
+use Rattle.intervals.specs.declared.Interval.{Interval}
 use Rattle.intervals.specs.declared.Marked.{Marked}
 use Rattle.intervals.specs.Merge.{merge, merge_marked, WroteMarked, backwards}
 use Rattle.intervals.proofs.Shape.{ascending_inside}
-use Rattle.scans.specs.declared.Params.{Params}
 use Rattle.scans.specs.Setup.{Setup}
 use Rattle.step.specs.Step.{intervals_of}
-use Rattle.strand.specs.Terms.Running.{StrandLent, StrandList}
+use Rattle.strand.specs.Terms.Running.{StrandList}
 use Rattle.step.proofs.Theorems.{strand_room}
 use Rattle.mask.specs.Mask.{mask_of, marked_mask_of}
-use Rattle.mask.specs.Terms.Both.{other_intervals, Held, ReverseLent, Mergeable}
+use Rattle.mask.specs.Terms.Both.{other_intervals, Held, Mergeable}
 use Rattle.mask.proofs.Masks.{mask_room, mask_merged, marked_merged, others_shape}
-
-pub lent_as : {p : Params} {n ln f q w s c l n' q' w' s' c' : ℕ} → StrandLent p n ln f q w s c l
-    → n' ≡ n → q' ≡ q → w' ≡ w → s' ≡ s → c' ≡ c → StrandLent p n' ln f q' w' s' c' l
-lent_as k en eq ew es ec = rw (en, eq, ew, es, ec) k
-
-pub reverse_as : {p : Params} {n ln f q w s c k l q' w' s' c' : ℕ} → ReverseLent p n ln f q w s c k l
-    → q' ≡ q → w' ≡ w → s' ≡ s → c' ≡ c → ReverseLent p n ln f q' w' s' c' k l
-reverse_as r eq ew es ec = rw (eq, ew, es, ec) r
 
 -- The reverse complement over a whole buffer.
 pub reversed_whole : (s d d' : List ℕ) → d' ≡ put (reverse_complement s) d → length d ≡ length s → d' ≡ reverse_complement s
 reversed_whole s d d' e l = e ∙ put_all (reverse_complement s) d (l ∙ sym (reverse_complement_length s))
 
 -- A strand's list as its run leaves it.
-pub scanned : (S : Setup) (codes : List ℕ) (list list' : List (List ℕ)) (count : ℕ) → (length codes + 1) / (S.kmer + 1) ≤ length list
+pub scanned : (S : Setup) (codes : List ℕ) (list list' : List Interval) (count : ℕ) → (length codes + 1) / (S.kmer + 1) ≤ length list
     → length list' ≡ length list → StrandList S codes list' count → Held (intervals_of S codes) list' count
 scanned S codes list list' count h l r = record { list_is = r.list_is; within = omega (arith, r.count_is, strand_room S codes) }
 
--- The other strand's list: none, or that of the reverse complement.
-pub other_none : (S : Setup) (b : Bool) (s : List ℕ) (xs : List (List ℕ)) → b ≡ true → Held (other_intervals S b s) xs 0
-other_none S b s xs e = record { list_is = rw e; within = omega arith }
-
-pub other_some : (S : Setup) (b : Bool) (s t : List ℕ) (xs : List (List ℕ)) (count : ℕ) → b ≡ false → t ≡ reverse_complement s
+pub other_some : (S : Setup) (b : Bool) (s t : List ℕ) (xs : List Interval) (count : ℕ) → b ≡ false → t ≡ reverse_complement s
     → Held (intervals_of S t) xs count → Held (other_intervals S b s) xs count
 other_some S b s t xs count e r q = record { list_is = q.list_is ∙ rw (r, e); within = q.within }
 
-module _ (S : Setup) (b : Bool) (s : List ℕ) {fs rs : List (List ℕ)} {i j : ℕ} (some : 0 < S.kmer)
+module _ (S : Setup) (b : Bool) (s : List ℕ) {fs rs : List Interval} {i j : ℕ} (some : 0 < S.kmer)
     (f : Held (intervals_of S s) fs i) (r : Held (other_intervals S b s) rs j) where
-  merged : merge (list_of (take i fs)) (backwards (length s) (list_of (take j rs))) ≡ mask_of S b s
+  merged : merge (take i fs) (backwards (length s) (take j rs)) ≡ mask_of S b s
   merged =
       ap₂ (λ (is js : List Interval). merge is (backwards (length s) js)) f.list_is r.list_is ∙ mask_merged S b s some
 
-  pub mergeable : (list : List (List ℕ)) (marks : List ℕ) → (length s + 1) / (S.kmer + 1) ≤ length list → (length s + 1) / (S.kmer + 1) ≤ length marks
+  pub mergeable : (list : List Interval) (marks : List ℕ) → (length s + 1) / (S.kmer + 1) ≤ length list → (length s + 1) / (S.kmer + 1) ≤ length marks
       → Mergeable fs i rs j (length s) list marks
   mergeable list marks h g =
       record {
@@ -64,8 +51,8 @@ module _ (S : Setup) (b : Bool) (s : List ℕ) {fs rs : List (List ℕ)} {i j : 
         marks_room = rw merged (let m = mask_room S b s some in omega arith);
       }
 
-  pub merged_wrote : {xs xs' : List (List ℕ)} {ys ys' : List ℕ} {count : ℕ}
-      → WroteMarked (merge_marked (list_of (take i fs)) (backwards (length s) (list_of (take j rs)))) xs xs' ys ys' count
+  pub merged_wrote : {xs xs' : List Interval} {ys ys' : List ℕ} {count : ℕ}
+      → WroteMarked (merge_marked (take i fs) (backwards (length s) (take j rs))) xs xs' ys ys' count
       → WroteMarked (marked_mask_of S b s) xs xs' ys ys' count
   merged_wrote {xs} {xs'} {ys} {ys'} {count} w =
       subst (λ (ms : List Marked). WroteMarked ms xs xs' ys ys' count)

@@ -2,7 +2,8 @@
 use Rattle.std.specs.Prelude.{ℕ, ◌+◌, ◌≡◌, ◌⊎◌, Bool, false, cond, List, [], ◌∷◌, ◌++◌, map, eqb, length}
 use Rattle.letters.specs.Code.{reverse_complement}
 use Rattle.letters.specs.Place.{places}
-use Rattle.intervals.specs.Interval.{Interval, Holds}
+use Rattle.intervals.specs.declared.Interval.{Interval}
+use Rattle.intervals.specs.Interval.{Holds}
 use Rattle.intervals.specs.declared.Marked.{Marked}
 use Rattle.intervals.specs.Merge.{merge, from_forward, merge_marked, range, mark_of, backwards}
 use Rattle.scans.specs.Setup.{Setup}

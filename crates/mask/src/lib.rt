@@ -2,67 +2,96 @@
 
 #![tactic(auto)]
 
-ghost use Rattle.std.specs.Prelude.{length, take};
-ghost use Rattle.intervals.specs.Interval.{list_of};
+ghost use Rattle.std.specs.Prelude.{◌≡◌, length, take};
 ghost use Rattle.intervals.specs.Merge.{merge_marked, WroteMarked, backwards};
-ghost use Rattle.scans.specs.Terms.Numbers.{setup_of};
-ghost use Rattle.scans.specs.Terms.Shape.{Shaped};
+ghost use Rattle.scans.specs.Terms.Run.{as_setup};
+ghost use Rattle.step.specs.Step.{intervals_of};
 ghost use Rattle.mask.specs.Mask.{marked_mask_of};
-ghost use Rattle.mask.specs.Terms.Both.{Held, other_intervals, ReverseLent, BothLent, Mergeable};
+ghost use Rattle.mask.specs.Terms.Both.{Held, other_intervals, SameBuffers, ForwardLent, ReverseLent, BothLent, Mergeable};
 
-use scans::Params;
+use intervals::Interval;
+use scans::{ForwardPosition, Setup};
 
-// The list of the reverse complement, in the front of `reverse_list`; answers how many intervals it has. A forward-only run has none.
-pub fn reverse_strand(
-    p: Params,
-    forward_only: bool,
-    codes: &[u8],
-    ln: &[f64],
-    f: &[f64],
-    queue: &mut [u32],
-    window_counts: &mut [u16],
-    scan_counts: &mut [u16],
-    candidates: &mut [scans::ForwardPosition],
-    reverse_codes: &mut [u8],
-    reverse_list: &mut [[u32; 2]],
-) -> usize
-    requires reverse_lent { ReverseLent p (length codes.now) (length ln.now) (length f.now) (length queue.old)
-        (length window_counts.old) (length scan_counts.old) (length candidates.old) (length reverse_codes.old)
-        (length reverse_list.old) }
-    requires shaped { Shaped p ln.now f.now }
-    ensures { Held (other_intervals (setup_of p ln.now f.now) forward_only codes.now)
-        reverse_list.new result }
+// The buffers that the runs over both strands are lent, and the list of each.
+#[derive(Drop)]
+pub struct Workspace<'a> {
+    pub queue: &'a mut [u32],
+    pub window_counts: &'a mut [u16],
+    pub scan_counts: &'a mut [u16],
+    pub candidates: &'a mut [ForwardPosition],
+    pub reverse_codes: &'a mut [u8],
+    pub forward_list: &'a mut [Interval],
+    pub reverse_list: &'a mut [Interval],
+}
+
+// The list of the sequence, in the front of `forward_list`; answers how many intervals it has.
+fn forward_strand(setup: &Setup, codes: &[u8], work: &mut Workspace) -> usize
+    requires { ForwardLent setup.now.params (length codes.now) work.old }
+    ensures list { Held (intervals_of (as_setup setup.now) codes.now) work.new.forward_list.now result }
+    ensures same_buffers { SameBuffers work.old work.new }
 {
-    if forward_only {
-        return 0;
-    }
-    letters::reverse_complement_encoded_sequence(codes, reverse_codes);
+    let queue = &mut work.queue[..];
+    let window_counts = &mut work.window_counts[..];
+    let scan_counts = &mut work.scan_counts[..];
+    let candidates = &mut work.candidates[..];
+    let list = &mut work.forward_list[..];
     strand::inner_process(
-        p,
-        reverse_codes,
-        ln,
-        f,
+        setup,
+        codes,
         queue,
         window_counts,
         scan_counts,
         candidates,
-        reverse_list,
+        list,
+    )
+}
+
+// The list of the reverse complement, in the front of `reverse_list`; answers how many intervals it has. A forward-only run has none.
+pub fn reverse_strand(
+    setup: &Setup,
+    forward_only: bool,
+    codes: &[u8],
+    work: &mut Workspace,
+) -> usize
+    requires { ReverseLent setup.now.params (length codes.now) work.old }
+    ensures list { Held (other_intervals (as_setup setup.now) forward_only codes.now) work.new.reverse_list.now result }
+    ensures forward { work.new.forward_list.now ≡ work.old.forward_list.now }
+    ensures same_buffers { SameBuffers work.old work.new }
+{
+    if forward_only {
+        return 0;
+    }
+    let queue = &mut work.queue[..];
+    let window_counts = &mut work.window_counts[..];
+    let scan_counts = &mut work.scan_counts[..];
+    let candidates = &mut work.candidates[..];
+    let reverse_codes = &mut work.reverse_codes[..];
+    let list = &mut work.reverse_list[..];
+    letters::reverse_complement_encoded_sequence(codes, reverse_codes);
+    strand::inner_process(
+        setup,
+        reverse_codes,
+        queue,
+        window_counts,
+        scan_counts,
+        candidates,
+        list,
     )
 }
 
 // Joins both strands' lists, each in the front of its slice, with marks; answers how many intervals there are then.
 fn merge_strands(
-    forward_list: &[[u32; 2]],
+    forward_list: &[Interval],
     forward_count: usize,
-    reverse_list: &[[u32; 2]],
+    reverse_list: &[Interval],
     reverse_count: usize,
     n: u32,
-    list: &mut [[u32; 2]],
+    list: &mut [Interval],
     marks: &mut [u8],
 ) -> usize
     requires { Mergeable forward_list.now forward_count reverse_list.now reverse_count n list.old marks.old }
-    ensures { WroteMarked (merge_marked (list_of (take forward_count forward_list.now))
-        (backwards n (list_of (take reverse_count reverse_list.now))))
+    ensures { WroteMarked (merge_marked (take forward_count forward_list.now)
+        (backwards n (take reverse_count reverse_list.now)))
         list.old list.new marks.old marks.new result }
 {
     let forward = &forward_list[..forward_count];
@@ -72,57 +101,27 @@ fn merge_strands(
 
 // Both strands on buffers of exactly the listed sizes; answers how many intervals the mask has.
 pub fn both_strands(
-    p: Params,
+    setup: &Setup,
     forward_only: bool,
     codes: &[u8],
-    ln: &[f64],
-    f: &[f64],
-    queue: &mut [u32],
-    window_counts: &mut [u16],
-    scan_counts: &mut [u16],
-    candidates: &mut [scans::ForwardPosition],
-    reverse_codes: &mut [u8],
-    forward_list: &mut [[u32; 2]],
-    reverse_list: &mut [[u32; 2]],
-    list: &mut [[u32; 2]],
+    work: &mut Workspace,
+    list: &mut [Interval],
     marks: &mut [u8],
 ) -> usize
-    requires both_lent { BothLent p (length codes.now) (length ln.now) (length f.now) (length queue.old)
-        (length window_counts.old) (length scan_counts.old) (length candidates.old) (length reverse_codes.old)
-        (length forward_list.old) (length reverse_list.old) (length list.old) (length marks.old) }
-    requires shaped { Shaped p ln.now f.now }
-    ensures { WroteMarked (marked_mask_of (setup_of p ln.now f.now) forward_only codes.now)
+    requires { BothLent setup.now.params (length codes.now) work.old (length list.old) (length marks.old) }
+    ensures mask { WroteMarked (marked_mask_of (as_setup setup.now) forward_only codes.now)
         list.old list.new marks.old marks.new result }
+    ensures same_buffers { SameBuffers work.old work.new }
 {
     let n = codes.len() as u32;
-    let forward_count = strand::inner_process(
-        p,
-        codes,
-        ln,
-        f,
-        queue,
-        window_counts,
-        scan_counts,
-        candidates,
-        forward_list,
-    );
-    let reverse_count = reverse_strand(
-        p,
-        forward_only,
-        codes,
-        ln,
-        f,
-        queue,
-        window_counts,
-        scan_counts,
-        candidates,
-        reverse_codes,
-        reverse_list,
-    );
+    let forward_count = forward_strand(setup, codes, work);
+    let reverse_count = reverse_strand(setup, forward_only, codes, work);
+    let forward = &mut work.forward_list[..];
+    let reverse = &mut work.reverse_list[..];
     merge_strands(
-        forward_list,
+        forward,
         forward_count,
-        reverse_list,
+        reverse,
         reverse_count,
         n,
         list,

@@ -1,22 +1,23 @@
 -- The copy, byte by byte and interval by interval.
-use mathlib.Core.Path.{◌≡◌, refl, sym, ap, ap₂, ◌∙◌}
+use mathlib.Core.Path.{◌≡◌, refl, sym, ap, ◌∙◌}
 use mathlib.Core.Bool.{Bool, true, false, ◌&&◌, ◌||◌, cond}
 use mathlib.Core.Logic.{⊎_elim}
 use mathlib.Core.List.{List, [], ◌∷◌, ◌++◌, map}
-use Prim.Native.Nat.{ℕ, suc, ◌+◌, ◌-◌, ◌≤◌, ◌<◌, min}
-use native.Mathlib.Numerals.{add-one}
+use Prim.Native.Nat.{ℕ, ◌+◌, ◌-◌, ◌≤◌, ◌<◌, min}
 use native.Mathlib.Omega.{arith}
 use borrow.Author.Tests.{lt-ltb, le-ltb, le-leb, lt-leb}
 use lib.Dec.{ltb, leb}
-use lib.ListN.{length, take, drop, get_or, length-map, length-append, length-drop, drop_of_length-le, get_or-map, get_or-append}
-use lib.Seq.{drop-cons, drop-append_seam, ext_get_or, get_or-append-add, get_or-take, get_or-drop, length-take-le}
-use Rattle.buffers.specs.Fill.{put}
+use lib.ListN.{set, length, take, drop, get_or, length-map, length-append, length-drop, drop_of_length-le, get_or-map, get_or-append}
+use lib.Seq.{ext_get_or, get_or-append-add, get_or-take, get_or-drop, length-take-le}
+use Rattle.std.proofs.lemmas.List.Edits.{map_over_more}
+use Rattle.std.proofs.lemmas.List.{get_or_default}
+use borrow.Rule.Slice.PartMut.{put_mid}
 use Rattle.buffers.proofs.At.{default_free}
-use Rattle.buffers.proofs.Put.{take_put}
 use Rattle.buffers.proofs.Tabulate.{tabulate_length, tabulate_at}
-use Rattle.intervals.specs.Interval.{Interval, interval, covered, interval_of, list_of}
+use Rattle.intervals.specs.declared.Interval.{Interval}
+use Rattle.intervals.specs.Interval.{interval, covered}
 use Rattle.intervals.proofs.Order.{lt_or_le}
-use Rattle.intervals.proofs.Slice.{length_list, list_at}
+use Rattle.intervals.proofs.Slice.{list_next}
 use Rattle.masked_copy.specs.declared.Masking.{Masking}
 use Rattle.masked_copy.specs.declared.Masking.TheVariants.{LowerCase, Replace}
 use Rattle.masked_copy.specs.Copy.{lower, shown, byte_at, copy_of}
@@ -148,28 +149,34 @@ module _ (m : Masking) (a e : ℕ) (s : List ℕ) where
       (lt_or_le y (to - a)))
       (lt_or_le x a))
 
--- A loop over a list in a slice ps, which masks interval i in its turn.
-module _ (m : Masking) (ps : List (List ℕ)) (i : ℕ) where
-  pub copy_turn : (s s' : List ℕ) → i < length ps → s' ≡ copy_of m (interval_of (get_or ps i []) ∷ []) s
-      → copy_of m (drop i (list_of ps)) s ≡ copy_of m (drop (i + 1) (list_of ps)) s'
+-- A loop over a list, which masks interval i in its turn.
+module _ (m : Masking) (is : List Interval) (i : ℕ) where
+  pub copy_turn : (s s' : List ℕ) → i < length is → s' ≡ copy_of m (get_or is i (interval 0 0) ∷ []) s
+      → copy_of m (drop i is) s ≡ copy_of m (drop (i + 1) is) s'
   copy_turn s s' h e =
-      let k : i < length (list_of ps) = omega (arith, length_list ps) in
-      ap (λ (is : List Interval). copy_of m is s)
-      (drop-cons (list_of ps) i (interval 0 0) k ∙ ap (λ (j : Interval). j ∷ drop (suc i) (list_of ps)) (list_at ps i))
-      ∙ copy_first m (interval_of (get_or ps i [])) (drop (suc i) (list_of ps)) s
-      ∙ ap₂ (λ (n : ℕ) (l : List ℕ). copy_of m (drop n (list_of ps)) l) (sym (add-one i)) (sym e)
+      ap (λ (js : List Interval). copy_of m js s) (list_next is i h)
+      ∙ copy_first m (get_or is i (interval 0 0)) (drop (i + 1) is) s
+      ∙ ap (λ (l : List ℕ). copy_of m (drop (i + 1) is) l) (sym e)
 
-  pub copy_end : (s : List ℕ) → length ps ≤ i → copy_of m (drop i (list_of ps)) s ≡ s
-  copy_end s h =
-      ap (λ (is : List Interval). copy_of m is s) (drop_of_length-le (list_of ps) (let k : length (list_of ps) ≤ i = omega (arith, length_list ps) in k))
-      ∙ sym (copy_none m s)
+  pub copy_end : (s : List ℕ) → length is ≤ i → copy_of m (drop i is) s ≡ s
+  copy_end s h = ap (λ (js : List Interval). copy_of m js s) (drop_of_length-le is h) ∙ sym (copy_none m s)
 
--- The sequence is put over the front of d, which is then d₁, and that front lent and masked.
-pub copy_front : (m : Masking) (is : List Interval) (s d d₁ part : List ℕ) → d₁ ≡ put s d → part ≡ copy_of m is (take (length s) d₁)
-    → part ++ drop (length s) d₁ ≡ put (copy_of m is s) d
-copy_front m is s d d₁ part e q =
-    ap₂ (λ (xs ys : List ℕ). xs ++ ys)
-    (q ∙ ap (λ (xs : List ℕ). copy_of m is xs) (ap (λ (xs : List ℕ). take (length s) xs) e ∙ take_put s d))
-    (ap (λ (xs : List ℕ). drop (length s) xs) e
-    ∙ drop-append_seam s (drop (length s) d)
-    ∙ ap (λ (n : ℕ). drop n d) (sym (copy_length m is s)))
+-- The same for an interval in one, as the code lends its part.
+pub part_masked : (m : Masking) (i : Interval) (s part : List ℕ) (to : ℕ) → to ≡ min i.end (length s) → i.start < to
+    → part ≡ map (shown m) (take (to - i.start) (drop i.start s)) → put_mid i.start (to - i.start) s part ≡ copy_of m (i ∷ []) s
+part_masked m i s part to e h q = copy_part m i.start i.end s to e h part q
+
+pub none_masked : (m : Masking) (i : Interval) (s : List ℕ) → min i.end (length s) ≤ i.start → s ≡ copy_of m (i ∷ []) s
+none_masked m i s h = copy_outside m i.start i.end s h
+
+-- A loop that masks the letters s of a part, which it left as l.
+pub letter_masked : (m : Masking) (s l : List ℕ) (i v : ℕ) → i < length s → l ≡ map (shown m) (take i s) ++ drop i s → v ≡ shown m (get_or l i 0)
+    → set l i v ≡ map (shown m) (take (i + 1) s) ++ drop (i + 1) s
+letter_masked m s l i v h e q = let k : length l ≡ length s = ap length e ∙ omega (arith, length-append (map (shown m) (take i s)) (drop i s), length-map (take i s) (shown m), length-take-le i s, length-drop i s) in
+    rw q (map_over_more (shown m) s l i (get_or l i 0) h e (get_or_default l i 0 (get_or l i 0) (omega arith)))
+
+pub ruleset of_part = (letter_masked)
+
+pub ruleset of_interval = (part_masked, none_masked)
+
+pub ruleset of_list = (copy_turn, copy_end)

@@ -3,7 +3,8 @@ use mathlib.Core.Path.{◌≡◌, refl}
 use mathlib.Core.List.{List, [], ◌∷◌}
 use Prim.Native.Nat.{ℕ}
 use Rattle.buffers.specs.Fill.{tabulate, tabulate_from}
-use Rattle.intervals.specs.Interval.{Interval, interval, covered}
+use Rattle.intervals.specs.declared.Interval.{Interval}
+use Rattle.intervals.specs.Interval.{interval, covered}
 use Rattle.masked_copy.specs.declared.Masking.TheVariants.{LowerCase, Replace}
 use Rattle.masked_copy.specs.Copy.{lower, copy_of, replacement_bad, refusal}
 
@@ -34,13 +35,13 @@ no_letters = refl
 
 -- A replacement n is refused, also where the buffer is too short.
 number_12 : refusal (Replace 110) letters [] ≡ 12
-unfolding refusal replacement_bad
+unfolding replacement_bad
 number_12 = refl
 
 number_11 : refusal (Replace 78) letters (0 ∷ []) ≡ 11
-unfolding refusal replacement_bad letters
+unfolding replacement_bad letters
 number_11 = refl
 
 no_letters_taken : refusal LowerCase [] [] ≡ 0
-unfolding refusal replacement_bad
+unfolding replacement_bad
 no_letters_taken = refl

@@ -1,5 +1,3 @@
-pub mod Each
 pub mod Copying
-pub mod Refusals
 pub mod Theorems
 pub mod Examples

@@ -9,7 +9,8 @@ use borrow.Author.Tests.{le-leb, lt-leb}
 use lib.ListN.{length, get_or, length-map, get_or-map}
 use lib.Seq.{ext_get_or}
 use Rattle.buffers.proofs.At.{default_free}
-use Rattle.intervals.specs.Interval.{Interval, Covers, covered}
+use Rattle.intervals.specs.declared.Interval.{Interval}
+use Rattle.intervals.specs.Interval.{Covers, covered}
 use Rattle.intervals.proofs.Counted.{covered_agrees, covered_same}
 use Rattle.intervals.proofs.Covered.{append_covers}
 use Rattle.masked_copy.specs.declared.Masking.{Masking}

@@ -1,11 +1,11 @@
 -- Masked copies: the letters of a sequence, those that an interval of a list holds in lower case, or replaced by N or X.
-use Rattle.std.specs.Prelude.{ℕ, ◌+◌, ◌<◌, ◌≡◌, Bool, false, not, ◌&&◌, ◌||◌, cond, List, [], ◌∷◌, ltb, leb, eqb, length, get_or}
-use Rattle.buffers.specs.Fill.{put, tabulate}
+use Rattle.std.specs.Prelude.{ℕ, ◌+◌, Bool, false, not, ◌&&◌, ◌||◌, cond, List, [], ◌∷◌, ltb, leb, eqb, length, get_or}
+use Rattle.buffers.specs.Fill.{tabulate}
 use Rattle.checks.specs.Checks.{Check, check, first}
-use Rattle.intervals.specs.Interval.{Interval, covered}
+use Rattle.intervals.specs.declared.Interval.{Interval}
+use Rattle.intervals.specs.Interval.{covered}
 use Rattle.masked_copy.specs.declared.Masking.{Masking}
 use Rattle.masked_copy.specs.declared.Masking.TheVariants.{LowerCase, Replace}
-use Rattle.masked_copy.specs.declared.Copied.{Copied}
 
 -- A to Z in lower case; any other byte as it is.
 unfoldable pub lower : ℕ → ℕ
@@ -32,12 +32,5 @@ replacement_bad (Replace r) = not (eqb r 78 || eqb r 88)
 abbrev pub checks : Masking → List ℕ → List ℕ → List Check
 checks m s d = check 12 (replacement_bad m) ∷ check 11 (ltb (length d) (length s)) ∷ []
 
-unfoldable pub refusal : Masking → List ℕ → List ℕ → ℕ
+abbrev pub refusal : Masking → List ℕ → List ℕ → ℕ
 refusal m s d = first (checks m s d)
-
--- What the call answers, r, and what it leaves of the buffer d in d'.
--- Refused: 0 bytes, and the buffer as it was. Accepted: as many bytes as letters, and the copy over the buffer's front.
-pub record Copies (m : Masking) (is : List Interval) (s d d' : List ℕ) (r : Copied) : Type 0 where
-  pub number : r.refusal ≡ refusal m s d
-  pub refused : 0 < r.refusal → (r.count ≡ 0) × (d' ≡ d)
-  pub accepted : r.refusal ≡ 0 → (r.count ≡ length s) × (d' ≡ put (copy_of m is s) d)

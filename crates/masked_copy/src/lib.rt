@@ -2,12 +2,13 @@
 
 #![tactic(auto)]
 
-ghost use Rattle.std.specs.Prelude.{◌≡◌, [], ◌∷◌, map, ◌≤◌, min, length};
+ghost use Rattle.std.specs.Prelude.{◌≡◌, [], ◌∷◌, map, ◌≤◌, min, length, OnOk, OnErr, IfOk};
 ghost use Rattle.buffers.specs.Fill.{put};
-ghost use Rattle.intervals.specs.Interval.{interval, list_of};
-ghost use Rattle.masked_copy.specs.Copy.{lower, shown, copy_of, replacement_bad, refusal, Copies};
+ghost use Rattle.checks.specs.Refusal.{number_of};
+ghost use Rattle.masked_copy.specs.Copy.{shown, copy_of, replacement_bad, refusal};
 
-use checks::next_check;
+use checks::Refusal;
+use intervals::Interval;
 
 // How a masked letter is shown.
 #[derive(Clone, Copy)]
@@ -16,131 +17,88 @@ pub enum Masking {
     Replace(u8),
 }
 
-// The refusal number and 0, or 0 and the number of bytes copied.
-#[derive(Clone, Copy)]
-pub struct Copied {
-    pub refusal: u32,
-    pub count: usize,
-}
-
-// Where an interval that ends at `end` ends within n letters.
-fn end_within(end: u32, n: usize) -> usize
-    ensures { result ≡ min end n }
-{
-    let e = end as usize;
-    if e < n { e } else { n }
-}
-
-#[tactic(auto, unfolding(crate::specs::Copy::lower))]
-fn lower(b: u8) -> u8
-    ensures { result ≡ lower b }
-{
-    if b < b'A' {
-        return b;
+impl Masking {
+    // The byte shown for a masked letter.
+    #[tactic(auto, unfolding(crate::specs::Copy::lower))]
+    fn shown(self, b: u8) -> u8
+        ensures { result ≡ shown self b }
+    {
+        match self {
+            Masking::LowerCase => b.to_ascii_lowercase(),
+            Masking::Replace(replacement) => replacement,
+        }
     }
-    if b'Z' < b {
-        return b;
-    }
-    b + 32
-}
 
-// Shows every letter of the part in lower case.
-fn lower_case(part: &mut [u8])
-    ensures { part.new ≡ map (shown Masking.LowerCase) part.old }
-{
-    let mut i = 0;
-    while i < part.len() {
-        part[i] = lower(part[i]);
-        i += 1;
-    }
-}
-
-// Shows the replacement for every letter of the part.
-fn replace(part: &mut [u8], replacement: u8)
-    ensures { part.new ≡ map (shown (Masking.Replace replacement)) part.old }
-{
-    let mut i = 0;
-    while i < part.len() {
-        part[i] = replacement;
-        i += 1;
+    // Whether it shows a replacement other than N or X.
+    #[tactic(auto, unfolding(crate::specs::Copy::replacement_bad))]
+    fn is_bad(self) -> bool
+        ensures { result ≡ replacement_bad self }
+    {
+        matches!(self, Masking::Replace(r) if r != b'N' && r != b'X')
     }
 }
 
 // Masks every letter of the part.
+#[tactic(auto, using(crate::proofs::Copying::of_part))]
 fn mask_part(part: &mut [u8], masking: Masking)
     ensures { part.new ≡ map (shown masking) part.old }
 {
-    match masking {
-        Masking::LowerCase => lower_case(part),
-        Masking::Replace(replacement) => replace(part, replacement),
+    for b in part.iter_mut() {
+        *b = masking.shown(*b);
     }
 }
 
-// Masks the letters of [start, end); those past the last letter are none.
-fn mask_interval(letters: &mut [u8], start: u32, end: u32, masking: Masking)
-    ensures { letters.new ≡ copy_of masking (interval start end ∷ []) letters.old }
+// Masks the letters of the interval; those past the last letter are none.
+#[tactic(auto, using(crate::proofs::Copying::of_interval))]
+fn mask_interval(letters: &mut [u8], interval: Interval, masking: Masking)
+    ensures { letters.new ≡ copy_of masking (interval ∷ []) letters.old }
 {
-    let from = start as usize;
-    let to = end_within(end, letters.len());
-    if to <= from {
-        return;
+    let from = interval.start as usize;
+    let to = (interval.end as usize).min(letters.len());
+    if from < to {
+        mask_part(&mut letters[from..to], masking);
     }
-    mask_part(&mut letters[from..to], masking);
 }
 
 // Masks the letters of every interval of the list.
-fn mask_list(letters: &mut [u8], list: &[[u32; 2]], masking: Masking)
-    ensures { letters.new ≡ copy_of masking (list_of list.now) letters.old }
+#[tactic(auto, using(crate::proofs::Copying::of_list))]
+fn mask_list(letters: &mut [u8], list: &[Interval], masking: Masking)
+    ensures { letters.new ≡ copy_of masking list.now letters.old }
 {
-    let mut i = 0;
-    while i < list.len() {
-        mask_interval(letters, list[i][0], list[i][1], masking);
-        i += 1;
+    for interval in list {
+        mask_interval(letters, *interval, masking);
     }
 }
 
-fn copy_letters(sequence: &[u8], copy: &mut [u8])
-    requires { length sequence.now ≤ length copy.old }
-    ensures { copy.new ≡ put sequence.now copy.old }
+// The first check that fails.
+fn check(sequence: &[u8], masking: Masking, copy: &[u8]) -> Result<(), Refusal>
+    ensures { number_of result ≡ refusal masking sequence.now copy.now }
 {
-    let mut i = 0;
-    while i < sequence.len() {
-        copy[i] = sequence[i];
-        i += 1;
+    if masking.is_bad() {
+        return Err(Refusal::BadReplacement);
     }
+    if copy.len() < sequence.len() {
+        return Err(Refusal::ShortSlice);
+    }
+    Ok(())
 }
 
-#[tactic(auto, unfolding(crate::specs::Copy::replacement_bad))]
-fn replacement_bad(masking: Masking) -> bool
-    ensures { result ≡ replacement_bad masking }
+/// Fills the front of `copy` with the sequence, its letters masked that an interval of the list, whose order is free, holds.
+/// Returns the number of bytes copied.
+pub fn masked_copy(
+    sequence: &[u8],
+    list: &[Interval],
+    masking: Masking,
+    copy: &mut [u8],
+) -> Result<usize, Refusal>
+    ensures ok { OnOk result (copy.new ≡ put (copy_of masking list.now sequence.now) copy.old) }
+    ensures count { IfOk result (λ n. n ≡ length sequence.now) }
+    ensures refusal { number_of result ≡ refusal masking sequence.now copy.old }
+    ensures err { OnErr result (copy.new ≡ copy.old) }
 {
-    match masking {
-        Masking::LowerCase => false,
-        Masking::Replace(replacement) => !((replacement == b'N') | (replacement == b'X')),
-    }
-}
-
-// The number of the first check that fails, 0 if none does.
-fn check(sequence: &[u8], masking: Masking, copy: &[u8]) -> u32
-    ensures { result ≡ refusal masking sequence.now copy.now }
-{
-    let r = next_check(0, 12, replacement_bad(masking));
-    next_check(r, 11, copy.len() < sequence.len())
-}
-
-// Fills the front of `copy` with the sequence, its letters masked that an interval of the list, whose order is free, holds.
-pub fn masked_copy(sequence: &[u8], list: &[[u32; 2]], masking: Masking, copy: &mut [u8]) -> Copied
-    ensures { Copies masking (list_of list.now) sequence.now copy.old copy.new result }
-{
-    let refusal = check(sequence, masking, copy);
-    if refusal != 0 {
-        return Copied { refusal, count: 0 };
-    }
+    check(sequence, masking, copy)?;
     let n = sequence.len();
-    copy_letters(sequence, copy);
+    copy[..n].copy_from_slice(sequence);
     mask_list(&mut copy[..n], list, masking);
-    Copied {
-        refusal: 0,
-        count: n,
-    }
+    Ok(n)
 }

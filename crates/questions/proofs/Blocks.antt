@@ -4,16 +4,20 @@ use mathlib.Core.Path.{◌≡◌, refl, sym, ap, ap₂, ◌∙◌}
 use mathlib.Core.List.{List}
 use mathlib.Core.Logic.{⊎_elim}
 use native.Mathlib.Omega.{arith}
-use native.Mathlib.Numerals.{add-one}
-use lib.ListN.{length, get_or, take, drop, set, drop_of_length-le}
+use lib.ListN.{length, get_or, take, drop, set}
 use lib.Seq.{drop-cons, take_all}
+use Rattle.std.specs.List.{sum}
+use Rattle.std.proofs.lemmas.List.Sums.{sum_by-cons}
+use Rattle.buffers.specs.Fill.{tabulate}
+use Rattle.buffers.proofs.Filling.{fill_end, put_all}
 use Rattle.buffers.proofs.Tabulate.{tabulate_length, tabulate_at, Tabulates, tabulate_start, tabulate_turn}
-use Rattle.intervals.specs.Interval.{Interval, Canonical, list_of, covered_in}
+use Rattle.intervals.specs.declared.Interval.{Interval}
+use Rattle.intervals.specs.Interval.{Canonical, covered_in}
 use Rattle.intervals.proofs.Shape.{covers_below}
 use Rattle.intervals.proofs.Order.{lt_or_le}
 use Rattle.intervals.proofs.Counted.{covered_empty, covered_none, covered_split, covered_at_most}
 use Rattle.questions.specs.Batch.{blocks, block, summary_of}
-use Rattle.questions.specs.Promised.{Usual, total}
+use Rattle.questions.specs.Usual.{Usual}
 use Rattle.intervals.specs.Terms.Leading.{ends_by}
 use Rattle.questions.specs.Terms.Found.{first_past, IsFirstPast, Summed}
 use Rattle.questions.specs.Terms.Walked.{Walks}
@@ -22,21 +26,21 @@ use Rattle.questions.proofs.Ordered.{nonempty_at}
 use Rattle.questions.proofs.Searching.{leading_le, past_yes}
 
 total_blocks : (is : List Interval) (s : List ℕ) (f m : ℕ) → f + m ≤ length s → ((j : ℕ) → j < f + m → get_or s j 0 ≡ block is j)
-    → total (take m (drop f s)) ≡ covered_in is (1024 * f) (1024 * (f + m))
-unfolding total
+    → sum (take m (drop f s)) ≡ covered_in is (1024 * f) (1024 * (f + m))
 total_blocks is s f zero h e = sym (covered_empty is (1024 * f) (1024 * (f + 0)) (omega arith))
 total_blocks is s f (suc m) h e =
-    ap (λ (l : List ℕ). total (take (suc m) l)) (drop-cons s f 0 (omega arith))
+    ap (λ (l : List ℕ). sum (take (suc m) l)) (drop-cons s f 0 (omega arith))
+    ∙ sum_by-cons (λ (x : ℕ). x) (get_or s f 0) (take m (drop (suc f) s))
     ∙ ap₂ (λ (x y : ℕ). x + y) (e f (omega arith)) (total_blocks is s (suc f) m (omega arith) (λ j l. e j (omega arith)))
     ∙ ap₂ (λ (x y : ℕ). covered_in is (1024 * f) (1024 * (f + 1)) + covered_in is x y) (let q : 1024 * suc f ≡ 1024 * (f + 1) = omega arith in q)
     (let q : 1024 * (suc f + m) ≡ 1024 * (f + suc m) = omega arith in q)
     ∙ sym (covered_split is (1024 * f) (1024 * (f + 1)) (1024 * (f + suc m)) (omega arith) (omega arith))
 
 -- The sum of the summary is the number of masked letters.
-pub summary_total : (n : ℕ) (is : List Interval) → Canonical n 1 is → total (summary_of n is) ≡ covered_in is 0 n
+pub summary_total : (n : ℕ) (is : List Interval) → Canonical n 1 is → sum (summary_of n is) ≡ covered_in is 0 n
 summary_total n is c =
     let long = tabulate_length (block is) (blocks n) in
-    ap total (sym (take_all (blocks n) (summary_of n is) (omega arith)))
+    ap sum (sym (take_all (blocks n) (summary_of n is) (omega arith)))
     ∙ total_blocks is (summary_of n is) 0 (blocks n) (omega arith) (λ j l. tabulate_at (block is) (blocks n) j 0 (omega arith))
     ∙ ap (λ (x : ℕ). covered_in is (1024 * 0) x) (let q : 1024 * (0 + blocks n) ≡ 1024 * blocks n = omega arith in q)
     ∙ covered_split is 0 n (1024 * blocks n) (omega arith) (omega arith)
@@ -53,7 +57,7 @@ module _ (is : List Interval) (s : List ℕ) (a b : ℕ) (y : Summed is s b) whe
   l = b / 1024
 
   abbrev whole : ℕ
-  whole = total (take (l - f) (drop f s))
+  whole = sum (take (l - f) (drop f s))
 
   module _ (h : f ≤ l) where
     whole_is : whole ≡ covered_in is (f * 1024) (l * 1024)
@@ -79,33 +83,23 @@ module _ (is : List Interval) (s : List ℕ) (a b : ℕ) (y : Summed is s b) whe
       pub parts_fit : x + w + z ≤ b
       parts_fit = omega (arith, three_parts, covered_at_most is a b)
 
--- The loop of `total_letters`.
-module _ (s : List ℕ) (j : ℕ) where
-  pub total_next : j < length s → total (drop j s) ≡ get_or s j 0 + total (drop (j + 1) s)
-  unfolding total
-  total_next h = ap total (drop-cons s j 0 h) ∙ ap (λ (k : ℕ). get_or s j 0 + total (drop k s)) (sym (add-one j))
-
-  pub total_end : length s ≤ j → total (drop j s) ≡ 0
-  unfolding total
-  total_end h = ap total (drop_of_length-le s h)
-
 -- The loop of `fill_summary`: j blocks of d are written, and the walk goes on from letter `from`, at interval `next`.
-pub record Summing (ps : List (List ℕ)) (d : List ℕ) (count next from j : ℕ) (l : List ℕ) : Type 0 where
+pub record Summing (ps : List Interval) (d : List ℕ) (next from j : ℕ) (l : List ℕ) : Type 0 where
   pub letter : from ≡ 1024 * j
-  pub onward : IsFirstPast (list_of ps) from (length ps) next
-  pub fills : Tabulates (block (list_of ps)) d count j l
+  pub onward : IsFirstPast ps from next
+  pub fills : Tabulates (block ps) d (length d) j l
 
-module _ (ps : List (List ℕ)) (d : List ℕ) (count : ℕ) where
-  pub summing_start : Usual (list_of ps) → count ≤ length d → Summing ps d count 0 0 0 d
-  summing_start u h =
+module _ (ps : List Interval) (d : List ℕ) where
+  pub summing_start : Usual ps → Summing ps d 0 0 0 d
+  summing_start u =
       record {
         letter = refl;
         onward = record { index = sym none_yet; inside = omega arith; small = omega arith };
-        fills = tabulate_start (block (list_of ps)) h;
+        fills = tabulate_start (block ps) (omega arith);
       }
     where
       is : List Interval
-      is = list_of ps
+      is = ps
 
       none_yet : first_past is 0 ≡ 0
       none_yet =
@@ -115,14 +109,19 @@ module _ (ps : List (List ℕ)) (d : List ℕ) (count : ℕ) where
           (λ l. omega arith)
           (lt_or_le 0 (first_past is 0))
 
-  pub summing_turn : {next from j to : ℕ} {l : List ℕ} {w : Walked} → Summing ps d count next from j l → j < count → to ≡ from + 1024
-      → Walks (list_of ps) from to (length ps) w → Summing ps d count w.next to (j + 1) (set l j w.letters)
+  pub summing_turn : {next from j to : ℕ} {l : List ℕ} {w : Walked} → Summing ps d next from j l → j < length d → to ≡ from + 1024
+      → Walks ps from to w → Summing ps d w.next to (j + 1) (set l j w.letters)
   summing_turn {from = from} {j = j} {to = to} {w = w} s h e k =
       let q = s.letter in
       record {
         letter = omega arith;
         onward = k.onward;
         fills =
-            tabulate_turn (block (list_of ps)) s.fills 0 w.letters h
-            (k.counted ∙ ap₂ (λ (x y : ℕ). covered_in (list_of ps) x y) q (let r : to ≡ 1024 * (j + 1) = omega arith in r));
+            tabulate_turn (block ps) s.fills 0 w.letters h
+            (k.counted ∙ ap₂ (λ (x y : ℕ). covered_in ps x y) q (let r : to ≡ 1024 * (j + 1) = omega arith in r));
       }
+
+  pub summing_end : {next from j : ℕ} {l : List ℕ} → Summing ps d next from j l → length d ≤ j → l ≡ tabulate (block ps) (length d)
+  summing_end s h = fill_end s.fills h ∙ put_all (tabulate (block ps) (length d)) d (sym (tabulate_length (block ps) (length d)))
+
+pub ruleset of_parts = (whole_fits, three_parts, parts_fit)

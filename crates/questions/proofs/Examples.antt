@@ -1,10 +1,16 @@
 -- L8's answers, worked on a list of three intervals in 40 letters.
 use mathlib.Core.Path.{◌≡◌, refl}
+use Prim.Native.Nat.{ℕ}
 use mathlib.Core.List.{List, [], ◌∷◌}
 use Rattle.buffers.specs.Fill.{tabulate, tabulate_from}
-use Rattle.intervals.specs.Interval.{Interval, interval, covered, covered_in, usual_from}
+use Rattle.intervals.specs.declared.Interval.{Interval}
+use Rattle.intervals.specs.Interval.{interval, covered, covered_in, usual_from}
 use Rattle.questions.specs.Answers.{answer, none, nearest_index, nearest, indices, all_that, within, partly, share}
-use Rattle.questions.specs.Batch.{any_bad, refusal, summary_of}
+use Rattle.questions.specs.declared.Question.{Question}
+use Rattle.questions.specs.Batch.{refusal, summary_of}
+
+abbrev question : ℕ → ℕ → ℕ → Question
+question kind a b = record { kind = kind; from = a; to = b }
 
 abbrev three : List Interval
 three = interval 4 8 ∷ interval 10 11 ∷ interval 20 30 ∷ []
@@ -63,17 +69,17 @@ one_block = refl
 
 -- A touching list, before a short buffer; a short buffer, before a bad question.
 touching_refused : refusal 40 (interval 4 8 ∷ interval 8 9 ∷ []) [] 0 0 ≡ 16
-unfolding refusal usual_from
+unfolding usual_from
 touching_refused = refl
 
-short_refused : refusal 40 three ((0 ∷ 40 ∷ 0 ∷ []) ∷ []) 1 0 ≡ 11
-unfolding refusal usual_from
+short_refused : refusal 40 three (question 0 40 0 ∷ []) 1 0 ≡ 11
+unfolding usual_from
 short_refused = refl
 
-past_refused : refusal 40 three ((3 ∷ 0 ∷ 40 ∷ []) ∷ (0 ∷ 40 ∷ 0 ∷ []) ∷ []) 1 2 ≡ 17
-unfolding refusal usual_from any_bad
+past_refused : refusal 40 three (question 3 0 40 ∷ question 0 40 0 ∷ []) 1 2 ≡ 17
+unfolding usual_from
 past_refused = refl
 
-accepted : refusal 40 three ((3 ∷ 0 ∷ 40 ∷ []) ∷ (0 ∷ 39 ∷ 0 ∷ []) ∷ []) 1 2 ≡ 0
-unfolding refusal usual_from any_bad
+accepted : refusal 40 three (question 3 0 40 ∷ question 0 39 0 ∷ []) 1 2 ≡ 0
+unfolding usual_from
 accepted = refl

@@ -8,7 +8,8 @@ use native.Mathlib.Omega.{arith}
 use lib.ListN.{length, take, drop, take-append-drop, length-drop}
 use lib.Seq.{length-take-le, get_or-take, get_or-drop}
 use Rattle.buffers.specs.Fill.{tabulate_from}
-use Rattle.intervals.specs.Interval.{Interval, interval}
+use Rattle.intervals.specs.declared.Interval.{Interval}
+use Rattle.intervals.specs.Interval.{interval}
 use Rattle.questions.specs.Answers.{indices}
 use Rattle.questions.specs.Promised.{consecutive}
 use Rattle.questions.proofs.Ordered.{at}

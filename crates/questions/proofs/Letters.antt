@@ -7,7 +7,8 @@ use native.Mathlib.Omega.{arith}
 use lib.Dec.{ltb, leb}
 use lib.ListN.{length, drop}
 use borrow.Author.Tests.{leb-true, leb-false, ltb-true, ltb-false}
-use Rattle.intervals.specs.Interval.{Interval, Holds, Covers, covered, covered_in, Ascending}
+use Rattle.intervals.specs.declared.Interval.{Interval}
+use Rattle.intervals.specs.Interval.{Holds, Covers, covered, covered_in, Ascending}
 use Rattle.intervals.proofs.Shape.{covers_above}
 use Rattle.intervals.proofs.Counted.{and_agrees, leb_agrees, ltb_agrees, covered_agrees, covered_none}
 use Rattle.questions.specs.Answers.{inside}

@@ -9,10 +9,11 @@ use native.Mathlib.Omega.{arith}
 use lib.Dec.{leb}
 use lib.ListN.{length}
 use borrow.Author.Tests.{leb-true, leb-false}
-use Rattle.intervals.specs.Interval.{Interval}
+use Rattle.intervals.specs.declared.Interval.{Interval}
 use Rattle.intervals.proofs.Order.{lt_or_le}
 use Rattle.questions.specs.Answers.{answer, between, nearest_index, nearest}
-use Rattle.questions.specs.Promised.{Usual, distance, Nearest}
+use Rattle.questions.specs.Usual.{Usual}
+use Rattle.questions.specs.Promised.{distance, Nearest}
 use Rattle.intervals.specs.Terms.Leading.{ends_by}
 use Rattle.questions.specs.Terms.Found.{first_past}
 use Rattle.questions.proofs.Ordered.{at, nonempty_at, apart_at}

@@ -1,44 +1,19 @@
 -- The steps of `first_from`, `intervals_within` and `intervals_partly`: each of their answers.
-use Prim.Native.Nat.{ℕ, ◌+◌, ◌-◌, ◌≤◌, ◌<◌}
+use Prim.Native.Nat.{ℕ, ◌-◌, ◌≤◌, ◌<◌}
 use mathlib.Core.Path.{◌≡◌, sym, ap, ap₂, ◌∙◌}
 use mathlib.Core.List.{List, [], ◌∷◌}
-use mathlib.Core.Logic.{inl, inr, ⊎_elim}
+use mathlib.Core.Logic.{inl, inr}
 use native.Mathlib.Omega.{arith}
-use lib.ListN.{length, get_or}
-use Rattle.intervals.specs.Interval.{Interval, list_of}
-use Rattle.intervals.proofs.Order.{lt_or_le}
-use Rattle.intervals.proofs.Slice.{length_list, list_at}
+use Rattle.intervals.specs.declared.Interval.{Interval}
 use Rattle.questions.specs.Answers.{answer, none, first_and_count, all_that, within, partly}
-use Rattle.questions.specs.Promised.{Usual, consecutive}
-use Rattle.questions.specs.Terms.Found.{begins_before, first_past, first_from, IsFirstPast}
-use Rattle.questions.proofs.Ordered.{at}
-use Rattle.questions.proofs.Searching.{leading_le, from_yes, from_no}
-use Rattle.questions.proofs.Ranges.{past_from, from_next, within_run, partly_left, partly_right, partly_none, partly_two, run_some, run_none}
+use Rattle.questions.specs.Usual.{Usual}
+use Rattle.questions.specs.Promised.{consecutive}
+use Rattle.questions.specs.Terms.Found.{first_past, first_from}
+use Rattle.questions.proofs.Ranges.{within_run, partly_left, partly_right, partly_none, partly_two, run_some, run_none}
 
-module _ (ps : List (List ℕ)) (u : Usual (list_of ps)) where
+module _ (ps : List Interval) (u : Usual ps) where
   abbrev is : List Interval
-  is = list_of ps
-
-  module _ (x : ℕ) {j : ℕ} (f : IsFirstPast is x (length ps) j) where
-    from_bounds : (j ≤ first_from is x) × (first_from is x ≤ j + 1) × (first_from is x ≤ length ps)
-    from_bounds =
-        let q = f.index in
-        (omega (arith, past_from is u x), omega (arith, from_next is u x), omega (arith, leading_le (begins_before x) is, length_list ps))
-
-    pub from_end : j ≡ length ps → j ≡ first_from is x
-    from_end h = let b = from_bounds in omega arith
-
-    pub from_after : j < length ps → get_or (get_or ps j []) 0 0 < x → j + 1 ≡ first_from is x
-    from_after h l =
-        let b = from_bounds in
-        let s : (at is j).start < x = rw (list_at ps j) l in
-        ⊎_elim (λ g. omega arith) (λ g. absurd (omega (arith, from_no is x u j g (omega (arith, length_list ps))))) (lt_or_le j (first_from is x))
-
-    pub from_here : j < length ps → x ≤ get_or (get_or ps j []) 0 0 → j ≡ first_from is x
-    from_here h l =
-        let b = from_bounds in
-        let s : x ≤ (at is j).start = rw (list_at ps j) l in
-        ⊎_elim (λ g. absurd (omega (arith, from_yes is x u j g))) (λ g. omega arith) (lt_or_le j (first_from is x))
+  is = ps
 
   module _ (a b : ℕ) where
     module _ {f p : ℕ} (q : f ≡ first_from is a) (r : p ≡ first_past is b) where
@@ -83,3 +58,7 @@ module _ (ps : List (List ℕ)) (u : Usual (list_of ps)) where
 
         pub over_none : f ≤ l → g ≤ r → none ≡ all_that (partly a b) is
         over_none m n = sym (ap first_and_count (partly_none is u a b h (omega arith) (omega arith)) ∙ run_none 0 0 (omega arith))
+
+pub ruleset of_within = (within_some, within_none)
+
+pub ruleset of_partly = (over_left, over_left_only, over_two, over_right, over_none)

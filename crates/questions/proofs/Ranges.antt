@@ -6,13 +6,14 @@ use mathlib.Core.List.{List, [], ◌∷◌}
 use mathlib.Core.Logic.{◌⊎◌, inl, inr, ⊎_elim, ◌↔◌}
 use native.Mathlib.Omega.{arith}
 use lib.Dec.{ltb, leb}
-use lib.ListN.{length, get_or}
+use lib.ListN.{length}
 use Rattle.buffers.specs.Fill.{tabulate_from}
-use Rattle.intervals.specs.Interval.{Interval}
+use Rattle.intervals.specs.declared.Interval.{Interval}
 use Rattle.intervals.proofs.Counted.{and_agrees, leb_agrees, ltb_agrees}
 use Rattle.intervals.proofs.Order.{lt_or_le}
 use Rattle.questions.specs.Answers.{answer, none, indices, first_and_count, within, inside, partly}
-use Rattle.questions.specs.Promised.{Usual, consecutive}
+use Rattle.questions.specs.Usual.{Usual}
+use Rattle.questions.specs.Promised.{consecutive}
 use Rattle.intervals.specs.Terms.Leading.{ends_by}
 use Rattle.questions.specs.Terms.Found.{begins_before, first_past, first_from}
 use Rattle.questions.proofs.Ordered.{at, nonempty_at, apart_at}
@@ -184,7 +185,7 @@ unfolding tabulate_from
 run_none f zero h = refl
 run_none f (suc m) h = absurd (let b : ⊥ = omega arith in b)
 
-pub run_named : (f m : ℕ) → consecutive f m ≡ consecutive (get_or (first_and_count (consecutive f m)) 0 0) (get_or (first_and_count (consecutive f m)) 1 0)
+pub run_named : (f m : ℕ) → consecutive f m ≡ consecutive ((first_and_count (consecutive f m)).first) ((first_and_count (consecutive f m)).second)
 unfolding tabulate_from
 run_named f zero = refl
 run_named f (suc m) = ap (λ (k : ℕ). f ∷ consecutive (suc f) k) (sym (length_consecutive (suc f) m))

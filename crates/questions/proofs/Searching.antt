@@ -1,18 +1,20 @@
 -- The intervals that end at x or before, and those that begin before x, stand at the front; a bisection that finds how many end.
-use Prim.Native.Nat.{ℕ, zero, suc, ◌+◌, ◌≤◌, ◌<◌}
-use mathlib.Core.Path.{◌≡◌, refl, subst}
-use mathlib.Core.Bool.{Bool, true, false, cond}
+use Prim.Native.Nat.{ℕ, zero, suc, ◌≤◌, ◌<◌}
+use mathlib.Core.Path.{◌≡◌, refl, sym, subst, ◌∙◌}
+use mathlib.Core.Bool.{Bool, true, false, cond, true≢false}
 use mathlib.Core.List.{List, [], ◌∷◌}
 use mathlib.Core.Logic.{⊎_elim}
 use native.Mathlib.Nat.{eq-or-lt_of_le}
 use native.Mathlib.Omega.{arith}
-use lib.ListN.{length, get_or}
-use borrow.Author.Tests.{leb-true, leb-false, ltb-true, ltb-false}
-use Rattle.intervals.specs.Interval.{Interval, list_of}
+use lib.ListN.{length}
+use borrow.Author.Tests.{leb-true, leb-false, le-leb, lt-ltb, ltb-true, ltb-false}
+use Rattle.std.specs.List.Sorted.{IsPartitionedBy, IsPartitionPoint}
+use Rattle.std.proofs.lemmas.List.{get_or_default}
+use Rattle.intervals.specs.declared.Interval.{Interval}
+use Rattle.intervals.specs.Interval.{interval}
 use Rattle.intervals.proofs.Order.{lt_or_le}
 use Rattle.intervals.proofs.Shape.{canonical_size}
-use Rattle.intervals.proofs.Slice.{length_list, list_at}
-use Rattle.questions.specs.Promised.{Usual}
+use Rattle.questions.specs.Usual.{Usual}
 use Rattle.intervals.specs.Terms.Leading.{leading, ends_by}
 use Rattle.questions.specs.Terms.Found.{begins_before, first_past, first_from, IsFirstPast}
 use Rattle.questions.proofs.Ordered.{at, nonempty_at, apart_at}
@@ -70,48 +72,44 @@ module _ (is : List Interval) (x : ℕ) (u : Usual is) where
       ⊎_elim (λ (q : F ≡ k). subst (λ (j : ℕ). x ≤ (at is j).start) q e) (λ q. omega (arith, apart_at 2147483647 0 is F k u q l)) (eq-or-lt_of_le h)
 
 -- A list of the usual kind has few enough intervals for an index of 32 bits.
-pub usual_few : (ps : List (List ℕ)) → Usual (list_of ps) → length ps ≤ 1073741824
-usual_few ps u = omega (arith, canonical_size 2147483647 1 (list_of ps) u, length_list ps)
+pub usual_few : (ps : List Interval) → Usual ps → length ps ≤ 1073741824
+usual_few ps u = omega (arith, canonical_size 2147483647 1 ps u)
 
--- A bisection between lo and hi that reads the end at mid.
-pub record Bisects (ps : List (List ℕ)) (x lo hi : ℕ) : Type 0 where
-  pub low : lo ≤ first_past (list_of ps) x
-  pub high : first_past (list_of ps) x ≤ hi
-  pub within : hi ≤ length ps
+-- Where the intervals that pass a test stand before the others, the others begin after the leading ones.
+leading_found : (p : Interval → Bool) (is : List Interval) (i : ℕ) → i ≤ length is → IsPartitionPoint (λ j. p j ≡ true) (λ j. p j ≡ false) is i
+    → i ≡ leading p is
+leading_found p is i h f =
+    let F : ℕ = leading p is in
+    let below : i < F → ⊥ =
+    λ l. true≢false (sym (leading_yes p is i l) ∙ f.1 i (interval 0 0) (omega arith) (omega (arith, leading_le p is))) in
+    let above : F < i → ⊥ = λ l. true≢false (sym (f.0 F (interval 0 0) (omega arith) l) ∙ leading_no p is (omega arith)) in
+    ⊎_elim (λ l. absurd (below l)) (λ l. ⊎_elim (λ (q : F ≡ i). sym q) (λ q. absurd (above q)) (eq-or-lt_of_le l)) (lt_or_le i F)
 
-module _ (ps : List (List ℕ)) (x : ℕ) where
-  pub bisect_start : Bisects ps x 0 (length ps)
-  bisect_start = record { low = omega arith; high = omega (arith, leading_le (ends_by x) (list_of ps), length_list ps); within = omega arith }
+module _ (is : List Interval) (x : ℕ) (u : Usual is) where
+  -- A later interval begins and ends later.
+  later : (i j : ℕ) → i ≤ j → j < length is → ((at is i).start ≤ (at is j).start) × ((at is i).end ≤ (at is j).end)
+  later i j h l =
+      let n = nonempty_at 2147483647 0 is j u l in
+      let m = nonempty_at 2147483647 0 is i u (omega arith) in
+      ⊎_elim (λ (q : i ≡ j). rw q (omega arith, omega arith)) (λ q. let a = apart_at 2147483647 0 is i j u q l in (omega arith, omega arith))
+      (eq-or-lt_of_le h)
 
-  module _ (u : Usual (list_of ps)) (lo hi mid : ℕ) (b : Bisects ps x lo hi) (h : mid < hi) where
-    pub bisect_up : get_or (get_or ps mid []) 1 0 ≤ x → Bisects ps x (mid + 1) hi
-    bisect_up l =
-        let e : (at (list_of ps) mid).end ≤ x = rw (list_at ps mid) l in
-        let w = b.within in
-        record {
-          low =
-              ⊎_elim (λ q. omega arith)
-              (λ q. absurd (let z = past_no (list_of ps) x u mid q (omega (arith, length_list ps)) in omega arith))
-              (lt_or_le mid (first_past (list_of ps) x));
-          high = b.high;
-          within = w;
-        }
+  -- The intervals that end at x or before stand before the others, and so do those that begin before x.
+  pub ended_first : IsPartitionedBy (ends_by x) is
+  ended_first i j d h l e =
+      let f : (at is j).end ≤ x = leb-true (at is j).end x (rw (get_or_default is j d (interval 0 0) l) at e) in
+      let m = later i j h l in
+      rw (get_or_default is i d (interval 0 0) (omega arith)) (le-leb (at is i).end x (omega arith))
 
-    pub bisect_down : x < get_or (get_or ps mid []) 1 0 → Bisects ps x lo mid
-    bisect_down l =
-        let e : x < (at (list_of ps) mid).end = rw (list_at ps mid) l in
-        let w = b.within in
-        record {
-          low = b.low;
-          high =
-              ⊎_elim (λ q. absurd (let z = past_yes (list_of ps) x u mid q in omega arith)) (λ q. q)
-              (lt_or_le mid (first_past (list_of ps) x));
-          within = omega arith;
-        }
+  pub started_first : IsPartitionedBy (begins_before x) is
+  started_first i j d h l e =
+      let f : (at is j).start < x = ltb-true (at is j).start x (rw (get_or_default is j d (interval 0 0) l) at e) in
+      let m = later i j h l in
+      rw (get_or_default is i d (interval 0 0) (omega arith)) (lt-ltb (at is i).start x (omega arith))
 
-  pub bisect_end : Usual (list_of ps) → (lo hi : ℕ) → Bisects ps x lo hi → hi ≤ lo → IsFirstPast (list_of ps) x (length ps) lo
-  bisect_end u lo hi b h =
-      let l = b.low in
-      let g = b.high in
-      let w = b.within in
-      record { index = omega arith; inside = omega arith; small = omega (arith, usual_few ps u) }
+  pub past_found : (i : ℕ) → i ≤ length is → IsPartitionPoint (λ j. ends_by x j ≡ true) (λ j. ends_by x j ≡ false) is i → IsFirstPast is x i
+  past_found i h p = record { index = leading_found (ends_by x) is i h p; inside = h; small = omega (arith, usual_few is u) }
+
+  pub from_found : (i : ℕ) → i ≤ length is → IsPartitionPoint (λ j. begins_before x j ≡ true) (λ j. begins_before x j ≡ false) is i
+      → i ≡ first_from is x
+  from_found i h p = leading_found (begins_before x) is i h p

@@ -4,17 +4,17 @@ use mathlib.Core.Path.{◌≡◌, ap}
 use mathlib.Core.List.{List}
 use native.Mathlib.Nat.{div-add-mod', mod-lt, div-lt_iff_lt-mul}
 use native.Mathlib.Omega.{arith}
-use lib.ListN.{get_or}
-use Rattle.intervals.specs.Interval.{Interval, covered_in}
+use Rattle.intervals.specs.declared.Interval.{Interval}
+use Rattle.intervals.specs.Interval.{covered_in}
 use Rattle.intervals.proofs.Counted.{covered_at_most}
 use Rattle.questions.specs.Answers.{answer, share}
 
 module _ (is : List Interval) (a b : ℕ) (h : a < b) where
-  pub share_whole : get_or (share a b is) 0 0 * (b - a) + get_or (share a b is) 1 0 ≡ 10000 * covered_in is a b
+  pub share_whole : (share a b is).first * (b - a) + (share a b is).second ≡ 10000 * covered_in is a b
   unfolding share
   share_whole = div-add-mod' (10000 * covered_in is a b) (b - a)
 
-  pub share_remainder : get_or (share a b is) 1 0 < b - a
+  pub share_remainder : (share a b is).second < b - a
   unfolding share
   share_remainder = mod-lt (10000 * covered_in is a b) (omega arith)
 
@@ -28,3 +28,5 @@ module _ (is : List Interval) (a b : ℕ) (h : a < b) where
 
     pub remainder_small : (10000 * m) % (b - a) < b - a
     remainder_small = mod-lt (10000 * m) (omega arith)
+
+pub ruleset of_share = (share_is, share_small)

@@ -6,13 +6,16 @@ use mathlib.Core.List.{List, [], ◌∷◌}
 use mathlib.Core.Logic.{◌⊎◌, inl, inr, ⊎_elim, ◌↔◌}
 use native.Mathlib.Omega.{arith}
 use lib.Dec.{ltb}
-use lib.ListN.{length, get_or}
-use Rattle.intervals.specs.Interval.{Interval, Holds, Canonical, covered_in}
+use lib.ListN.{length}
+use Rattle.intervals.specs.declared.Interval.{Interval}
+use Rattle.intervals.specs.Interval.{Holds, Canonical, covered_in}
 use Rattle.intervals.proofs.Order.{lt_or_le}
 use Rattle.intervals.proofs.Counted.{and_agrees, ltb_agrees}
 use Rattle.questions.specs.Answers.{between, nearest, indices, first_and_count, all_that, within, inside, partly, share}
 use Rattle.questions.specs.Batch.{summary_of}
-use Rattle.questions.specs.Promised.{Some, Usual, consecutive, total, distance, Nearest}
+use Rattle.std.specs.List.{sum}
+use Rattle.questions.specs.Usual.{Usual}
+use Rattle.questions.specs.Promised.{Some, consecutive, distance, Nearest}
 use Rattle.questions.specs.Terms.Found.{first_past, first_from}
 use Rattle.questions.proofs.Nearest.{index_nearest}
 use Rattle.questions.proofs.Ranges.{within_run, run_named}
@@ -31,7 +34,7 @@ between_none x i h = (
 
 -- No interval of the list is nearer than the nearest, and none as near stands left of it.
 pub nearest_law : (x : ℕ) (is : List Interval) → 0 < length is
-    → Nearest x is (get_or (nearest x is) 0 0) × (get_or (nearest x is) 1 0 ≡ distance x is (get_or (nearest x is) 0 0))
+    → Nearest x is ((nearest x is).first) × ((nearest x is).second ≡ distance x is ((nearest x is).first))
 unfolding nearest
 nearest_law x [] h = absurd (let b : ⊥ = omega arith in b)
 nearest_law x (i ∷ is) h = (index_nearest x i is, refl)
@@ -60,18 +63,18 @@ partly_law a b i =
 
 -- Consecutive: first index and how many name all intervals within.
 pub within_law : (a b : ℕ) (is : List Interval) → Usual is
-    → indices (within a b) 0 is ≡ consecutive (get_or (all_that (within a b) is) 0 0) (get_or (all_that (within a b) is) 1 0)
+    → indices (within a b) 0 is ≡ consecutive ((all_that (within a b) is).first) ((all_that (within a b) is).second)
 within_law a b is u =
     let e = within_run is u a b in
     e
     ∙ run_named (first_from is a) (first_past is b - first_from is a)
-    ∙ ap (λ (l : List ℕ). consecutive (get_or (first_and_count l) 0 0) (get_or (first_and_count l) 1 0)) (sym e)
+    ∙ ap (λ (l : List ℕ). consecutive (first_and_count l).first (first_and_count l).second) (sym e)
 
 -- Share times length + remainder = 10,000 times masked letters, remainder below the length.
 pub share_law : (a b : ℕ) (is : List Interval) → a < b
-    → (get_or (share a b is) 0 0 * (b - a) + get_or (share a b is) 1 0 ≡ 10000 * covered_in is a b) × (get_or (share a b is) 1 0 < b - a)
+    → ((share a b is).first * (b - a) + (share a b is).second ≡ 10000 * covered_in is a b) × ((share a b is).second < b - a)
 share_law a b is h = (share_whole is a b h, share_remainder is a b h)
 
 -- The sum of the summary is the number of masked letters.
-pub summary_law : (n : ℕ) (is : List Interval) → Canonical n 1 is → total (summary_of n is) ≡ covered_in is 0 n
+pub summary_law : (n : ℕ) (is : List Interval) → Canonical n 1 is → sum (summary_of n is) ≡ covered_in is 0 n
 summary_law n is c = summary_total n is c

@@ -1,12 +1,9 @@
 -- The terms of the theorems about the answers (proofs/Theorems.antt).
-use Rattle.std.specs.Prelude.{ℕ, ◌+◌, ◌≤◌, ◌<◌, List, [], ◌∷◌, length, get_or}
+use Rattle.std.specs.Prelude.{ℕ, ◌≤◌, ◌<◌, List, length, get_or}
 use Rattle.buffers.specs.Fill.{tabulate_from}
-use Rattle.intervals.specs.Interval.{Interval, interval, Canonical}
+use Rattle.intervals.specs.declared.Interval.{Interval}
+use Rattle.intervals.specs.Interval.{interval}
 use Rattle.questions.specs.Answers.{between}
-
--- A list of the usual kind in a sequence of any accepted length.
-abbrev pub Usual : List Interval → Type 0
-Usual is = Canonical 2147483647 1 is
 
 abbrev pub distance : ℕ → List Interval → ℕ → ℕ
 distance x is k = between x (get_or is k (interval 0 0))
@@ -25,7 +22,3 @@ pub record Some (P : ℕ → Type 0) : Type 0 where
 -- m numbers from f on.
 abbrev pub consecutive : ℕ → ℕ → List ℕ
 consecutive f m = tabulate_from (λ (i : ℕ). i) m f
-
-unfoldable pub total : List ℕ → ℕ
-total [] = 0
-total (x ∷ xs) = x + total xs

@@ -3,140 +3,275 @@
 
 #![tactic(auto)]
 
-ghost use Rattle.std.specs.Prelude.{◌≡◌, ◌+◌, ◌-◌, ◌≤◌, ◌<◌, length};
+ghost use Rattle.std.specs.Prelude.{◌≡◌, ◌^◌, ◌+◌, ◌-◌, ◌≤◌, ◌<◌, length, sum, unwrap_or, OnOk, OnErr, IfOk};
 ghost use Rattle.buffers.specs.Fill.{put, tabulate};
-ghost use Rattle.intervals.specs.Interval.{interval, list_of, covered_in};
-ghost use Rattle.questions.specs.Answers.{nearest, all_that, within, inside, partly, share, answer_to};
-ghost use Rattle.questions.specs.Batch.{blocks, block, results_of, bad_question, any_bad, Answers};
+ghost use Rattle.intervals.specs.Interval.{interval, covered_in};
+ghost use Rattle.questions.specs.Answers.{none, nearest, all_that, within, inside, partly, share, answer_to};
+ghost use Rattle.questions.specs.Batch.{blocks, block, summary_of, results_of, bad_question, any_bad, refusal, list_refusal};
+ghost use Rattle.checks.specs.Refusal.{number_of};
 ghost use Rattle.questions.specs.Terms.Walked.{Walks};
-ghost use Rattle.questions.specs.Promised.{Usual, total};
+ghost use Rattle.questions.specs.Usual.{Usual, Usual_prop};
 ghost use Rattle.questions.specs.Terms.Found.{IsFirstPast, first_from, Summed, Askable, AllAskable};
 
-use checks::{next_check, too_many_letters};
-use intervals::{is_usual, max_u32, min_u32};
+use checks::{Refusal, too_many_letters};
+use intervals::{Interval, is_usual};
 
-// The index that stands for no interval.
-const NONE: u32 = 4294967295;
-
-// What a batch is answered with: the refusal (0: none) and how many questions were answered.
+/// A question about a range of letters, from `from` up to `to`, which is not included.
+/// Its kind: 0 nearest to letter `from`, 1 wholly within, 2 both inside and outside, 3 the masked share.
+#[repr(C)]
 #[derive(Clone, Copy)]
-pub struct Answered {
-    pub refusal: u32,
-    pub count: usize,
+pub struct Question {
+    pub kind: u32,
+    pub from: u32,
+    pub to: u32,
 }
 
-// The index of the first interval whose end lies past x; the list's length if there is none.
-fn first_past(list: &[[u32; 2]], x: u32) -> usize
-    requires { Usual (list_of list.now) }
-    ensures { IsFirstPast (list_of list.now) x (length list.now) result }
-{
-    let mut lo = 0;
-    let mut hi = list.len();
-    while lo < hi {
-        let mid = lo + (hi - lo) / 2;
-        if list[mid][1] <= x {
-            lo = mid + 1;
-            continue;
+/// An interval's index and a distance, the first index and a count, or a share and its remainder.
+#[repr(C)]
+#[derive(Clone, Copy)]
+pub struct Answer {
+    pub first: u32,
+    pub second: u32,
+}
+
+impl Answer {
+    // No interval.
+    const NONE: Answer = Answer {
+        first: u32::MAX,
+        second: 0,
+    };
+}
+
+// A list of the usual kind.
+#[derive(Clone, Copy)]
+struct UsualList<'a> {
+    list: &'a [Interval],
+    ghost usual: { Usual list.now } by { Usual_prop list.now },
+}
+
+impl<'a> UsualList<'a> {
+    fn new(n: usize, list: &'a [Interval]) -> Result<Self, Refusal>
+        ensures list { IfOk result (λ usual. usual.list.now ≡ list.now) }
+        ensures few { OnOk result (n ≤ 2147483647) }
+        ensures refusal { number_of result ≡ list_refusal n list.now }
+    {
+        if too_many_letters(n) {
+            return Err(Refusal::TooManyLetters);
         }
-        hi = mid;
+        if !is_usual(list, n) {
+            return Err(Refusal::UnusualList);
+        }
+        Ok(UsualList { list })
     }
-    lo
+
+    // The index of the first interval whose end lies past x; the list's length if there is none.
+    fn first_past(&self, x: u32) -> usize
+        ensures { IsFirstPast self.now.list.now x result }
+    {
+        self.list.partition_point(|interval| interval.end <= x)
+    }
+
+    // The nearest to letter x is the first interval whose end lies past x, or the one before it.
+    #[tactic(auto, using(crate::proofs::NearestSteps::of_nearest))]
+    fn nearest_interval(&self, x: u32) -> Option<Answer>
+        ensures { unwrap_or result none ≡ nearest x self.now.list.now }
+    {
+        if self.list.len() == 0 {
+            return None;
+        }
+        let j = self.first_past(x);
+        if j == 0 {
+            return Some(Answer {
+                first: 0,
+                second: letters_before(x, self.list[0].start),
+            });
+        }
+        let left = x - self.list[j - 1].end;
+        if j == self.list.len() {
+            return Some(Answer {
+                first: (j - 1) as u32,
+                second: left,
+            });
+        }
+        let right = letters_before(x, self.list[j].start);
+        if right < left {
+            return Some(Answer {
+                first: j as u32,
+                second: right,
+            });
+        }
+        Some(Answer {
+            first: (j - 1) as u32,
+            second: left,
+        })
+    }
+
+    // The index of the first interval that begins at x or later; the list's length if there is none.
+    fn first_from(&self, x: u32) -> usize
+        ensures { result ≡ first_from self.now.list.now x }
+    {
+        self.list.partition_point(|interval| interval.start < x)
+    }
+
+    // The intervals wholly within [a, b): those that begin at a or later, up to the first whose end lies past b.
+    #[tactic(auto, using(crate::proofs::RangeSteps::of_within))]
+    fn intervals_within(&self, a: u32, b: u32) -> Option<Answer>
+        ensures { unwrap_or result none ≡ all_that (within a b) self.now.list.now }
+    {
+        let first = self.first_from(a);
+        let past = self.first_past(b);
+        if first < past {
+            return Some(Answer {
+                first: first as u32,
+                second: (past - first) as u32,
+            });
+        }
+        None
+    }
+
+    // The intervals with letters both inside and outside [a, b): at most one over a and one over b, which may be the same.
+    #[tactic(auto, using(crate::proofs::RangeSteps::of_partly))]
+    fn intervals_partly(&self, a: u32, b: u32) -> Option<Answer>
+        requires a_lt_b { a < b }
+        ensures { unwrap_or result none ≡ all_that (partly a b) self.now.list.now }
+    {
+        let left = self.first_past(a);
+        let right = self.first_past(b);
+        if left < self.first_from(a) {
+            if right <= left {
+                return Some(Answer {
+                    first: left as u32,
+                    second: 1,
+                });
+            }
+            if right < self.first_from(b) {
+                return Some(Answer {
+                    first: left as u32,
+                    second: 2,
+                });
+            }
+            return Some(Answer {
+                first: left as u32,
+                second: 1,
+            });
+        }
+        if right < self.first_from(b) {
+            return Some(Answer {
+                first: right as u32,
+                second: 1,
+            });
+        }
+        None
+    }
+
+    // Counts the covered letters of [a, b), from j on, the first interval whose end lies past a.
+    fn walk(&self, j: usize, a: u32, b: u32) -> Walked
+        requires first_past { IsFirstPast self.now.list.now a j }
+        requires a_le_b { a ≤ b }
+        ensures { Walks self.now.list.now a b result }
+    {
+        let mut letters = 0;
+        for k in j..self.list.len() {
+            let interval = self.list[k];
+            letters += letters_inside(a, b, interval);
+            if b < interval.end {
+                return Walked { letters, next: k };
+            }
+        }
+        Walked {
+            letters,
+            next: self.list.len(),
+        }
+    }
+
+    // Writes the covered letters of each block, one walk over the list in all.
+    fn fill_summary(&self, summary: &mut [u32])
+        requires { length summary.old ≤ 2097152 }
+        ensures { summary.new ≡ tabulate (block self.now.list.now) (length summary.old) }
+    {
+        let mut next = 0;
+        let mut from = 0;
+        for entry in summary.iter_mut() {
+            let walked = self.walk(next, from, from + 1024);
+            *entry = walked.letters;
+            next = walked.next;
+            from += 1024;
+        }
+    }
+
+    // The covered letters of [a, b): a walk up to the first block that begins in it, whole blocks from the summary, a walk to its end.
+    #[tactic(auto, using(crate::proofs::Blocks::of_parts))]
+    fn masked_letters(&self, summary: &[u32], a: u32, b: u32) -> u32
+        requires summed { Summed self.now.list.now summary.now b }
+        requires a_le_b { (a ≤ b) × (b ≤ 2147483647) }
+        ensures { result ≡ covered_in self.now.list.now a b }
+    {
+        let first = (a + 1023) / 1024;
+        let last = b / 1024;
+        if last < first {
+            let only = self.walk(self.first_past(a), a, b);
+            return only.letters;
+        }
+        let before = self.walk(self.first_past(a), a, first * 1024);
+        let from = first as usize;
+        let to = last as usize;
+        let whole = total_letters(&summary[from..to]);
+        let after = self.walk(self.first_past(last * 1024), last * 1024, b);
+        before.letters + whole + after.letters
+    }
+
+    // The masked share of [a, b) in ten-thousandths, and the remainder.
+    #[tactic(auto, using(crate::proofs::Share::of_share))]
+    fn masked_share(&self, summary: &[u32], a: u32, b: u32) -> Answer
+        requires summed { Summed self.now.list.now summary.now b }
+        requires a_lt_b { (a < b) × (b ≤ 2147483647) }
+        ensures { result ≡ share a b self.now.list.now }
+    {
+        let parts = 10000 * (self.masked_letters(summary, a, b) as usize);
+        let long = (b - a) as usize;
+        Answer {
+            first: (parts / long) as u32,
+            second: (parts % long) as u32,
+        }
+    }
+
+    #[tactic(auto, unfolding(crate::specs::Answers::answer_to))]
+    fn answer_one(&self, summary: &[u32], kind: u32, a: u32, b: u32) -> Answer
+        requires askable { Askable self.now.list.now summary.now kind a b }
+        ensures { result ≡ answer_to self.now.list.now kind a b }
+    {
+        match kind {
+            0 => self.nearest_interval(a).unwrap_or(Answer::NONE),
+            1 => self.intervals_within(a, b).unwrap_or(Answer::NONE),
+            2 => self.intervals_partly(a, b).unwrap_or(Answer::NONE),
+            _ => self.masked_share(summary, a, b),
+        }
+    }
+
+    #[tactic(auto, using(crate::proofs::Answering::of_answers))]
+    fn answer_all(&self, summary: &[u32], questions: &[Question], results: &mut [Answer])
+        requires all_askable { AllAskable self.now.list.now summary.now questions.now }
+        requires questions_in_bounds { length questions.now ≤ length results.old }
+        ensures { results.new ≡ put (results_of self.now.list.now questions.now) results.old }
+    {
+        for (i, question) in questions.iter().enumerate() {
+            results[i] = self.answer_one(summary, question.kind, question.from, question.to);
+        }
+    }
 }
 
 // The letters between letter x and a start after it.
 fn letters_before(x: u32, start: u32) -> u32
     ensures { result ≡ start - (x + 1) }
 {
-    if start <= x {
-        return 0;
-    }
-    start - x - 1
-}
-
-// The nearest to letter x is the first interval whose end lies past x, or the one before it.
-fn nearest_interval(list: &[[u32; 2]], x: u32) -> [u32; 2]
-    requires { Usual (list_of list.now) }
-    ensures { result ≡ nearest x (list_of list.now) }
-{
-    if list.len() == 0 {
-        return [NONE, 0];
-    }
-    let j = first_past(list, x);
-    if j == 0 {
-        return [0, letters_before(x, list[0][0])];
-    }
-    let left = x - list[j - 1][1];
-    if j == list.len() {
-        return [(j - 1) as u32, left];
-    }
-    let right = letters_before(x, list[j][0]);
-    if right < left {
-        return [j as u32, right];
-    }
-    [(j - 1) as u32, left]
-}
-
-// The index of the first interval that begins at x or later: j, the first whose end lies past x, or the one after it.
-fn first_from(list: &[[u32; 2]], j: usize, x: u32) -> usize
-    requires usual { Usual (list_of list.now) }
-    requires first_past { IsFirstPast (list_of list.now) x (length list.now) j }
-    ensures { result ≡ first_from (list_of list.now) x }
-{
-    if j == list.len() {
-        return j;
-    }
-    if list[j][0] < x {
-        return j + 1;
-    }
-    j
-}
-
-// The intervals wholly within [a, b): those that begin at a or later, up to the first whose end lies past b.
-fn intervals_within(list: &[[u32; 2]], a: u32, b: u32) -> [u32; 2]
-    requires { Usual (list_of list.now) }
-    ensures { result ≡ all_that (within a b) (list_of list.now) }
-{
-    let first = first_from(list, first_past(list, a), a);
-    let past = first_past(list, b);
-    if first < past {
-        return [first as u32, (past - first) as u32];
-    }
-    [NONE, 0]
-}
-
-// The intervals with letters both inside and outside [a, b): at most one over a and one over b, which may be the same.
-fn intervals_partly(list: &[[u32; 2]], a: u32, b: u32) -> [u32; 2]
-    requires usual { Usual (list_of list.now) }
-    requires a_lt_b { a < b }
-    ensures { result ≡ all_that (partly a b) (list_of list.now) }
-{
-    let left = first_past(list, a);
-    let right = first_past(list, b);
-    if left < first_from(list, left, a) {
-        if right <= left {
-            return [left as u32, 1];
-        }
-        if right < first_from(list, right, b) {
-            return [left as u32, 2];
-        }
-        return [left as u32, 1];
-    }
-    if right < first_from(list, right, b) {
-        return [right as u32, 1];
-    }
-    [NONE, 0]
+    start.saturating_sub(x).saturating_sub(1)
 }
 
 // How many letters of [start, end) lie inside [a, b).
-fn letters_inside(a: u32, b: u32, start: u32, end: u32) -> u32
-    ensures { result ≡ inside a b (interval start end) }
+fn letters_inside(a: u32, b: u32, interval: Interval) -> u32
+    ensures { result ≡ inside a b interval }
 {
-    let to = min_u32(end, b);
-    let from = max_u32(start, a);
-    if from < to {
-        return to - from;
-    }
-    0
+    interval.end.min(b).saturating_sub(interval.start.max(a))
 }
 
 // The covered letters of a range, and the first interval whose end lies past the range's.
@@ -146,126 +281,12 @@ struct Walked {
     next: usize,
 }
 
-// Counts the covered letters of [a, b), from j on, the first interval whose end lies past a.
-fn walk(list: &[[u32; 2]], j: usize, a: u32, b: u32) -> Walked
-    requires usual { Usual (list_of list.now) }
-    requires first_past { IsFirstPast (list_of list.now) a (length list.now) j }
-    requires a_le_b { a ≤ b }
-    ensures { Walks (list_of list.now) a b (length list.now) result }
-{
-    let mut k = j;
-    let mut letters = 0;
-    while k < list.len() {
-        let end = list[k][1];
-        letters += letters_inside(a, b, list[k][0], end);
-        if b < end {
-            return Walked { letters, next: k };
-        }
-        k += 1;
-    }
-    Walked { letters, next: k }
-}
-
-// Writes the covered letters of each of the first `count` blocks, one walk over the list in all.
-fn fill_summary(list: &[[u32; 2]], count: usize, summary: &mut [u32])
-    requires usual { Usual (list_of list.now) }
-    requires count_bound { (count ≤ 2097152) × (count ≤ length summary.old) }
-    ensures { summary.new ≡ put (tabulate (block (list_of list.now)) count) summary.old }
-{
-    let mut next = 0;
-    let mut from = 0;
-    let mut j = 0;
-    while j < count {
-        let to = from + 1024;
-        let walked = walk(list, next, from, to);
-        summary[j] = walked.letters;
-        next = walked.next;
-        from = to;
-        j += 1;
-    }
-}
-
 // The sum of the entries.
 fn total_letters(blocks: &[u32]) -> u32
-    requires { total blocks.now < 4294967296 }
-    ensures { result ≡ total blocks.now }
+    requires { sum blocks.now < 2 ^ 32 }
+    ensures { result ≡ sum blocks.now }
 {
-    let mut sum = 0;
-    let mut j = 0;
-    while j < blocks.len() {
-        sum += blocks[j];
-        j += 1;
-    }
-    sum
-}
-
-// The covered letters of [a, b): a walk up to the first block that begins in it, whole blocks from the summary, a walk to its end.
-fn masked_letters(list: &[[u32; 2]], summary: &[u32], a: u32, b: u32) -> u32
-    requires usual { Usual (list_of list.now) }
-    requires summed { Summed (list_of list.now) summary.now b }
-    requires a_le_b { (a ≤ b) × (b ≤ 2147483647) }
-    ensures { result ≡ covered_in (list_of list.now) a b }
-{
-    let first = (a + 1023) / 1024;
-    let last = b / 1024;
-    if last < first {
-        let only = walk(list, first_past(list, a), a, b);
-        return only.letters;
-    }
-    let before = walk(list, first_past(list, a), a, first * 1024);
-    let from = first as usize;
-    let to = last as usize;
-    let whole = total_letters(&summary[from..to]);
-    let after = walk(list, first_past(list, last * 1024), last * 1024, b);
-    before.letters + whole + after.letters
-}
-
-// The masked share of [a, b) in ten-thousandths, and the remainder.
-fn masked_share(list: &[[u32; 2]], summary: &[u32], a: u32, b: u32) -> [u32; 2]
-    requires usual { Usual (list_of list.now) }
-    requires summed { Summed (list_of list.now) summary.now b }
-    requires a_lt_b { (a < b) × (b ≤ 2147483647) }
-    ensures { result ≡ share a b (list_of list.now) }
-{
-    let parts = 10000 * (masked_letters(list, summary, a, b) as usize);
-    let long = (b - a) as usize;
-    [(parts / long) as u32, (parts % long) as u32]
-}
-
-fn answer_one(list: &[[u32; 2]], summary: &[u32], kind: u32, a: u32, b: u32) -> [u32; 2]
-    requires usual { Usual (list_of list.now) }
-    requires askable { Askable (list_of list.now) summary.now kind a b }
-    ensures { result ≡ answer_to (list_of list.now) kind a b }
-{
-    if kind == 0 {
-        return nearest_interval(list, a);
-    }
-    if kind == 1 {
-        return intervals_within(list, a, b);
-    }
-    if kind == 2 {
-        return intervals_partly(list, a, b);
-    }
-    masked_share(list, summary, a, b)
-}
-
-fn answer_all(list: &[[u32; 2]], summary: &[u32], questions: &[[u32; 3]], results: &mut [[u32; 2]])
-    requires usual { Usual (list_of list.now) }
-    requires all_askable { AllAskable (list_of list.now) summary.now questions.now }
-    requires questions_in_bounds { length questions.now ≤ length results.old }
-    ensures { results.new ≡ put (results_of (list_of list.now) questions.now) results.old }
-{
-    let mut i = 0;
-    while i < questions.len() {
-        results[i] = answer_one(
-            list,
-            summary,
-            questions[i][0],
-            questions[i][1],
-            questions[i][2],
-        );
-        i += 1;
-    }
+    blocks.iter().sum()
 }
 
 fn bad_question(n: usize, kind: u32, a: u32, b: u32) -> bool
@@ -279,59 +300,44 @@ fn bad_question(n: usize, kind: u32, a: u32, b: u32) -> bool
     (3 < kind) | ((to <= from) | (n < to))
 }
 
-fn any_bad(questions: &[[u32; 3]], n: usize) -> bool
+fn any_bad(questions: &[Question], n: usize) -> bool
     ensures { result ≡ any_bad n questions.now }
 {
-    let mut i = 0;
-    while i < questions.len() {
-        if bad_question(n, questions[i][0], questions[i][1], questions[i][2]) {
-            return true;
-        }
-        i += 1;
-    }
-    false
+    questions
+        .iter()
+        .any(|q| bad_question(n, q.kind, q.from, q.to))
 }
 
 fn count_blocks(n: usize) -> usize
     ensures { result ≡ blocks n }
 {
-    if n % 1024 == 0 {
-        return n / 1024;
-    }
-    n / 1024 + 1
+    n.div_ceil(1024)
 }
 
-// Answers a batch of questions about a list of intervals in n letters: the summary is built, and a result written for each question.
-// A question is [kind, a, b]: 0 nearest to letter a, 1 wholly within [a, b), 2 both inside and outside it, 3 its masked share.
+/// Answers a batch of questions about a list of intervals in n letters: the summary is built, and a result written for each question.
+/// Returns the number of questions answered.
 pub fn answer_questions(
     n: usize,
-    list: &[[u32; 2]],
-    questions: &[[u32; 3]],
+    list: &[Interval],
+    questions: &[Question],
     summary: &mut [u32],
-    results: &mut [[u32; 2]],
-) -> Answered
-    ensures { Answers n (list_of list.now) questions.now
-        summary.old summary.new results.old results.new result }
+    results: &mut [Answer],
+) -> Result<usize, Refusal>
+    ensures count { IfOk result (λ count. count ≡ length questions.now) }
+    ensures summary { OnOk result (summary.new ≡ put (summary_of n list.now) summary.old) }
+    ensures results { OnOk result (results.new ≡ put (results_of list.now questions.now) results.old) }
+    ensures refusal { number_of result ≡ refusal n list.now questions.now (length summary.old) (length results.old) }
+    ensures err { OnErr result ((summary.new ≡ summary.old) × (results.new ≡ results.old)) }
 {
+    let list = UsualList::new(n, list)?;
     let blocks = count_blocks(n);
-    let r = next_check(0, 10, too_many_letters(n));
-    let r = next_check(r, 16, !is_usual(list, n));
-    let r = next_check(
-        r,
-        11,
-        (summary.len() < blocks) | (results.len() < questions.len()),
-    );
-    let r = next_check(r, 17, any_bad(questions, n));
-    if 0 < r {
-        return Answered {
-            refusal: r,
-            count: 0,
-        };
+    if summary.len() < blocks || results.len() < questions.len() {
+        return Err(Refusal::ShortSlice);
     }
-    fill_summary(list, blocks, summary);
-    answer_all(list, summary, questions, results);
-    Answered {
-        refusal: 0,
-        count: questions.len(),
+    if any_bad(questions, n) {
+        return Err(Refusal::BadQuestion);
     }
+    list.fill_summary(&mut summary[..blocks]);
+    list.answer_all(summary, questions, results);
+    Ok(questions.len())
 }

@@ -1,8 +1,9 @@
 // The call that a record asks for, on slices of the sizes that it names.
 
-ghost use Rattle.std.specs.Prelude.{◌≡◌, ◌≤◌, min, length};
+ghost use Rattle.std.specs.Prelude.{◌≡◌, ◌≤◌, length};
 ghost use Rattle.replay.specs.Call.{size, filling, Formulas, Replayed};
 
+use intervals::Interval;
 use longdust::{Answer, LongdustOptions};
 use scans::ForwardPosition;
 
@@ -15,30 +16,21 @@ pub const LETTERS_ROOM: usize = 200;
 
 pub const LIST_ROOM: usize = 100;
 // What a record names in place of the short slice where all are empty.
-const ALL_EMPTY: u64 = 13;
-
-fn least(a: usize, b: usize) -> usize
-    ensures { result ≡ min a b }
-{
-    if a < b { a } else { b }
-}
+const ALL_EMPTY: u32 = 13;
 
 // How many entries slice `number` of the call has: as many as listed, one less if it is the short one, none if all
 // are empty; at most `room`.
 #[tactic(auto, unfolding(crate::specs::Call::size))]
-pub fn entries(number: u64, short: u64, listed: usize, room: usize) -> usize
+pub fn entries(number: u32, short: u32, listed: usize, room: usize) -> usize
     ensures { (result ≡ size number short listed room) × (result ≤ room) }
 {
     if short == ALL_EMPTY {
         return 0;
     }
     if short != number {
-        return least(listed, room);
+        return listed.min(room);
     }
-    if listed == 0 {
-        return 0;
-    }
-    least(listed - 1, room)
+    listed.saturating_sub(1).min(room)
 }
 
 // Whether a record lends no tables and there is room for those of the formulas.
@@ -77,28 +69,31 @@ fn some_candidates() -> [ForwardPosition; 64] {
     }; 64]
 }
 
-pub fn some_intervals() -> [[u32; 2]; LIST_ROOM]
+pub fn some_intervals() -> [Interval; LIST_ROOM]
     ensures { length result ≡ 100 }
 {
-    [[0xdead_beef, 0xdead_beef]; LIST_ROOM]
+    [Interval {
+        start: 0xdead_beef,
+        end: 0xdead_beef,
+    }; LIST_ROOM]
 }
 
 // The answer to a request by these tables, on buffers full of arbitrary numbers, so that it cannot rest on zeros.
 pub fn answer(
-    short: u64,
+    short: u32,
     sequence: &[u8],
     options: LongdustOptions,
     ln: &[f64],
     f: &[f64],
-    list: &mut [[u32; 2]],
+    list: &mut [Interval],
     marks: &mut [u8],
 ) -> Answer
     ensures { Replayed options sequence.now ln.now f.now
         list.old list.new marks.old marks.new result }
 {
     let n = sequence.len();
-    let k = least(options.kmer, 6);
-    let w = least(options.window_size, 64);
+    let k = options.kmer.min(6);
+    let w = options.window_size.min(64);
     let kmers = 1usize << (2 * k);
     let most = (n + 1) / (k + 1);
     let queue_size = entries(3, short, w, 64);

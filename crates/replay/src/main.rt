@@ -13,30 +13,27 @@ mod recorded;
 mod request;
 mod words;
 
-ghost use Rattle.std.specs.Prelude.{◌≡◌, cond, ◌≤◌, take};
+ghost use Rattle.std.specs.Prelude.{take};
 ghost use Rattle.std.specs.Io.KnownBytes.{Consumes};
 ghost use Rattle.io.specs.Counts.{IsPrefixLen};
 
-use recorded::Compared;
 use std::io;
 use std::io::Read;
-use words::Cursor;
+use words::{Malformed, Words};
 
 const TEXT_ROOM: usize = 65536;
 
 // Reads a record, answers its request and compares.
-fn replay_record(text: &[u8], c: Cursor) -> Compared {
+fn replay_record(words: &mut Words) -> Result<bool, Malformed> {
     let mut ln = [1e300f64; call::LN_ROOM];
     let mut f = [1e300f64; call::F_ROOM];
     let mut letters = [0xeeu8; call::LETTERS_ROOM];
     let mut list = call::some_intervals();
     let mut marks = [0xeeu8; call::LIST_ROOM];
-    let head = request::head(text, c);
+    let head = request::head(words)?;
     let options = head.options;
-    let cursor = head.cursor;
-    let after_tables = request::tables(text, cursor, head.lent, &mut ln, &mut f);
-    let after_letters = request::sequence(text, after_tables, &mut letters);
-    let n = after_letters.word as usize;
+    request::tables(words, head.lent, &mut ln, &mut f)?;
+    let n = request::sequence(words, &mut letters)?;
     call::fill_tables(head.lent, &letters[..n], options, &mut ln, &mut f);
     let ln_size = call::entries(1, head.short, options.window_size + 1, call::LN_ROOM);
     let f_size = call::entries(2, head.short, options.window_size + 2, call::F_ROOM);
@@ -52,20 +49,10 @@ fn replay_record(text: &[u8], c: Cursor) -> Compared {
         &mut list[..list_size],
         &mut marks[..marks_size],
     );
-    recorded::compare(text, after_letters, answer, &list, &marks)
+    recorded::compare(words, answer, &list, &marks)
 }
 
-// Answers 1 for a record that is answered as recorded.
-fn count_same(same: bool) -> u64
-    ensures { (result ≡ cond same 1 0) × (result ≤ 1) }
-{
-    if same {
-        return 1;
-    }
-    0
-}
-
-fn report(rt: &impl Print, sound: bool, same: u64, otherwise: u64) -> io::Result<()> {
+fn report(rt: &impl Print, sound: bool, same: u32, otherwise: u32) -> io::Result<()> {
     if !sound {
         rt.println("the list is malformed")?;
     }
@@ -73,29 +60,20 @@ fn report(rt: &impl Print, sound: bool, same: u64, otherwise: u64) -> io::Result
 }
 
 fn replay(rt: &impl Print, text: &[u8]) -> io::Result<()> {
-    let first = words::number(text, words::start(), u32::MAX);
-    let records = first.word;
-    let mut cursor = first;
-    let mut answered: u64 = 0;
-    let mut same: u64 = 0;
-    while answered < records {
-        answered += 1;
-        let compared = replay_record(text, cursor);
-        cursor = compared.cursor;
-        if !cursor.sound {
-            return report(rt, false, same, records - same);
+    let mut words = Words::new(text);
+    let records = match words.number(u32::MAX) {
+        Ok(records) => records,
+        Err(malformed) => return report(rt, false, 0, malformed.number),
+    };
+    let mut same: u32 = 0;
+    for i in 0..records {
+        match replay_record(&mut words) {
+            Ok(true) => same += 1,
+            Ok(false) => println!(rt; "record {} is answered otherwise", i + 1)?,
+            Err(_) => return report(rt, false, same, records - same),
         }
-        if !compared.same {
-            println!(rt; "record {answered} is answered otherwise")?;
-        }
-        same += count_same(compared.same);
     }
-    report(
-        rt,
-        cursor.sound & (cursor.at == text.len()),
-        same,
-        records - same,
-    )
+    report(rt, words.is_empty(), same, records - same)
 }
 
 // Reads until the list is full, the reader ends or a read fails, and answers how many bytes that is.

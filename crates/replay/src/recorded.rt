@@ -1,85 +1,64 @@
 // The recorded answer, compared with the port's.
 
-ghost use Rattle.std.specs.Prelude.{◌≡◌, ◌&&◌, [], ltb, eqb, length, get_or};
-ghost use Rattle.replay.specs.Words.{Follows};
+ghost use Rattle.std.specs.Prelude.{◌≡◌, ◌&&◌, ltb, eqb, length, get_or};
+ghost use Rattle.intervals.specs.Interval.{interval};
 
-use crate::words;
-use crate::words::Cursor;
+use crate::words::{Malformed, Words};
+use intervals::Interval;
 use longdust::Answer;
 
-// Whether the answer is the recorded one, and the place after the record.
-#[derive(Clone, Copy)]
-pub struct Compared {
-    pub same: bool,
-    pub cursor: Cursor,
-}
-
-fn wide(x: u32) -> u64
-    ensures { result ≡ x }
-{
-    x as u64
-}
-
-fn wide_byte(x: u8) -> u64
-    ensures { result ≡ x }
-{
-    x as u64
-}
-
 // Whether entry i of a list is there and is [start, end].
-fn has(list: &[[u32; 2]], i: usize, start: u64, end: u64) -> bool
+fn has(list: &[Interval], i: usize, start: u32, end: u32) -> bool
     ensures { let L = list.now in
-        result ≡ (ltb i (length L) && (eqb (get_or (get_or L i []) 0 0) start && eqb (get_or (get_or L i []) 1 0) end)) }
+        result ≡ (ltb i (length L) && (eqb (get_or L i (interval 0 0)).start start && eqb (get_or L i (interval 0 0)).end end)) }
 {
     if list.len() <= i {
         return false;
     }
-    (wide(list[i][0]) == start) & (wide(list[i][1]) == end)
+    (list[i].start == start) & (list[i].end == end)
 }
 
 // Whether entry i of the marks is there and is `mark`.
-fn has_mark(marks: &[u8], i: usize, mark: u64) -> bool
+fn has_mark(marks: &[u8], i: usize, mark: u32) -> bool
     ensures { result ≡ (ltb i (length marks.now) && eqb (get_or marks.now i 0) mark) }
 {
     if marks.len() <= i {
         return false;
     }
-    wide_byte(marks[i]) == mark
+    marks[i] as u32 == mark
 }
 
-// Reads `c.word` intervals with their marks and compares them with the first ones of a list.
-fn intervals(text: &[u8], c: Cursor, alike: bool, list: &[[u32; 2]], marks: &[u8]) -> Compared
-    ensures { Follows c result.cursor }
-{
-    let count = c.word;
-    let mut cursor = c;
-    let mut same = alike;
-    let mut i = 0;
-    while (i as u64) < count {
-        let start = words::number(text, cursor, u32::MAX);
-        let end = words::number(text, start, u32::MAX);
-        cursor = words::number(text, end, 3);
-        same = same & (has(list, i, start.word, end.word) & has_mark(marks, i, cursor.word));
-        i += 1;
+// Reads `count` intervals with their marks; whether they are the first ones of a list.
+fn intervals(
+    words: &mut Words,
+    count: u32,
+    list: &[Interval],
+    marks: &[u8],
+) -> Result<bool, Malformed> {
+    let mut same = true;
+    for i in 0..count as usize {
+        let start = words.number(u32::MAX)?;
+        let end = words.number(u32::MAX)?;
+        let mark = words.number(3)?;
+        same &= has(list, i, start, end) & has_mark(marks, i, mark);
     }
-    Compared { same, cursor }
+    Ok(same)
 }
 
-// Reads the recorded answer and compares: refusal, flag, count, intervals and marks.
-pub fn compare(text: &[u8], c: Cursor, answer: Answer, list: &[[u32; 2]], marks: &[u8]) -> Compared
-    ensures { Follows c result.cursor }
-{
-    let refusal = words::number(text, c, 13);
-    let alike = answer.refusal as u64 == refusal.word;
-    if refusal.word != 0 {
-        return Compared {
-            same: alike & (answer.count == 0) & !answer.in_range,
-            cursor: refusal,
-        };
+// Reads the recorded answer, refusal, flag, count, intervals and marks; whether the answer is the recorded one.
+pub fn compare(
+    words: &mut Words,
+    answer: Answer,
+    list: &[Interval],
+    marks: &[u8],
+) -> Result<bool, Malformed> {
+    let refusal = words.number(13)?;
+    let alike = answer.refusal == refusal;
+    if refusal != 0 {
+        return Ok(alike & (answer.count == 0) & !answer.in_range);
     }
-    let in_range = words::number(text, refusal, 1);
-    let count = words::number(text, in_range, 100);
-    let flag = in_range.word == 1;
-    let same = alike & !(answer.in_range ^ flag) & (answer.count as u64 == count.word);
-    intervals(text, count, same, list, marks)
+    let in_range = words.flag()?;
+    let count = words.number(100)?;
+    let same = alike & (answer.in_range == in_range) & (answer.count == count as usize);
+    Ok(intervals(words, count, list, marks)? & same)
 }

@@ -1,112 +1,133 @@
 // The words of the list. Every word is followed by one byte, a space or at the end of a line a newline.
 
-ghost use Rattle.std.specs.Prelude.{◌≡◌, ◌≤◌, true, false};
+ghost use Rattle.std.specs.Prelude.{◌≡◌, ◌≤◌, ◌<◌, ◌+◌, true, length, take, drop, get_or, nat_eq, IfOk, OnOk, OnErr, IfSome};
+ghost use Rattle.std.specs.Option.{unwrap_or};
 ghost use Rattle.std.specs.Float.{binary64};
 ghost use Rattle.std.specs.Float.Ieee.{of_bits};
-ghost use Rattle.replay.specs.Words.{cursor, after, digit_of, Follows};
+ghost use Rattle.replay.specs.Words.{digit_of, ends_word};
 
-// A place in the list, the value of the word before it, and whether every word so far has its form.
+// The list does not have its form; the number that a word began with, where one was read.
 #[derive(Clone, Copy)]
-pub struct Cursor {
-    pub at: usize,
-    pub word: u64,
-    pub sound: bool,
+pub struct Malformed {
+    pub number: u32,
 }
 
-pub fn start() -> Cursor
-    ensures { result ≡ cursor 0 0 true }
-{
-    Cursor {
-        at: 0,
-        word: 0,
-        sound: true,
-    }
+pub const MALFORMED: Malformed = Malformed { number: 0 };
+
+// The words that are left.
+#[derive(Clone, Copy)]
+pub struct Words<'a> {
+    rest: &'a [u8],
 }
 
-pub fn unsound(at: usize) -> Cursor
-    ensures { result ≡ cursor at 0 false }
-{
-    Cursor {
-        at,
-        word: 0,
-        sound: false,
-    }
-}
-
-// The place after a word that ends before `at`.
-#[tactic(auto, unfolding(crate::specs::Words::after))]
-pub fn ended(text: &[u8], at: usize, word: u64, sound: bool) -> Cursor
-    ensures { (result ≡ after text.now at word sound) × (result.word ≤ word) }
-{
-    if text.len() <= at {
-        return unsound(at);
-    }
-    let next = text[at];
-    Cursor {
-        at: at + 1,
-        word,
-        sound: sound & ((next == b' ') | (next == b'\n')),
-    }
-}
-
-// The value of a hex digit, 16 for any other byte.
+// The value of a hex digit.
 #[tactic(auto, unfolding(crate::specs::Words::digit_of))]
-fn digit(byte: u8) -> u64
-    ensures { (result ≡ digit_of byte) × (result ≤ 16) }
+fn digit(byte: u8) -> Option<u64>
+    ensures value { unwrap_or result 16 ≡ digit_of byte }
+    ensures small { IfSome result (λ d. d < 16) }
 {
     match byte {
-        b'0'..=b'9' => (byte - b'0') as u64,
-        b'a'..=b'f' => (byte - b'a') as u64 + 10,
-        _ => 16,
+        b'0'..=b'9' => Some((byte - b'0') as u64),
+        b'a'..=b'f' => Some((byte - b'a') as u64 + 10),
+        _ => None,
     }
 }
 
-// Reads a decimal number of at most `most`.
-pub fn number(text: &[u8], c: Cursor, most: u32) -> Cursor
-    ensures { (result.word ≤ most) × Follows c result }
+fn ends_word(byte: u8) -> bool
+    ensures { result ≡ ends_word byte }
 {
-    let from = c.at;
-    let mut at = from;
-    let mut word: u64 = 0;
-    while at < text.len() {
-        let d = digit(text[at]);
-        if 9 < d {
-            return ended(text, at, word, c.sound & (from < at));
-        }
-        word = word * 10 + d;
-        if (most as u64) < word {
-            return unsound(at);
-        }
-        at += 1;
-    }
-    unsound(at)
+    (byte == b' ') | (byte == b'\n')
 }
 
-// Reads the bits of a float: at most 16 hex digits from the top.
-pub fn bits(text: &[u8], c: Cursor) -> Cursor
-    ensures { Follows c result }
-{
-    let from = c.at;
-    let mut at = from;
-    let mut word: u64 = 0;
-    let mut left: u64 = 16;
-    while at < text.len() {
-        let d = digit(text[at]);
-        if 15 < d {
-            return ended(text, at, word, c.sound & (from < at));
-        }
-        if left == 0 {
-            return unsound(at);
-        }
-        left -= 1;
-        word |= d << (left * 4);
-        at += 1;
+impl<'a> Words<'a> {
+    pub fn new(text: &'a [u8]) -> Self
+        ensures { result.rest.now ≡ text.now }
+    {
+        Words { rest: text }
     }
-    unsound(at)
+
+    pub fn is_empty(&self) -> bool
+        ensures { result ≡ nat_eq (length self.now.rest.now) 0 }
+    {
+        self.rest.is_empty()
+    }
+
+    // The next n bytes, as a word.
+    pub fn bytes(&mut self, n: usize) -> Result<&'a [u8], Malformed>
+        ensures length { IfOk result (λ word. length word.now ≡ n) }
+        ensures word { IfOk result (λ word. word.now ≡ take n self.old.rest.now) }
+        ensures rest { OnOk result (self.new.rest.now ≡ drop (n + 1) self.old.rest.now) }
+        ensures ended { OnOk result (ends_word (get_or self.old.rest.now n 0) ≡ true) }
+        ensures err { OnErr result (self.new.rest.now ≡ self.old.rest.now) }
+    {
+        let rest = self.rest;
+        if rest.len() <= n || !ends_word(rest[n]) {
+            return Err(MALFORMED);
+        }
+        self.rest = &rest[n + 1..];
+        Ok(&rest[..n])
+    }
+
+    // The next word; it has a byte at least.
+    fn word(&mut self) -> Result<&'a [u8], Malformed> {
+        match self.rest.iter().position(|byte| ends_word(*byte)) {
+            None | Some(0) => Err(MALFORMED),
+            Some(n) => self.bytes(n),
+        }
+    }
+
+    // A decimal number of at most `most`.
+    pub fn number(&mut self, most: u32) -> Result<u32, Malformed>
+        ensures { IfOk result (λ n. n ≤ most) }
+    {
+        let rest = self.rest;
+        let mut number: u64 = 0;
+        for (i, byte) in rest.iter().enumerate() {
+            match digit(*byte) {
+                Some(digit) if digit < 10 => number = number * 10 + digit,
+                _ => {
+                    let number = number as u32;
+                    if i == 0 || !ends_word(*byte) {
+                        return Err(Malformed { number });
+                    }
+                    self.bytes(i)?;
+                    return Ok(number);
+                }
+            }
+            if (most as u64) < number {
+                return Err(MALFORMED);
+            }
+        }
+        Err(MALFORMED)
+    }
+
+    pub fn flag(&mut self) -> Result<bool, Malformed> {
+        Ok(self.number(1)? == 1)
+    }
+
+    // The bits of a float: at most 16 hex digits from the top.
+    fn bits(&mut self) -> Result<u64, Malformed> {
+        let word = self.word()?;
+        if 16 < word.len() {
+            return Err(MALFORMED);
+        }
+        let mut bits: u64 = 0;
+        for (i, byte) in word.iter().enumerate() {
+            match digit(*byte) {
+                Some(digit) => bits |= digit << (60 - 4 * i),
+                None => return Err(MALFORMED),
+            }
+        }
+        Ok(bits)
+    }
+
+    pub fn float(&mut self) -> Result<f64, Malformed> {
+        Ok(float(self.bits()?))
+    }
 }
 
 // The float of these bits; those of a not-a-number all give the same one.
-pub fn float(bits: u64) -> f64
+fn float(bits: u64) -> f64
     ensures { result ≡ of_bits binary64 bits }
 {
     if bits % 0x8000_0000_0000_0000 / 0x10_0000_0000_0000 != 2047 {
@@ -115,5 +136,5 @@ pub fn float(bits: u64) -> f64
     if bits % 0x10_0000_0000_0000 == 0 {
         return f64::from_bits(bits);
     }
-    0.0 / 0.0
+    f64::NAN
 }

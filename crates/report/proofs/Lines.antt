@@ -6,10 +6,10 @@ use native.Mathlib.Numerals.{add-one}
 use native.Mathlib.Omega.{arith}
 use lib.ListN.{length, take, drop, get_or, length-append, take-append-drop}
 use lib.Seq.{take_all, take-suc}
-use Rattle.intervals.specs.Interval.{Interval, interval, interval_of, list_of}
+use Rattle.intervals.specs.declared.Interval.{Interval}
+use Rattle.intervals.specs.Interval.{interval}
 use Rattle.intervals.specs.Terms.Bounds.{Inside}
-use Rattle.intervals.proofs.Slice.{length_list, list_at}
-use Rattle.report.specs.Text.{line, lines, count_line, report}
+use Rattle.report.specs.Text.{line, lines, report}
 use Rattle.report.specs.Written.{Written}
 use Rattle.report.specs.Terms.Fits.{Fits}
 use Rattle.report.proofs.Decimal.{length_decimal}
@@ -20,17 +20,14 @@ unfolding lines
 lines_append [] js = refl
 lines_append (i ∷ is) js = ap (λ (l : List ℕ). line i ++ l) (lines_append is js) ∙ sym (append_assoc (line i) (lines is) (lines js))
 
-lines_next : (ps : List (List ℕ)) (i : ℕ) → i < length ps
-    → lines (take (i + 1) (list_of ps)) ≡ lines (take i (list_of ps)) ++ line (interval_of (get_or ps i []))
+lines_next : (ps : List Interval) (i : ℕ) → i < length ps
+    → lines (take (i + 1) ps) ≡ lines (take i ps) ++ line (get_or ps i (interval 0 0))
 unfolding lines
 lines_next ps i h =
-    let is : List Interval = list_of ps in
-    let l : i < length is = omega (arith, length_list ps) in
-    ap (λ (k : ℕ). lines (take k is)) (add-one i)
-    ∙ ap (λ (js : List Interval). lines js) (take-suc is i (interval 0 0) l)
-    ∙ lines_append (take i is) (get_or is i (interval 0 0) ∷ [])
-    ∙ ap (λ (l : List ℕ). lines (take i is) ++ l) (append-nil (line (get_or is i (interval 0 0))))
-    ∙ ap (λ (j : Interval). lines (take i is) ++ line j) (list_at ps i)
+    ap (λ (k : ℕ). lines (take k ps)) (add-one i)
+    ∙ ap (λ (js : List Interval). lines js) (take-suc ps i (interval 0 0) h)
+    ∙ lines_append (take i ps) (get_or ps i (interval 0 0) ∷ [])
+    ∙ ap (λ (l : List ℕ). lines (take i ps) ++ l) (append-nil (line (get_or ps i (interval 0 0))))
 
 -- The lines of the first intervals are no longer than all.
 lines_shorter : (is : List Interval) (i : ℕ) → length (lines (take i is)) ≤ length (lines is)
@@ -42,27 +39,27 @@ lines_shorter is i =
     omega arith
 
 -- The text d has become d': it holds the lines of the first i intervals.
-pub record Listing (ps : List (List ℕ)) (d : List ℕ) (from : ℕ) (d' : List ℕ) (at i : ℕ) : Type 0 where
+pub record Listing (ps : List Interval) (d : List ℕ) (from : ℕ) (d' : List ℕ) (at i : ℕ) : Type 0 where
   pub inside : i ≤ length ps
   pub long : length d' ≡ length d
-  pub written : Written (lines (take i (list_of ps))) d from d' at
+  pub written : Written (lines (take i ps)) d from d' at
 
-pub list_none : (ps : List (List ℕ)) (d : List ℕ) (from : ℕ) → Listing ps d from d from 0
+pub list_none : (ps : List Interval) (d : List ℕ) (from : ℕ) → Listing ps d from d from 0
 unfolding lines
 list_none ps d from = record { inside = omega arith; long = refl; written = none d from }
 
-module _ {ps : List (List ℕ)} {d : List ℕ} {from : ℕ} {d' : List ℕ} {at i : ℕ} (k : Listing ps d from d' at i) where
-  next_fits : i < length ps → Fits (lines (list_of ps)) d from → Fits (lines (take i (list_of ps)) ++ line (interval_of (get_or ps i []))) d from
+module _ {ps : List Interval} {d : List ℕ} {from : ℕ} {d' : List ℕ} {at i : ℕ} (k : Listing ps d from d' at i) where
+  next_fits : i < length ps → Fits (lines ps) d from → Fits (lines (take i ps) ++ line (get_or ps i (interval 0 0))) d from
   next_fits h f =
       let e = ap (λ (l : List ℕ). length l) (lines_next ps i h) in
-      let s = lines_shorter (list_of ps) (i + 1) in
+      let s = lines_shorter ps (i + 1) in
       record { room = omega arith }
 
-  pub list_fits : i < length ps → Fits (lines (list_of ps)) d from → Fits (line (interval_of (get_or ps i []))) d' at
+  pub list_fits : i < length ps → Fits (lines ps) d from → Fits (line (get_or ps i (interval 0 0))) d' at
   list_fits h f = fits_next (next_fits h f) k.long k.written
 
-  pub list_next : {d'' : List ℕ} {end : ℕ} → i < length ps → Fits (lines (list_of ps)) d from → length d'' ≡ length d'
-      → Written (line (interval_of (get_or ps i []))) d' at d'' end → Listing ps d from d'' end (i + 1)
+  pub list_next : {d'' : List ℕ} {end : ℕ} → i < length ps → Fits (lines ps) d from → length d'' ≡ length d'
+      → Written (line (get_or ps i (interval 0 0))) d' at d'' end → Listing ps d from d'' end (i + 1)
   list_next h f l w =
       record {
         inside = omega arith;
@@ -70,14 +67,11 @@ module _ {ps : List (List ℕ)} {d : List ℕ} {from : ℕ} {d' : List ℕ} {at 
         written = written_as (sym (lines_next ps i h)) (next (next_fits h f) k.written w);
       }
 
-  pub listed : length ps ≤ i → Written (lines (list_of ps)) d from d' at
+  pub listed : length ps ≤ i → Written (lines ps) d from d' at
   listed h =
       written_as
-      (ap (λ (js : List Interval). lines js) (take_all i (list_of ps) (omega (arith, length_list ps))))
+      (ap (λ (js : List Interval). lines js) (take_all i ps (omega arith)))
       k.written
-
-pub report_list : (ps : List (List ℕ)) → report (list_of ps) ≡ lines (list_of ps) ++ count_line (length ps)
-report_list ps = ap (λ (n : ℕ). lines (list_of ps) ++ count_line n) (length_list ps)
 
 -- The length of a report of n letters, with fewer than 10,000 intervals and 100,000 letters.
 length_lines : (n : ℕ) (is : List Interval) → n < 100000 → Inside n is → length (lines is) ≤ 12 * length is

@@ -1,41 +1,19 @@
 -- Texts written one after the other into a lent text.
-use Prim.Native.Nat.{ℕ, ◌+◌, ◌≤◌, ◌<◌}
-use mathlib.Core.Path.{◌≡◌, refl, sym, ap, ap₂, ◌∙◌}
+use Prim.Native.Nat.{ℕ, ◌+◌, ◌≤◌}
+use mathlib.Core.Path.{◌≡◌, sym, ap, ap₂, ◌∙◌}
 use mathlib.Core.List.{List, [], ◌++◌, append_assoc}
 use native.Mathlib.Nat.{add-zero}
 use native.Mathlib.Omega.{arith}
-use lib.ListN.{length, take, drop, get_or, set, length-append, length-set, take-append-drop}
-use lib.Seq.{take_at, drop-drop, length-take-le, take_all}
+use lib.ListN.{length, take, drop, length-append, take-append-drop}
+use lib.Seq.{take_at, drop-drop, length-take-le}
 use Rattle.buffers.specs.Fill.{put_at}
-use Rattle.buffers.proofs.Put.{put_at_none, put_at_next, put_at_copy}
-use Rattle.io.specs.Counts.{IsPrefixLen}
+use Rattle.buffers.proofs.Put.{put_at_none, put_at_next}
 use Rattle.report.specs.Written.{Written}
 use Rattle.report.specs.Terms.Fits.{Fits}
 
 -- Nothing was written yet.
 pub none : (d : List ℕ) (from : ℕ) → Written [] d from d from
 none d from = record { end_is = sym (add-zero from); text_is = sym (put_at_none from d) }
-
--- A copy byte by byte: the text d has become d' after the first i bytes.
-pub record Copying (xs d : List ℕ) (from : ℕ) (d' : List ℕ) (i : ℕ) : Type 0 where
-  pub inside : i ≤ length xs
-  pub long : length d' ≡ length d
-  pub text_is : d' ≡ put_at from (take i xs) d
-
-pub copy_none : (xs d : List ℕ) (from : ℕ) → Copying xs d from d 0
-copy_none xs d from = record { inside = omega arith; long = refl; text_is = sym (put_at_none from d) }
-
-module _ {xs d : List ℕ} {from : ℕ} {d' : List ℕ} {i : ℕ} (k : Copying xs d from d' i) where
-  pub copy_byte : i < length xs → Fits xs d from → Copying xs d from (set d' (from + i) (get_or xs i 0)) (i + 1)
-  copy_byte h fits =
-      record {
-        inside = omega arith;
-        long = length-set d' (from + i) (get_or xs i 0) ∙ k.long;
-        text_is = rw k.text_is (put_at_copy from xs d i 0 fits.room h);
-      }
-
-  pub copied : length xs ≤ i → Written xs d from d' (from + i)
-  copied h = record { end_is = omega (arith, k.inside); text_is = k.text_is ∙ ap (λ (l : List ℕ). put_at from l d) (take_all i xs h) }
 
 -- A text that was written, from what stands before its end and after it.
 pub written_by : {xs d d' : List ℕ} {from end : ℕ} → from ≤ length d → end ≤ length d' → take end d' ≡ take from d ++ xs
@@ -75,15 +53,6 @@ written_as e w = rw e at w
 pub fits_as : {xs ys d : List ℕ} {from : ℕ} → xs ≡ ys → Fits ys d from → Fits xs d from
 fits_as e h = rw e h
 
--- The first of two texts fits if both do, and the second once the first is written.
-pub fits_first : (xs ys : List ℕ) {d : List ℕ} {from : ℕ} → Fits (xs ++ ys) d from → Fits xs d from
-fits_first xs ys h = record { room = omega (arith, length-append xs ys) }
-
+-- The second of two texts fits once the first is written.
 pub fits_next : {xs ys d d' : List ℕ} {from at : ℕ} → Fits (xs ++ ys) d from → length d' ≡ length d → Written xs d from d' at → Fits ys d' at
 fits_next {xs} {ys} h l w = record { room = omega (arith, length-append xs ys, w.end_is) }
-
--- Both facts that lending what was written to the front asks.
-pub front_counts : {xs d d' : List ℕ} {end : ℕ} → Written xs d 0 d' end → IsPrefixLen end d'
-front_counts {xs} {d} {d'} {end} w =
-    let e : end ≤ length d' = omega (arith, w.end_is, ap (λ (l : List ℕ). length l) w.text_is, length-append xs (drop (length xs) d)) in
-    (e, sym (length-take-le end d' e))

@@ -1,7 +1,7 @@
 -- The paper, 'Tables and the program': what is printed, as a list of bytes. Each line ends in byte 10.
 use Rattle.std.specs.Prelude.{ℕ, zero, suc, ◌/◌, cond, List, [], ◌∷◌, ◌++◌, ltb, length}
 use Rattle.io.specs.Digits.{last_digits}
-use Rattle.intervals.specs.Interval.{Interval}
+use Rattle.intervals.specs.declared.Interval.{Interval}
 use Rattle.report.specs.Ascii.{ascii}
 
 -- How many decimal digits n has, at most m + 1.

@@ -4,11 +4,14 @@
 
 ghost use Rattle.std.specs.Prelude.{ℕ, ◌≤◌, List, ◌++◌, length};
 ghost use Rattle.io.specs.Counts.{IsPrefixLen};
-ghost use Rattle.intervals.specs.Interval.{interval, list_of};
+ghost use Rattle.intervals.specs.Interval.{interval};
 ghost use Rattle.report.specs.Text.{decimal, line, lines, numbered, count_line, report, refusal_line, size_line};
 ghost use Rattle.report.specs.Written.{Written};
 ghost use Rattle.report.specs.Terms.Fits.{Fits};
 ghost use Rattle.report.specs.Terms.Held.{fitting, Held};
+
+use intervals::Interval;
+use std::io::Error;
 
 // Joins a block of bytes to those read before it: its letters, as many as there is room for, follow the `count` that the buffer
 // holds. Answers how many it holds then.
@@ -20,10 +23,8 @@ pub fn keep_letters(block: &[u8], letters: &mut [u8], count: usize) -> usize
     ensures prefix_len { IsPrefixLen result letters.new }
 {
     let mut at = count;
-    let mut i = 0;
-    while i < block.len() {
-        let byte = block[i];
-        i += 1;
+    for byte in block {
+        let byte = *byte;
         if byte == 10 {
             continue;
         }
@@ -42,12 +43,9 @@ pub fn write_bytes(bytes: &[u8], text: &mut [u8], from: usize) -> usize
     requires { Fits bytes.now text.old from }
     ensures { Written bytes.now text.old from text.new result }
 {
-    let mut i = 0;
-    while i < bytes.len() {
-        text[from + i] = bytes[i];
-        i += 1;
-    }
-    from + i
+    let end = from + bytes.len();
+    text[from..end].copy_from_slice(bytes);
+    end
 }
 
 pub fn write_decimal(n: u64, text: &mut [u8], from: usize) -> usize
@@ -79,15 +77,13 @@ pub fn write_line(start: u32, end: u32, text: &mut [u8], from: usize) -> usize
 }
 
 // A line for each interval of the list.
-pub fn write_lines(list: &[[u32; 2]], text: &mut [u8], from: usize) -> usize
-    requires { Fits (lines (list_of list.now)) text.old from }
-    ensures { Written (lines (list_of list.now)) text.old from text.new result }
+pub fn write_lines(list: &[Interval], text: &mut [u8], from: usize) -> usize
+    requires { Fits (lines list.now) text.old from }
+    ensures { Written (lines list.now) text.old from text.new result }
 {
     let mut at = from;
-    let mut i = 0;
-    while i < list.len() {
-        at = write_line(list[i][0], list[i][1], text, at);
-        i += 1;
+    for interval in list {
+        at = write_line(interval.start, interval.end, text, at);
     }
     at
 }
@@ -100,9 +96,9 @@ pub fn write_count(count: usize, text: &mut [u8], from: usize) -> usize
 }
 
 // The report of an accepted request: the lines of the list, and its count.
-pub fn write_report(list: &[[u32; 2]], text: &mut [u8], from: usize) -> usize
-    requires { Fits (report (list_of list.now)) text.old from }
-    ensures { Written (report (list_of list.now)) text.old from text.new result }
+pub fn write_report(list: &[Interval], text: &mut [u8], from: usize) -> usize
+    requires { Fits (report list.now) text.old from }
+    ensures { Written (report list.now) text.old from text.new result }
 {
     let at = write_lines(list, text, from);
     write_count(list.len(), text, at)
@@ -122,4 +118,19 @@ pub fn write_size_refusal(text: &mut [u8], from: usize) -> usize
     ensures { Written size_line text.old from text.new result }
 {
     write_bytes(b"refused size\n", text, from)
+}
+
+// Writes a line to standard error: what failed, a colon, and the error's text without its number.
+pub fn say(rt: &HostRuntime, what: &str, error: Error) {
+    match format!(in rt.alloc(); "{error}") {
+        Ok(mut text) => {
+            if let Some(at) = text.find(" (os error ") {
+                text.truncate(at);
+            }
+            let _ = eprintln!(rt; "{what}: {text}");
+        }
+        Err(_) => {
+            let _ = eprintln!(rt; "{what}: {error}");
+        }
+    }
 }

@@ -2,7 +2,6 @@
 use mathlib.Core.Path.{◌≡◌, refl, sym, ap, ap₂, ◌∙◌, subst}
 use mathlib.Core.Bool.{Bool, true, false, cond, not, ◌&&◌, ◌||◌, true≢false}
 use mathlib.Core.List.{List, [], ◌∷◌, ◌++◌}
-use mathlib.Core.Logic.{◌⊎◌}
 use Prim.Native.Nat.{ℕ, zero, suc, ◌+◌, ◌-◌, ◌/◌, ◌%◌, ◌^◌, ◌<◌, ◌≤◌}
 use native.Mathlib.Omega.{arith}
 use lib.ListN.{length, get_or, take, drop, replicate, length-drop}
@@ -18,24 +17,21 @@ use Rattle.letters.proofs.Entries.{decode_plain, decoded_length, decoded_at}
 use Rattle.scans.specs.declared.Params.{Params}
 use Rattle.scans.specs.declared.backward.BackwardState.{BackwardState}
 use Rattle.scans.specs.Setup.{Setup, f_at, kmers}
-use Rattle.scans.specs.Terms.Numbers.{setup_of}
 use Rattle.scans.specs.Counts.{hit, count, raise}
 use Rattle.scans.specs.Terms.Counted.{Counted}
 use Rattle.scans.specs.Scans.{value, second_value, Candidate, candidate, BackwardSums, backward_start, is_noted, noted, is_dropped, backward_judged, Backward, backward_from}
 use Rattle.scans.specs.Terms.Window.{window, counted_value, Windowed}
+use Rattle.scans.specs.Terms.Run.{as_setup, entries_of, WindowCounted, PartTo}
+use Rattle.scans.specs.declared.run.Setup.{Setup as RunSetup}
+use Rattle.scans.specs.declared.run.Ring.{Ring}
 use Rattle.scans.specs.Terms.Parts.{backward_of, left_value, AddsEntry, with_best_at, with_previous, rests_at, Fresh, pauses, too_low, Rest, rest_of, sums_with, raised_at, fallen_to, rest_over, rest_from, rest_after, Coded, Room, PartBefore, NoneBest, Backs, GoesOver, GoesOn}
 use Rattle.scans.proofs.Counting.{hit_self, count_snoc, count_append, count_le, raise_counted, raise_hit, raise_length, cleared_counted}
 use Rattle.scans.proofs.Values.{raised_value, decode_below}
-use Rattle.scans.proofs.Parts.{Stands, stands_at, part_length, part_stands, part_coded, decoded_drop, newest_stands}
+use Rattle.scans.proofs.Parts.{Stands, stands_at, decoded_drop, newest_stands}
 use Rattle.scans.proofs.Windows.{long}
 use Rattle.scans.proofs.Walk.{windowed_queued, queued_below}
 
 -- ---- The tests in the code's order.
-pub and_nothing : (b c : Bool) → b && (c && false) ≡ false
-and_nothing true true = refl
-and_nothing true false = refl
-and_nothing false c = refl
-
 -- A score not below the best is not below the score before, which is not above the best.
 no_fall : (best sl previous : Float) → lt best previous ≡ false → le best sl ≡ true → lt sl previous ≡ false
 no_fall best sl previous p h = go (lt sl previous) refl
@@ -485,7 +481,7 @@ backs_start q len m a counts l fresh clear =
       from_zero = λ _. ap (λ (z : BackwardSums). z.best) fresh.sums_are;
     }
 
--- ---- The entries before `low` in a straight part of the ring, n numbers from index k on.
+-- ---- The entries before `low` in a straight part of the ring.
 pub count_drop : (x j : ℕ) (q : List Place) → count x (drop j q) ≤ count x q
 count_drop x zero q = omega arith
 count_drop x (suc j) [] = omega arith
@@ -497,37 +493,23 @@ window_counts_are w = record { long = w.counts_long; counted = w.counted }
 pub window_below_lem : {p : Params} {ring : List ℕ} {head len n : ℕ} {window_counts : List ℕ} → Windowed p ring head len window_counts n → Below (4 ^ p.kmer) (window ring head len)
 window_below_lem w = queued_below (windowed_queued w refl)
 
-module _ {p : Params} {ring : List ℕ} {head len : ℕ} {window_counts : List ℕ} (ln f : List Float) (w : Windowed p ring head len window_counts (length ln)) (f_long : p.window_size < length f)
-    (a : BackwardState) (counts : List ℕ) (h : Backs (4 ^ p.kmer) (window ring head len) (rest_of a counts)) (k n : ℕ) (some : 0 < n) (in_ring : k + n ≤ length ring) (in_low : n ≤ a.low)
-    (here : (k ≡ head + (a.low - n)) ⊎ (k + length ring ≡ head + (a.low - n))) where
-  abbrev part : List ℕ
-  part = take n (drop k ring)
-
+module _ (s : RunSetup) (r : Ring) {window_counts : List ℕ} (w : WindowCounted s r window_counts) (a : BackwardState) (counts : List ℕ) (h : Backs (4 ^ s.params.kmer) (entries_of r) (rest_of a counts)) (part : List ℕ) (t : PartTo r a.low part) where
   abbrev q : List Place
-  q = window ring head len
+  q = entries_of r
 
-  h_in : head < length ring
-  h_in = omega (arith, w.ring_is, w.head_in)
+  abbrev n : ℕ
+  n = length part
 
-  l_in : len ≤ length ring
-  l_in = omega (arith, w.ring_is, w.len_in)
-
-  low_in : a.low ≤ len
+  low_in : a.low ≤ r.len
   low_in = omega (arith, h.low_in, long w)
 
-  part_long : length part ≡ n
-  part_long = part_length ring head len k n (a.low - n) h_in l_in in_ring (omega (arith, low_in)) (λ _. here)
+  to_low : a.low - n + length (decoded part) ≡ a.low
+  to_low = omega (arith, decoded_length part, t.inside)
 
   stands : Stands q (decoded part) (a.low - n)
-  stands = part_stands ring head len k n (a.low - n) h_in l_in in_ring (omega (arith, low_in)) (λ _. here)
+  stands = record { inside = omega (arith, to_low, low_in, long w); is = t.stands ∙ ap (λ (z : ℕ). decoded part ++ drop z q) (sym to_low) }
 
-  places_long : length (decoded part) ≡ n
-  places_long = decoded_length part ∙ part_long
-
-  to_low : a.low - n + length (decoded part) ≡ a.low
-  to_low = omega (arith, places_long)
-
-  room : Room len window_counts counts (decoded part)
+  room : Room r.len window_counts counts (decoded part)
   room = record {
     at_most = λ x. omega (arith, w.counted x, count_le x q, long w);
     left = λ x.
@@ -536,33 +518,33 @@ module _ {p : Params} {ring : List ℕ} {head len : ℕ} {window_counts : List �
         omega (arith, h.counted.counted x, count_drop x (a.low - n) q, w.counted x);
   }
 
-  part_before : PartBefore a.low len (length ln) (length f) part window_counts counts
+  part_before : PartBefore a.low r.len (length s.ln.now) (length s.f.now) part window_counts counts
   part_before = record {
-    some = omega (arith, part_long);
-    inside = omega (arith, part_long);
+    some = t.some;
+    inside = t.inside;
     low_in = low_in;
     small = omega (arith, w.len_in, w.small);
     ln_long = omega (arith, w.len_in, w.ln_long);
-    f_long = omega (arith, w.len_in);
-    coded = part_coded ring head len k n (a.low - n) h_in l_in in_ring (omega (arith, low_in)) (λ _. here) (windowed_queued w h.counted.long);
+    f_long = omega (arith, w.len_in, s.f_long);
+    coded = t.coded (windowed_queued w h.counted.long);
     counts_long = omega (arith, w.counts_long, h.counted.long);
     room = room;
   }
 
-  pub part_ready : PartBefore a.low len (length ln) (length f) part window_counts counts × (a.found ≡ 0 → NoneBest (backward_of a))
+  pub part_ready : PartBefore a.low r.len (length s.ln.now) (length s.f.now) part window_counts counts × (a.found ≡ 0 → NoneBest (backward_of a))
   part_ready = (part_before, λ e. record { none = e; is_zero = h.from_zero e; level = h.level })
 
   newer_stands : (u : ℕ) → u < length part → Stands q (decoded (drop u part)) (a.low - length (drop u part))
   newer_stands u l =
-      let e : a.low - n + u ≡ a.low - length (drop u part) = omega (arith, length-drop u part, part_long) in
+      let e : a.low - n + u ≡ a.low - length (drop u part) = omega (arith, length-drop u part, t.inside) in
       rw (decoded_drop u part) (subst (λ (z : ℕ). Stands q (drop u (decoded part)) z) e (newest_stands q (decoded part) (a.low - n) u stands (omega (arith, decoded_length part))))
 
-  pub part_goes_on : (quick : Bool) (b : BackwardState) (counts' : List ℕ) → GoesOver (setup_of p ln f) window_counts quick len part (rest_of a counts) (rest_of b counts')
-      → GoesOn (setup_of p ln f) window_counts quick q (rest_of a counts) (rest_of b counts')
+  pub part_goes_on : (quick : Bool) (b : BackwardState) (counts' : List ℕ) → GoesOver (as_setup s) window_counts quick r.len part (rest_of a counts) (rest_of b counts')
+      → GoesOn (as_setup s) window_counts quick q (rest_of a counts) (rest_of b counts')
   part_goes_on quick b counts' g =
       let newer : List ℕ = drop g.unread part in
       let same : length newer ≡ length (decoded newer) = sym (decoded_length newer) in
       let long_is : length newer ≡ length part - g.unread = length-drop g.unread part in
-      goes_on (setup_of p ln f) window_counts quick q (window_below_lem w) (decoded newer) (a.low - length newer) (newer_stands g.unread g.some) (rest_of a counts) (rest_of b counts')
-      (omega (arith, part_long)) (omega (arith, g.some)) h
-      (g.scanned ∙ ap₂ (λ (x y : ℕ). rest_over (setup_of p ln f) window_counts quick x (decoded newer) (a.low - length newer) y (backward_of a) counts) (sym (long w)) same)
+      goes_on (as_setup s) window_counts quick q (window_below_lem w) (decoded newer) (a.low - length newer) (newer_stands g.unread g.some) (rest_of a counts) (rest_of b counts')
+      (omega (arith, t.inside)) (omega (arith, g.some)) h
+      (g.scanned ∙ ap₂ (λ (x y : ℕ). rest_over (as_setup s) window_counts quick x (decoded newer) (a.low - length newer) y (backward_of a) counts) (sym (long w)) same)

@@ -48,17 +48,6 @@ pub record Forwarding (S : Setup) (limit : Float) (start from : ℕ) (part : Lis
       → forward_from S limit (decoded part ++ after) (from + 1 - start) from (forward_of a) counts₀ ≡ forward_from S limit (drop i (decoded part) ++ after) (from + i + 1 - start) (from + i) (forward_of b) counts
 
 module _ (S : Setup) (limit : Float) (start from : ℕ) (part : List ℕ) (a : ForwardState) (counts₀ : List ℕ) where
-  pub forwarding_start : a.done ≡ false → UpTo from counts₀ → Forwarding S limit start from part a counts₀ 0 a counts₀
-  forwarding_start g w =
-      let n : from ≡ from + 0 = omega arith in
-      record {
-        inside = omega arith;
-        same = refl;
-        going = g;
-        few = subst (λ (z : ℕ). UpTo z counts₀) n w;
-        rest = λ after. ap (λ (z : ℕ). forward_from S limit (decoded part ++ after) (z + 1 - start) z (forward_of a) counts₀) n;
-      }
-
   module _ (i : ℕ) (b : ForwardState) (counts : List ℕ) (c : Forwarding S limit start from part a counts₀ i b counts) where
     pub forwarding_end : length part ≤ i → ForwardPart S limit start from (decoded part) a b counts₀ counts
     forwarding_end h =

@@ -17,43 +17,28 @@ use Rattle.floats.specs.Binary64.{zero64, number}
 use Rattle.scans.specs.Setup.{max_test_from, max_test}
 
 -- With entries i to w left, the rest of the search answers as the whole of it.
-pub record Testing (ln f : List Float) (w : ℕ) (t s : Float) (i : ℕ) : Type 0 where
-  pub first : 0 < i
-  pub last : i ≤ w + 1
-  pub whole : max_test w t ln f ≡ max_test_from t ln f (w + 1 - i) i s
-
 module _ (ln f : List Float) (w : ℕ) (t : Float) where
-  pub testing_start : Testing ln f w t zero64 1
+  pub testing_start : max_test w t ln f ≡ max_test_from t ln f (w + 1 - 1) 1 zero64
   unfolding max_test
-  testing_start =
-      record {
-        first = omega arith;
-        last = omega arith;
-        whole = ap (λ (m : ℕ). max_test_from t ln f m 1 zero64) (let e : w ≡ w + 1 - 1 = omega arith in e);
-      }
+  testing_start = ap (λ (m : ℕ). max_test_from t ln f m 1 zero64) (let e : w ≡ w + 1 - 1 = omega arith in e)
 
-  module _ (s : Float) (i : ℕ) (c : Testing ln f w t s i) where
-    pub testing_end : w < i → pos 0 ≡ max_test w t ln f
+  module _ (s : Float) (i : ℕ) (whole : max_test w t ln f ≡ max_test_from t ln f (w + 1 - i) i s) where
+    pub testing_end : w + 1 ≤ i → pos 0 ≡ max_test w t ln f
     unfolding max_test_from
     testing_end h =
         let z : w + 1 - i ≡ 0 = omega arith in
-        sym (c.whole ∙ rw z)
+        sym (whole ∙ rw z)
 
-    module _ (h : i ≤ w) where
+    module _ (h : i < w + 1) where
       abbrev s' : Float
       s' = s ⊕ (get_or ln i nan ⊖ t)
 
       more : w + 1 - i ≡ suc (w + 1 - (i + 1))
       more = omega arith
 
-      pub testing_turn : lt zero64 (s' ⊖ get_or f i nan) ≡ false → Testing ln f w t s' (i + 1)
+      pub testing_turn : lt zero64 (s' ⊖ get_or f i nan) ≡ false → max_test w t ln f ≡ max_test_from t ln f (w + 1 - (i + 1)) (i + 1) s'
       unfolding max_test_from
-      testing_turn on =
-          record {
-            first = omega arith;
-            last = omega arith;
-            whole = c.whole ∙ ap (λ (m : ℕ). max_test_from t ln f m i s) more ∙ rw (on, add-one i);
-          }
+      testing_turn on = whole ∙ ap (λ (m : ℕ). max_test_from t ln f m i s) more ∙ rw (on, add-one i)
 
       -- A signed answer r goes through its bits.
       pub testing_found : (r : ℤ) → r ≡ to_signed 31 (number i ⊗ get_or ln i nan ⊘ t) → lt zero64 (s' ⊖ get_or f i nan) ≡ true
@@ -61,4 +46,6 @@ module _ (ln f : List Float) (w : ℕ) (t : Float) where
       unfolding max_test_from
       testing_found r e over =
           to_z-of_z (subst (SFits w32) (sym e) (record { sfits = to_signed_in 31 (number i ⊗ get_or ln i nan ⊘ t) })) ∙ e
-          ∙ sym (c.whole ∙ ap (λ (m : ℕ). max_test_from t ln f m i s) more ∙ rw over)
+          ∙ sym (whole ∙ ap (λ (m : ℕ). max_test_from t ln f m i s) more ∙ rw over)
+
+pub ruleset of_testing = (testing_start, testing_turn, testing_found, testing_end)

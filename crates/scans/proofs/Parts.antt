@@ -14,7 +14,9 @@ use Rattle.letters.specs.Terms.Entry.{decode, decoded}
 use Rattle.letters.proofs.Entries.{decoded_length, decoded_at}
 use Rattle.scans.specs.Terms.Window.{queue, ring_end, At, window}
 use Rattle.scans.specs.Terms.Parts.{Queued, Coded}
-use Rattle.scans.proofs.Ring.{queue_length, queue_at, window_length}
+use Rattle.scans.specs.Terms.Run.{entries_of, InParts, PartTo}
+use Rattle.scans.specs.declared.run.Ring.{Ring}
+use Rattle.scans.proofs.Rings.{queue_length, queue_at, window_length}
 
 -- The places es stand in the window q from index `at` on.
 pub record Stands (q es : List Place) (at : ℕ) : Type 0 where
@@ -198,3 +200,25 @@ module _ {ring : List ℕ} {head len from to a b : ℕ} (s : Split ring head len
       let n : from + length (decoded older) ≡ from + (b - a) = ap (λ (z : ℕ). from + z) (decoded_length older ∙ older_length) in
       let m : from + (b - a) + length (decoded newer) ≡ to = ap (λ (z : ℕ). from + (b - a) + z) (decoded_length newer ∙ newer_length) ∙ rest_ordered.2 in
       older_stands.is ∙ ap (λ (z : ℕ). decoded older ++ drop z q) n ∙ ap (λ (z : List Place). decoded older ++ z) (newer_stands.is ∙ ap (λ (z : ℕ). decoded newer ++ drop z q) m)
+
+pub in_parts : (r : Ring) (from to a b : ℕ) → from ≤ to → to ≤ r.len → a ≡ ring_end (length r.queue.now) r.head from → b ≡ ring_end (length r.queue.now) r.head to
+    → InParts r from to (take (b - a) (drop a r.queue.now)) (take (r.head + to - b - (r.head + from - a)) (drop (r.head + from - a) r.queue.now))
+in_parts r from to a b up in_len a_is b_is =
+    let s : Split r.queue.now r.head r.len from to a b = record { head_in = r.head_in; len_in = r.len_in; up = up; in_len = in_len; a_is = a_is; b_is = b_is } in
+    record { both = both_parts s; long = omega (arith, older_length s, newer_length s, ordered s); older_coded = older_coded s; newer_coded = newer_coded s }
+
+-- The n entries before `low` stand from index k on.
+pub part_to : (r : Ring) (low k n : ℕ) → 0 < n → n ≤ low → low ≤ r.len → k + n ≤ length r.queue.now → (k ≡ r.head + (low - n)) ⊎ (k + length r.queue.now ≡ r.head + (low - n)) → PartTo r low (take n (drop k r.queue.now))
+part_to r low k n some inside in_len in_ring here =
+    let ring : List ℕ = r.queue.now in
+    let to : low - n + n ≤ r.len = omega arith in
+    let long : length (take n (drop k ring)) ≡ n = part_length ring r.head r.len k n (low - n) r.head_in r.len_in in_ring to (λ _. here) in
+    let s : Stands (entries_of r) (decoded (take n (drop k ring))) (low - n) = part_stands ring r.head r.len k n (low - n) r.head_in r.len_in in_ring to (λ _. here) in
+    let end : low - n + length (decoded (take n (drop k ring))) ≡ low = omega (arith, decoded_length (take n (drop k ring)), long) in
+    let from : low - length (take n (drop k ring)) ≡ low - n = omega (arith, long) in
+    record {
+      some = omega (arith, long);
+      inside = omega (arith, long);
+      stands = ap (λ (z : ℕ). drop z (entries_of r)) from ∙ s.is ∙ ap (λ (z : ℕ). decoded (take n (drop k ring)) ++ drop z (entries_of r)) end;
+      coded = part_coded ring r.head r.len k n (low - n) r.head_in r.len_in in_ring to (λ _. here);
+    }

@@ -1,11 +1,11 @@
 -- What a queue entry is worth by its bits and its count: the tests of the code against the definitions' values.
-use mathlib.Core.Path.{◌≡◌, refl, ap}
+use mathlib.Core.Path.{◌≡◌, refl, sym, ap, ◌∙◌}
 use mathlib.Core.Bool.{Bool, true, false, cond}
 use mathlib.Core.List.{List, [], ◌∷◌}
-use Prim.Native.Nat.{ℕ, suc, ◌+◌, ◌-◌, ◌/◌, ◌%◌, ◌<◌}
+use Prim.Native.Nat.{ℕ, suc, ◌+◌, ◌-◌, ◌/◌, ◌%◌, ◌<◌, ◌≤◌}
 use native.Mathlib.Omega.{arith}
 use lib.ListN.{length, get_or, set}
-use lib.Seq.{get_or-set_same}
+use lib.Seq.{get_or-set_same, set-get_or}
 use lib.Dec.{eqb}
 use lib.Bits.{bit_and, and_mask}
 use lib.Ieee.{Float, nan}
@@ -16,7 +16,7 @@ use Rattle.letters.specs.Terms.Entry.{decode, decoded}
 use Rattle.letters.proofs.Entries.{decode_plain, decode_ambiguous}
 use Rattle.scans.specs.declared.backward.BackwardState.{BackwardState}
 use Rattle.scans.specs.Setup.{Setup}
-use Rattle.scans.specs.Counts.{count, raise}
+use Rattle.scans.specs.Counts.{count, raise, lower}
 use Rattle.scans.specs.Scans.{window_value, value}
 use Rattle.scans.specs.Terms.Window.{counted_value}
 use Rattle.scans.specs.Terms.Parts.{with_sums, AddsEntry}
@@ -71,3 +71,14 @@ module _ (t : Float) (window_counts : List ℕ) (ln : List Float) (e : ℕ) (a :
   adds_plain h l =
       let same : get_or (set counts (e / 2) c) (e / 2) 0 ≡ c = get_or-set_same counts (e / 2) c 0 l in
       rw (even_plain e h) (record { counts_are = refl; sums_are = rw same })
+
+-- A count of 0 stays.
+lower_none : (counts : List ℕ) (x : ℕ) → get_or counts x 0 ≡ 0 → counts ≡ lower counts (plain x)
+lower_none counts x e =
+    let z : get_or counts x 0 - 1 ≡ get_or counts x 0 = omega arith in
+    sym (ap (λ (n : ℕ). set counts x n) z ∙ set-get_or counts x 0)
+
+pub lowered_none : (counts : List ℕ) (e : ℕ) → bit_and e 1 ≡ 0 → get_or counts (e / 2) 0 ≤ 0 → counts ≡ lower counts (decode e)
+lowered_none counts e h l = rw (even_plain e h) (lower_none counts (e / 2) (omega arith))
+
+pub ruleset of_entry = (even_plain, odd_ambiguous, lowered_none)

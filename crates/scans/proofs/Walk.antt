@@ -1,11 +1,11 @@
 -- The entries of a part walked a turn at a time, each taking its part in the scan counts away: to clear them, or to take older entries out.
-use mathlib.Core.Path.{◌≡◌, refl, sym, ap, ◌∙◌, subst}
+use mathlib.Core.Path.{◌≡◌, refl, ap, ◌∙◌, subst}
 use mathlib.Core.List.{List, [], ◌∷◌, ◌++◌}
 use Prim.Native.Nat.{ℕ, ◌+◌, ◌-◌, ◌/◌, ◌^◌, ◌<◌, ◌≤◌}
 use native.Mathlib.Numerals.{add-one}
 use native.Mathlib.Omega.{arith}
 use lib.ListN.{length, get_or, set, drop, replicate, length-set, drop_of_length-le}
-use lib.Seq.{drop-cons, set-get_or}
+use lib.Seq.{drop-cons}
 use Rattle.letters.specs.Place.{Place, ambiguous, plain, Below}
 use Rattle.letters.specs.Terms.Entry.{decode, decoded}
 use Rattle.letters.proofs.Entries.{decoded_length, decoded_at}
@@ -14,7 +14,7 @@ use Rattle.scans.specs.Counts.{lower}
 use Rattle.scans.specs.Terms.Counted.{Counted, Touched}
 use Rattle.scans.specs.Terms.Window.{queue, window, Windowed}
 use Rattle.scans.specs.Terms.Parts.{Queued, Ringed, Coded, Walked}
-use Rattle.scans.proofs.Ring.{queue_length, window_length}
+use Rattle.scans.proofs.Rings.{queue_length, window_length}
 use Rattle.scans.proofs.Values.{decode_below, decoded_below}
 use Rattle.scans.proofs.Counting.{lower_counted}
 use Rattle.scans.proofs.Touched.{touched_clear, touched_none}
@@ -32,17 +32,11 @@ pub rest_none : (part : List ℕ) (i : ℕ) → length part ≤ i → drop i (de
 rest_none part i h = drop_of_length-le (decoded part) {i = i} (omega (arith, decoded_length part))
 
 module _ (P : List ℕ → List Place → Type 0) (part counts₀ : List ℕ) where
-  pub walking_start : Walking P part counts₀ 0 counts₀
-  walking_start = record { inside = omega arith; same = refl; left = λ after t. t }
-
   module _ (i : ℕ) (counts : List ℕ) (c : Walking P part counts₀ i counts) where
     pub walking_end : length part ≤ i → Walked P (decoded part) counts₀ counts
     walking_end h = record { left = λ after t. subst (λ (z : List Place). P counts (z ++ after)) (rest_none part i h) (c.left after t) }
 
     module _ (r : Coded part (length counts₀)) (h : i < length part) where
-      pub walking_below : get_or part i 0 / 2 < length counts
-      walking_below = omega (arith, r.below i h, c.same)
-
       walking_turn : (counts' : List ℕ) → length counts' ≡ length counts → ((es : List Place) → P counts (decode (get_or part i 0) ∷ es) → P counts' es) → Walking P part counts₀ (i + 1) counts'
       walking_turn counts' same step =
           record {
@@ -87,11 +81,6 @@ pub ringed_as : {ring : List ℕ} {head len n m k : ℕ} (k' : ℕ) → k' ≡ k
 ringed_as k' e r = record { queued = queued_as k' e r.queued; ln_long = r.ln_long; f_long = r.f_long }
 
 -- ---- A count falls.
-pub lower_none : (counts : List ℕ) (x : ℕ) → get_or counts x 0 ≡ 0 → counts ≡ lower counts (plain x)
-lower_none counts x e =
-    let z : get_or counts x 0 - 1 ≡ get_or counts x 0 = omega arith in
-    sym (ap (λ (n : ℕ). set counts x n) z ∙ set-get_or counts x 0)
-
 lower_length : (counts : List ℕ) (e : Place) → length (lower counts e) ≡ length counts
 lower_length counts ambiguous = refl
 lower_length counts (plain x) = length-set counts x (get_or counts x 0 - 1)

@@ -9,7 +9,7 @@ use Rattle.letters.specs.Terms.Entry.{decode}
 use Rattle.scans.specs.declared.Params.{Params}
 use Rattle.scans.specs.Terms.Window.{At, queue, window, Windowed}
 use Rattle.scans.proofs.Counting.{count_le}
-use Rattle.scans.proofs.Ring.{queue_at, window_at, window_length}
+use Rattle.scans.proofs.Rings.{queue_at, window_at, window_length}
 
 module _ {p : Params} {ring : List ℕ} {head len : ℕ} {counts : List ℕ} {n : ℕ} (w : Windowed p ring head len counts n) where
   abbrev q : List Place

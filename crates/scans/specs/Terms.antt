@@ -4,3 +4,4 @@ pub mod Units
 pub mod Shape
 pub mod Window
 pub mod Parts
+pub mod Run

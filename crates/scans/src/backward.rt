@@ -2,18 +2,18 @@
 
 ghost use Rattle.std.specs.Prelude.{◌≡◌, ◌||◌, ◌+◌, ◌-◌, ◌/◌, ◌%◌, ◌^◌, ◌<◌, ◌≤◌, length, get_or, eqb};
 ghost use Rattle.letters.specs.Terms.Entry.{decode, decoded};
-ghost use Rattle.scans.specs.Terms.Numbers.{setup_of};
 ghost use Rattle.scans.specs.Scans.{is_noted};
-ghost use Rattle.scans.specs.Terms.Window.{window, Windowed};
 ghost use Rattle.scans.specs.Terms.Parts.{backward_of, AddsEntry, with_best_at, with_previous, rests_at, Fresh, pauses, too_low, goes_on_of, rest_of, rest_over, PartBefore, NoneBest, Backs, GoesOver, GoesOn};
+ghost use Rattle.scans.specs.Terms.Run.{as_setup, entries_of, WindowCounted};
 
-use crate::Params;
+use crate::{Ring, Setup};
 
 // A score less than this below the best is a near tie.
 const TINY: f64 = 1e-9;
 
 // The two sums of a backward scan, the score before and the best score, one past the index that had the best (0: none),
 // and where it rests: the oldest entry read, whether it paused there, and whether it has stopped.
+// Numbers and flags, no Option and no enum: the state is made anew at each entry, and so stays in registers.
 #[derive(Clone, Copy)]
 pub struct BackwardState {
     pub s: f64,
@@ -159,36 +159,31 @@ impl BackwardState {
 
 // A backward scan goes on over a straight part of the ring, the newest entry first, until it pauses or stops.
 // The part's entries are those before `state.low`.
+#[inline(never)]
 fn backward_part(
-    p: Params,
+    setup: &Setup,
     quick: bool,
     state: BackwardState,
     part: &[u32],
     len: usize,
     window_counts: &[u16],
-    ln: &[f64],
-    f: &[f64],
     scan_counts: &mut [u16],
 ) -> BackwardState
-    requires { PartBefore state.low len (length ln.now) (length f.now) part.now window_counts.now scan_counts.old }
+    requires { PartBefore state.low len (length setup.now.ln.now) (length setup.now.f.now) part.now window_counts.now scan_counts.old }
     ensures { rest_of result scan_counts.new
-        ≡ rest_over (setup_of p ln.now f.now) window_counts.now quick
+        ≡ rest_over (as_setup setup.now) window_counts.now quick
         len (decoded part.now) (state.low - length part.now) (length part.now)
         (backward_of state) scan_counts.old }
 {
-    let mut st = state;
+    let p = setup.params;
+    let ln = setup.ln;
+    let f = setup.f;
     let from = state.low - part.len();
-    let mut at = state.low;
-    while from < at {
-        at -= 1;
+    let mut st = state;
+    for i in (0..part.len()).rev() {
+        let at = from + i;
         let fl = f[len - at];
-        st = st.add_entry(
-            p.score_threshold,
-            part[at - from],
-            window_counts,
-            ln,
-            scan_counts,
-        );
+        st = st.add_entry(p.score_threshold, part[i], window_counts, ln, scan_counts);
         if st.sw - fl < 0.0 {
             return st.resting(at, false, true);
         }
@@ -210,35 +205,31 @@ fn backward_part(
 }
 
 // The same while no place is best: nothing is noted, nothing is too low, and the scan rests at its first best place, where the score is 0 or more.
+// A loop of its own, since it runs faster without the tests of a best place.
+#[inline(never)]
 fn backward_low(
-    p: Params,
+    setup: &Setup,
     quick: bool,
     state: BackwardState,
     part: &[u32],
     len: usize,
     window_counts: &[u16],
-    ln: &[f64],
-    f: &[f64],
     scan_counts: &mut [u16],
 ) -> BackwardState
-    requires part_before { PartBefore state.low len (length ln.now) (length f.now) part.now window_counts.now scan_counts.old }
+    requires part_before { PartBefore state.low len (length setup.now.ln.now) (length setup.now.f.now) part.now window_counts.now scan_counts.old }
     requires none_best { NoneBest (backward_of state) }
-    ensures { GoesOver (setup_of p ln.now f.now) window_counts.now quick len part.now
+    ensures { GoesOver (as_setup setup.now) window_counts.now quick len part.now
         (rest_of state scan_counts.old) (rest_of result scan_counts.new) }
 {
-    let mut st = state;
+    let p = setup.params;
+    let ln = setup.ln;
+    let f = setup.f;
     let from = state.low - part.len();
-    let mut at = state.low;
-    while from < at {
-        at -= 1;
+    let mut st = state;
+    for i in (0..part.len()).rev() {
+        let at = from + i;
         let fl = f[len - at];
-        st = st.add_entry(
-            p.score_threshold,
-            part[at - from],
-            window_counts,
-            ln,
-            scan_counts,
-        );
+        st = st.add_entry(p.score_threshold, part[i], window_counts, ln, scan_counts);
         if st.sw - fl < 0.0 {
             return st.resting(at, false, true);
         }
@@ -254,93 +245,41 @@ fn backward_low(
     st.resting(from, false, false)
 }
 
-// A backward scan goes on over a straight part of the ring, before its first best place no further than to that place.
-fn backward_over(
-    p: Params,
+// A backward scan goes on over what is left of the ring's newer part, or else of its older part, before its first best place no further than to that place.
+pub fn backward_on(
+    setup: &Setup,
     quick: bool,
     state: BackwardState,
-    part: &[u32],
-    len: usize,
+    ring: &Ring,
     window_counts: &[u16],
-    ln: &[f64],
-    f: &[f64],
     scan_counts: &mut [u16],
 ) -> BackwardState
-    requires part_before { PartBefore state.low len (length ln.now) (length f.now) part.now window_counts.now scan_counts.old }
-    requires none_best { state.found ≡ 0 → NoneBest (backward_of state) }
-    ensures { GoesOver (setup_of p ln.now f.now) window_counts.now quick len part.now
+    requires windowed { WindowCounted setup.now ring.now window_counts.now }
+    requires low_nonzero { 0 < state.low }
+    requires backs { Backs (4 ^ setup.now.params.kmer) (entries_of ring.now) (rest_of state scan_counts.old) }
+    ensures { GoesOn (as_setup setup.now) window_counts.now quick (entries_of ring.now)
         (rest_of state scan_counts.old) (rest_of result scan_counts.new) }
 {
+    let part = ring.before(state.low);
     if state.found == 0 {
-        return backward_low(
-            p,
+        backward_low(
+            setup,
             quick,
             state,
             part,
-            len,
+            ring.len,
             window_counts,
-            ln,
-            f,
             scan_counts,
-        );
-    }
-    backward_part(
-        p,
-        quick,
-        state,
-        part,
-        len,
-        window_counts,
-        ln,
-        f,
-        scan_counts,
-    )
-}
-
-// A backward scan goes on over what is left of the ring's newer part, or else of its older part; it may rest within it.
-pub fn backward_on(
-    p: Params,
-    quick: bool,
-    state: BackwardState,
-    queue: &[u32],
-    head: usize,
-    len: usize,
-    window_counts: &[u16],
-    ln: &[f64],
-    f: &[f64],
-    scan_counts: &mut [u16],
-) -> BackwardState
-    requires windowed { Windowed p queue.now head len window_counts.now (length ln.now) }
-    requires low_nonzero { (0 < state.low) × (p.window_size < length f.now) }
-    requires backs { Backs (4 ^ p.kmer) (window queue.now head len) (rest_of state scan_counts.old) }
-    ensures { GoesOn (setup_of p ln.now f.now) window_counts.now quick
-        (window queue.now head len)
-        (rest_of state scan_counts.old) (rest_of result scan_counts.new) }
-{
-    let to = head + state.low;
-    if queue.len() < to {
-        let past = to - queue.len();
-        return backward_over(
-            p,
+        )
+    } else {
+        backward_part(
+            setup,
             quick,
             state,
-            &queue[..past],
-            len,
+            part,
+            ring.len,
             window_counts,
-            ln,
-            f,
             scan_counts,
-        );
+        )
     }
-    backward_over(
-        p,
-        quick,
-        state,
-        &queue[head..to],
-        len,
-        window_counts,
-        ln,
-        f,
-        scan_counts,
-    )
 }

@@ -1,4 +1,5 @@
 // Window counts and scan counts: an entry is counted, taken out, or read.
+// A function for each: one for all would be told what to add and whether to write, and say less.
 
 ghost use Rattle.std.specs.Prelude.{◌≡◌, ◌+◌, ◌/◌, ◌<◌, List, length, get_or, Float};
 ghost use Rattle.letters.specs.Terms.Entry.{decode};
@@ -24,6 +25,7 @@ pub fn count_entry(counts: &mut [u16], ln: &[f64], entry: u32) -> f64
 }
 
 // The ln entry of the count that an entry would have once it is counted, 0 if ambiguous.
+#[tactic(auto, using(crate::proofs::Values::of_entry))]
 pub fn raised_value(scan_counts: &[u16], ln: &[f64], entry: u32) -> f64
     requires { (entry / 2 < length scan_counts.now) × (get_or scan_counts.now (entry / 2) 0 + 1 < length ln.now) }
     ensures { (p : Params) (f : List Float) → result ≡ value (setup_of p ln.now f) scan_counts.now (decode entry) }
@@ -36,6 +38,7 @@ pub fn raised_value(scan_counts: &[u16], ln: &[f64], entry: u32) -> f64
 }
 
 // The ln entry of an entry's window count, 0 if ambiguous.
+#[tactic(auto, using(crate::proofs::Values::of_entry))]
 pub fn window_value(window_counts: &[u16], ln: &[f64], entry: u32) -> f64
     requires { (entry / 2 < length window_counts.now) × (get_or window_counts.now (entry / 2) 0 < length ln.now) }
     ensures { result ≡ counted_value ln.now window_counts.now (decode entry) }
@@ -48,6 +51,7 @@ pub fn window_value(window_counts: &[u16], ln: &[f64], entry: u32) -> f64
 }
 
 // Takes an entry out of the counts; a count of 0 stays.
+#[tactic(auto, using(crate::proofs::Values::of_entry))]
 pub fn lower_entry(counts: &mut [u16], entry: u32)
     requires { entry / 2 < length counts.old }
     ensures { counts.new ≡ lower counts.old (decode entry) }

@@ -2,19 +2,18 @@
 
 ghost use Rattle.std.specs.Prelude.{◌≡◌, true, false, ◌+◌, ◌^◌, ◌<◌, ◌≤◌, length, replicate};
 ghost use Rattle.letters.specs.Terms.Entry.{decoded};
-ghost use Rattle.scans.specs.Terms.Numbers.{setup_of};
 ghost use Rattle.scans.specs.Scans.{forward_start, forward_judged, dust_forward};
-ghost use Rattle.scans.specs.Terms.Window.{window};
-ghost use Rattle.scans.specs.Terms.Parts.{Ringed, Coded, UpTo, forward_of, ForwardPart, Finds};
+ghost use Rattle.scans.specs.Terms.Parts.{Coded, UpTo, forward_of, ForwardPart, Finds};
+ghost use Rattle.scans.specs.Terms.Run.{as_setup, entries_of, TablesReach};
 
-use crate::Params;
 use crate::counts::count_entry;
-use crate::queue::ring_end;
+use crate::{Ring, Setup};
 
 // A forward scan stops after a score that lies more than this above its candidate's.
 pub const SLACK: f64 = 1e-6;
 
 // The sum of a forward scan, its best score, one past the index that had it (0: none), and whether the scan has stopped.
+// Numbers and a flag, no Option: the state is made anew at each entry, and so stays in registers.
 #[derive(Clone, Copy)]
 pub struct ForwardState {
     pub s: f64,
@@ -58,83 +57,69 @@ impl ForwardState {
 
 // A forward scan that began at entry `start` goes on over a straight part of the ring, whose first entry is `from`.
 fn forward_part(
-    p: Params,
+    setup: &Setup,
     state: ForwardState,
     limit: f64,
     start: usize,
     from: usize,
     part: &[u32],
-    ln: &[f64],
-    f: &[f64],
     scan_counts: &mut [u16],
 ) -> ForwardState
     requires done_value { (state.done ≡ false) × (start ≤ from) × (from + length part.now ≤ 65535)
-        × (from + length part.now < length ln.now) × (from + length part.now < length f.now) }
+        × (from + length part.now < length setup.now.ln.now) × (from + length part.now < length setup.now.f.now) }
     requires coded { Coded part.now (length scan_counts.old) × UpTo from scan_counts.old }
-    ensures { ForwardPart (setup_of p ln.now f.now) limit start from (decoded part.now) state result
+    ensures { ForwardPart (as_setup setup.now) limit start from (decoded part.now) state result
         scan_counts.old scan_counts.new }
 {
+    let p = setup.params;
     let mut st = state;
-    let mut i = 0;
-    while i < part.len() {
+    for (i, entry) in part.iter().enumerate() {
         let at = from + i;
-        let v = count_entry(scan_counts, ln, part[i]);
+        let v = count_entry(scan_counts, setup.ln, *entry);
         let s = st.s + (v - p.score_threshold);
-        let sl = s - f[at + 1 - start];
+        let sl = s - setup.f[at + 1 - start];
         st = st.judged(s, sl, at);
         if sl > limit {
             return st.stopped();
         }
-        i += 1;
     }
     st
 }
 
 // The forward scan from entry `start` on, from cleared counts; it stops after a score above its candidate's, `max_back`, plus 1e-6.
 pub fn dust_forward(
-    p: Params,
+    setup: &Setup,
     start: usize,
     max_back: f64,
-    queue: &[u32],
-    head: usize,
-    len: usize,
-    ln: &[f64],
-    f: &[f64],
+    ring: &Ring,
     scan_counts: &mut [u16],
 ) -> ForwardState
-    requires ringed { Ringed queue.now head len (length ln.now) (length f.now) (length scan_counts.old) }
-    requires scan_counts_value { (scan_counts.old ≡ replicate (4 ^ p.kmer) 0) × (start ≤ len) }
-    ensures { Finds (dust_forward (setup_of p ln.now f.now) (window queue.now head len) start
-        max_back) result scan_counts.new }
+    requires tables_reach { TablesReach setup.now ring.now (length scan_counts.old) }
+    requires scan_counts_value { (scan_counts.old ≡ replicate (4 ^ setup.now.params.kmer) 0) × (start ≤ ring.now.len) }
+    ensures { Finds (dust_forward (as_setup setup.now) (entries_of ring.now) start max_back) result
+        scan_counts.new }
 {
     let limit = max_back + SLACK;
-    let a = ring_end(queue.len(), head, start);
-    let b = ring_end(queue.len(), head, len);
+    let parts = ring.parts(start, ring.len);
     let older = forward_part(
-        p,
+        setup,
         ForwardState::new(),
         limit,
         start,
         start,
-        &queue[a..b],
-        ln,
-        f,
+        parts.older,
         scan_counts,
     );
     if older.done {
         return older;
     }
-    let c = head + start - a;
-    let d = head + len - b;
     forward_part(
-        p,
+        setup,
         older,
         limit,
         start,
-        start + (b - a),
-        &queue[c..d],
-        ln,
-        f,
+        start + parts.older.len(),
+        parts.newer,
         scan_counts,
     )
 }

@@ -1,35 +1,29 @@
 // The extension and the back check of a letter.
 
-ghost use Rattle.std.specs.Prelude.{◌≡◌, List, ◌<◌, ◌≤◌, length, Float};
-ghost use Rattle.scans.specs.Terms.Numbers.{setup_of};
+ghost use Rattle.std.specs.Prelude.{◌≡◌, ◌<◌, ◌≤◌, length};
 ghost use Rattle.scans.specs.Scans.{if_backward};
-ghost use Rattle.scans.specs.Terms.Window.{window, Windowed, Extends};
+ghost use Rattle.scans.specs.Terms.Window.{Extends};
+ghost use Rattle.scans.specs.Terms.Run.{as_setup, entries_of, WindowCounted};
 
-use crate::Params;
 use crate::counts::window_value;
-use crate::queue::ring_index;
+use crate::{Ring, Setup};
 
 // Whether the newest of `len` entries, a plain k-mer, extends the find without a scan; then its scan count is raised.
-pub fn extend(
-    p: Params,
-    len: usize,
-    kmer: u32,
-    ln: &[f64],
-    f: &[f64],
-    scan_counts: &mut [u16],
-) -> bool
-    requires { (0 < len) × (len ≤ p.window_size) × (p.window_size ≤ 65535) × (p.window_size < length ln.now)
-        × (p.window_size < length f.now) × (kmer < length scan_counts.old) }
-    ensures { Extends (setup_of p ln.now f.now) scan_counts.old len kmer result
-        scan_counts.new }
+#[tactic(auto, unfolding(crate::specs::Scans::extends))]
+pub fn extend(setup: &Setup, len: usize, kmer: u32, scan_counts: &mut [u16]) -> bool
+    requires { (0 < len) × (len ≤ setup.now.params.window_size) × (setup.now.params.window_size ≤ 65535)
+        × (kmer < length scan_counts.old) }
+    ensures { Extends (as_setup setup.now) scan_counts.old len kmer result scan_counts.new }
 {
+    let p = setup.params;
+    let f = setup.f;
     let x = kmer as usize;
     let c = scan_counts[x];
     let n = (c as usize) + 1;
     if n > p.window_size {
         return false;
     }
-    if ln[n] - (f[len] - f[len - 1]) < p.score_threshold {
+    if setup.ln[n] - (f[len] - f[len - 1]) < p.score_threshold {
         return false;
     }
     scan_counts[x] = c + 1;
@@ -37,25 +31,16 @@ pub fn extend(
 }
 
 // The back check: whether a backward scan from the newest entry is worth its work.
-pub fn if_backward(
-    p: Params,
-    queue: &[u32],
-    head: usize,
-    len: usize,
-    window_counts: &[u16],
-    ln: &[f64],
-) -> bool
-    requires { Windowed p queue.now head len window_counts.now (length ln.now) }
-    ensures { (f : List Float) → result ≡ if_backward (setup_of p ln.now f) (window queue.now head len) }
+#[tactic(auto, using(crate::proofs::BackCheck::of_checking))]
+pub fn if_backward(setup: &Setup, ring: &Ring, window_counts: &[u16]) -> bool
+    requires { WindowCounted setup.now ring.now window_counts.now }
+    ensures { result ≡ if_backward (as_setup setup.now) (entries_of ring.now) }
 {
+    let p = setup.params;
+    let steps = p.max_steps(ring.len);
     let mut s = 0.0;
-    let mut left = p.max_steps(len);
-    let mut i = len;
-    while 0 < left {
-        left -= 1;
-        i -= 1;
-        let at = ring_index(queue.len(), head, i);
-        let v = window_value(window_counts, ln, queue[at]);
+    for i in (ring.len - steps..ring.len).rev() {
+        let v = window_value(window_counts, setup.ln, ring.queue[ring.index(i)]);
         s = s + (v - p.score_threshold);
         if s < 0.0 {
             return false;

@@ -7,7 +7,7 @@
 // | `if_backward` | letter: `if_backward`, with `window_value` of counts and `Params::max_steps` of limits |
 // | `dust_forward` | forward: `dust_forward`, a `forward_part` for each straight part of the ring |
 // | `dust_backward`, its xdrop | limits: `drop_limit` |
-// | `dust_backward`, its clearing of the scan counts | queue: `clear_from`, where a scan touched them |
+// | `dust_backward`, its clearing of the scan counts | queue: `Ring::clear_from`, where a scan touched them |
 // | `dust_backward`, its first loop | backward: `backward_on`, from peak to peak, a part of the ring at a time, `backward_low` before the first best place, `backward_part` after it |
 //
 // What `dust_backward` does with them stands in crate `search`.
@@ -20,13 +20,15 @@ mod forward;
 mod letter;
 mod limits;
 mod queue;
+mod run;
 
 pub use backward::{BackwardState, backward_on};
 pub use counts::{count_entry, lower_entry, raised_value, window_value};
 pub use forward::{ForwardState, SLACK, dust_forward};
 pub use letter::{extend, if_backward};
 pub use limits::{drop_limit, is_usual, max_test};
-pub use queue::{clear_from, newest_entry, ring_index, uncount};
+pub use queue::ring_index;
+pub use run::{Ring, Setup};
 
 // The backward scan stops where its score lies more than this many thresholds below the best; `Off`: as many as the window has places.
 #[derive(Clone, Copy)]

@@ -8,6 +8,7 @@ ghost use Rattle.scans.specs.Terms.Shape.{usual_to};
 use crate::{Params, Xdrop};
 
 // How far below the best a backward scan's score may lie: xdrop, or the window, times the threshold.
+#[tactic(auto, unfolding(crate::specs::Setup::drop_limit))]
 pub fn drop_limit(xdrop: Xdrop, window: u32, threshold: f64) -> f64
     ensures { result ≡ drop_limit xdrop window threshold }
 {
@@ -18,33 +19,31 @@ pub fn drop_limit(xdrop: Xdrop, window: u32, threshold: f64) -> f64
 }
 
 // How many entries the back check reads, from the filled tables; 0 where no sum of theirs is above 0.
+#[tactic(auto, using(crate::proofs::MaxTest::of_testing))]
 pub fn max_test(ln: &[f64], f: &[f64], window: u32, threshold: f64) -> i32
     requires { (window ≤ 65535) × (window < length ln.now) × (window < length f.now) }
     ensures { result ≡ max_test window threshold ln.now f.now }
 {
     let mut s = 0.0f64;
-    let mut i: u32 = 1;
-    while i <= window {
+    for i in 1..window + 1 {
         let at = i as usize;
         s = s + (ln[at] - threshold);
         if s - f[at] > 0.0 {
             return floats::to_i32((i as f64) * ln[at] / threshold);
         }
-        i += 1;
     }
     0
 }
 
 // Whether the tables are of the usual shape: neither the ln entries 1..w nor the steps from f entry to f entry fall, the first step being f entry 1.
+#[tactic(auto, using(crate::proofs::UsualTest::of_usual))]
 pub fn is_usual(ln: &[f64], f: &[f64], w: usize) -> bool
     requires { (0 < w) × (w < length ln.now) × (w < length f.now) }
     ensures { result ≡ usual_to ln.now f.now (w - 1) }
 {
     let mut ok = true;
     let mut step = f[1];
-    let mut m = 0;
-    while m + 1 < w {
-        m += 1;
+    for m in 1..w {
         let next = f[m + 1] - f[m];
         ok = ok & ((ln[m] <= ln[m + 1]) & (step <= next));
         step = next;
@@ -60,10 +59,6 @@ impl Params {
         if self.max_test < 0 {
             return len;
         }
-        let steps = self.max_test as usize;
-        if steps < len {
-            return steps;
-        }
-        len
+        (self.max_test as usize).min(len)
     }
 }

@@ -14,7 +14,7 @@ use Rattle.search.specs.declared.candidates.Searched.{Searched}
 use Rattle.scans.specs.Setup.{Setup}
 use Rattle.scans.specs.Counts.{cleared}
 use Rattle.scans.specs.Scans.{none, Outcome, Candidate, no_candidate, backward_start, Backward, backward_from, with_best, try_from, tried, dust_backward}
-use Rattle.scans.specs.Terms.Window.{Windowed, Roomy}
+use Rattle.scans.specs.Terms.Window.{Windowed}
 use Rattle.scans.specs.Terms.Parts.{Ringed}
 use Rattle.search.specs.Terms.Search.{candidates_in, to_try, ScansBackward, HoldsCandidates}
 use Rattle.search.specs.Terms.Carry.{Answers}
@@ -22,9 +22,6 @@ use Rattle.search.proofs.Noting.{AllBelow}
 use Rattle.scans.proofs.Walk.{windowed_queued}
 use Rattle.search.proofs.Slices.{candidates_length, candidates_at}
 use Rattle.search.proofs.Searching.{to_try_fit}
-
-pub roomy_as : {p : Params} {f_length n_counts n : ℕ} (counts' n' : ℕ) → counts' ≡ n_counts → n' ≡ n → Roomy p f_length n_counts n → Roomy p f_length counts' n'
-roomy_as counts' n' ec e r = record { f_long = r.f_long; counts_is = ec ∙ r.counts_is; candidates_long = omega (arith, r.candidates_long) }
 
 pub ringed : {p : Params} {ring : List ℕ} {head len : ℕ} {window_counts : List ℕ} {n m k : ℕ} → k ≡ 4 ^ p.kmer → p.window_size < m → Windowed p ring head len window_counts n → Ringed ring head len n m k
 ringed e l w = record { queued = windowed_queued w e; ln_long = omega (arith, w.ring_is, w.ln_long); f_long = omega (arith, w.ring_is) }

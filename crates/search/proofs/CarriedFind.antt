@@ -16,17 +16,15 @@ use Rattle.letters.specs.Terms.Entry.{decode}
 use Rattle.scans.specs.declared.Params.{Params}
 use Rattle.scans.specs.declared.backward.BackwardState.{BackwardState}
 use Rattle.search.specs.declared.Carry.{Carry}
-use Rattle.search.specs.declared.Scanned.{Scanned}
 use Rattle.scans.specs.Setup.{Setup, f_at, kmers}
 use Rattle.scans.specs.Terms.Numbers.{setup_of}
-use Rattle.scans.specs.Counts.{cleared}
 use Rattle.scans.specs.Terms.Counted.{Counted, Touched}
 use Rattle.scans.specs.Scans.{at, Forward, dust_forward, dust_backward}
-use Rattle.scans.specs.Terms.Window.{ring_index, At, queue, window, counted_value}
+use Rattle.scans.specs.Terms.Window.{window, newest_in, counted_value}
 use Rattle.scans.specs.Terms.Parts.{Ringed, rest_of}
-use Rattle.search.specs.Terms.Carry.{ScansQuick, no_carry, Carried, Answers, carried_ahead, CarriesAhead, FindsQuickly}
+use Rattle.search.specs.Terms.Carry.{ScansQuick, no_carry, Carried, Answers, carried_ahead, CarriesAhead}
 use Rattle.scans.proofs.Counting.{count_le}
-use Rattle.scans.proofs.Ring.{ring_index_at, queue_at, window_length, window_newest}
+use Rattle.scans.proofs.Rings.{window_length, window_newest, newest_at}
 use Rattle.scans.proofs.Touched.{counted_touched, touched_part}
 use Rattle.scans.proofs.Walk.{queued_below}
 use Rattle.search.proofs.CarriedScan.{carried_forward, found_carried, uncertified}
@@ -100,21 +98,14 @@ module _ (p : Params) (ring : List ℕ) (head len : ℕ) (ln f : List Float) (co
   pub low_in : b.low ≤ start
   low_in = omega (arith, found_start, k.here.best_read (omega (arith, found_start)))
 
-  -- The newest entry stands at index i.
-  module _ (i : ℕ) (is : i ≡ ring_index (length ring) head (len - 1)) where
-    abbrev newest : ℕ
-    newest = get_or ring i 0
-
-    pub newest_at : At (length ring) head (len - 1) i
-    newest_at = subst (λ (z : ℕ). At (length ring) head (len - 1) z) (sym is) (ring_index_at (length ring) head (len - 1) r.queued.head_in (omega (arith, r.queued.len_in)))
-
+  module _ (newest : ℕ) (is : newest ≡ newest_in ring head len) where
     pub newest_in_lem : newest / 2 < length counts₀
-    newest_in_lem =
-        let e : get_or (queue ring head len) (len - 1) 0 ≡ newest = queue_at ring head len (len - 1) i r.queued.head_in r.queued.len_in (omega arith) newest_at in
-        subst (λ (z : ℕ). z / 2 < length counts₀) e (r.queued.below (len - 1) (omega arith))
+    newest_in_lem = subst (λ (z : ℕ). z / 2 < length counts₀) (sym is) (r.queued.below (len - 1) (omega arith))
 
     joins : window ring head len ≡ window ring head (len - 1) ++ decode newest ∷ []
-    joins = window_newest ring head len r.queued.head_in some r.queued.len_in ∙ ap (λ (z : ℕ). window ring head (len - 1) ++ decode (get_or ring z 0) ∷ []) (sym is)
+    joins =
+        window_newest ring head len r.queued.head_in some r.queued.len_in
+        ∙ ap (λ (z : ℕ). window ring head (len - 1) ++ decode z ∷ []) (newest_at ring head len _ r.queued.head_in some r.queued.len_in refl ∙ sym is)
 
     -- Entries before `start` were taken out of the counts.
     module _ (counts : List ℕ) (w : Counted (length counts₀) counts (drop start (window ring head len))) where
@@ -137,10 +128,3 @@ module _ (p : Params) (ring : List ℕ) (head len : ℕ) (ln f : List Float) (co
           (subst (λ (z : Carry). CarriesAhead S (q₀ ++ e ∷ []) b z counts) (sym told)
           (ahead_told S q₀ e (subst (λ (z : List Place). Below (4 ^ p.kmer) z) joins below_window) b counts₀ (subst (λ (z : List Place). ScansQuick S z (rest_of b counts₀)) joins k) clear start found_start
           (omega (arith, start_in)) low_in c on carried low counts (subst (λ (z : List Place). Counted (4 ^ p.kmer) counts (drop start z)) joins start_counted) (len - start) (omega (arith, ap length joins, size))))
-
--- ---- The find, or cleared counts.
-pub quickly_found : (S : Setup) (q : List Place) (b : BackwardState) (r : Carry) (counts : List ℕ) → CarriesAhead S q b r counts → r.on ≡ true → FindsQuickly S q (record { found = b.found; carry = r }) counts
-quickly_found S q b r counts k on = record { tells = λ _. k.tells on; clears = λ z. absurd (true≢false (sym on ∙ (k.tells on).ends z)) }
-
-pub quickly_none : (S : Setup) (q : List Place) (r : Scanned) (counts : List ℕ) → (r.found ≡ 0) × (r.carry.on ≡ false) → counts ≡ cleared S → FindsQuickly S q r counts
-quickly_none S q r counts z clear = record { tells = λ n. absurd (n z.0); clears = λ _. clear }

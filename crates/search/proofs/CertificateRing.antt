@@ -2,7 +2,7 @@
 use mathlib.Core.Path.{◌≡◌, refl, sym, ap, ◌∙◌, subst}
 use mathlib.Core.Bool.{Bool, true, false, cond, ◌&&◌}
 use mathlib.Core.List.{List, [], ◌∷◌, ◌++◌}
-use Prim.Native.Nat.{ℕ, ◌+◌, ◌-◌, ◌^◌, ◌/◌, ◌≤◌, ◌<◌}
+use Prim.Native.Nat.{ℕ, ◌+◌, ◌-◌, ◌^◌, ◌/◌, ◌<◌}
 use native.Mathlib.Omega.{arith}
 use lib.ListN.{length, get_or, drop, length-drop}
 use lib.Seq.{drop-append-le}
@@ -23,7 +23,7 @@ use Rattle.scans.specs.Terms.Counted.{Counted}
 use Rattle.scans.specs.Terms.Numbers.{setup_of}
 use Rattle.scans.specs.Terms.Window.{window, newest_in, Windowed, Joining, counted_value, CountsEntry}
 use Rattle.scans.specs.Terms.Units.{distance}
-use Rattle.search.specs.Terms.Certified.{no_certificate, certificate_step, Bounds, Certified, NoneFrom, Since, CertifiesOn}
+use Rattle.search.specs.Terms.Certified.{certificate_step, Bounds, Certified, NoneFrom, Since, CertifiesOn}
 use Rattle.search.specs.Terms.Carry.{Summed, CarriesOn}
 use Rattle.scans.proofs.Counting.{below_left, below_drop}
 use Rattle.scans.proofs.Values.{decode_below}
@@ -32,7 +32,7 @@ use Rattle.scans.proofs.Walk.{windowed_queued, queued_below}
 use Rattle.scans.proofs.Exact.{added}
 use Rattle.search.proofs.CarriedScan.{carried_on, carried_next, carried_step}
 use Rattle.search.proofs.Newest.{before_long, newest_place, none_counted}
-use Rattle.search.proofs.CertificateKept.{none_certified, window_added, kept_still, kept_fresh, kept_repeated}
+use Rattle.search.proofs.CertificateKept.{window_added, kept_still, kept_fresh, kept_repeated}
 
 module _ (p : Params) (ring : List ℕ) (head len : ℕ) (wc : List ℕ) (ln : List Float) (counts : List ℕ) (J : Joining p ring head len wc (length ln) counts) where
   abbrev q : List Place
@@ -40,9 +40,6 @@ module _ (p : Params) (ring : List ℕ) (head len : ℕ) (wc : List ℕ) (ln : L
 
   W : Windowed p ring head len wc (length ln)
   W = J.windowed
-
-  pub newest_asks : (head < length ring) × (0 < len) × (len ≤ length ring) × (length ring ≤ 65535)
-  newest_asks = let w = W in (omega (arith, w.ring_is, w.head_in), J.some, omega (arith, w.ring_is, w.len_in), omega (arith, w.ring_is, w.small))
 
   pub below_window : Below (4 ^ p.kmer) q
   below_window = queued_below (windowed_queued {m = 4 ^ p.kmer} W refl)
@@ -54,9 +51,6 @@ module _ (p : Params) (ring : List ℕ) (head len : ℕ) (wc : List ℕ) (ln : L
     pub raised_asks : (entry / 2 < length counts) × (get_or counts (entry / 2) 0 + 1 < length ln)
     raised_asks = let w = W in (omega (arith, entry_below, J.long), omega (arith, J.few (entry / 2), w.len_in, w.ln_long))
 
-    pub count_asks : (entry / 2 < length counts) × (get_or counts (entry / 2) 0 < 65535) × (get_or counts (entry / 2) 0 + 1 < length ln)
-    count_asks = let w = W in (raised_asks.0, omega (arith, J.few (entry / 2), w.len_in, w.small), raised_asks.1)
-
     pub window_asks : (entry / 2 < length wc) × (get_or wc (entry / 2) 0 < length ln)
     window_asks = (omega (arith, entry_below, W.counts_long), count_in W (entry / 2))
 
@@ -64,7 +58,7 @@ module _ (p : Params) (ring : List ℕ) (head len : ℕ) (wc : List ℕ) (ln : L
     entry_place q₀ e joins = ap decode is ∙ sym (newest_place W J.some q₀ e joins)
 
     -- ---- The carried scan.
-    pub carries_on : (f : List Float) (start : ℕ) → start < len → (c : Carry) (d : Certificate) → ((f : List Float) → CertifiesOn (setup_of p ln f) q c.certificate d counts)
+    pub carries_on : (f : List Float) (start : ℕ) → start < len → (c : Carry) (d : Certificate) → CertifiesOn (setup_of p ln f) q c.certificate d counts
         → (counts' : List ℕ) (v : Float) → CountsEntry ln counts (decode entry) v counts' → (t : Bool) → le c.best (c.s ⊕ (v ⊖ p.score_threshold) ⊖ get_or f (len - start) nan) ≡ t
         → (q₀ : List Place) (e : Place) → q ≡ q₀ ++ e ∷ []
         → CarriesOn (setup_of p ln f) q₀ e start c
@@ -87,15 +81,12 @@ module _ (p : Params) (ring : List ℕ) (head len : ℕ) (wc : List ℕ) (ln : L
             sums =
                 subst (λ (z : List Place). Summed S z r) (sym (drop-append-le start q₀ (e ∷ []) (omega arith)))
                 (subst (λ (z : Carry). Summed S (es ++ e ∷ []) z) (sym step) (carried_next S es e c counts carried.sums (below_drop (kmers S) start q₀ (below_left (kmers S) q₀ (e ∷ []) all)) n d));
-            certified = λ _. subst (λ (z : List Place). Certified S z start d) joins ((certifies f).keeps q₀ e start joins n (carried.certified on));
+            certified = λ _. subst (λ (z : List Place). Certified S z start d) joins (certifies.keeps q₀ e start joins n (carried.certified on));
           };
         }
 
   -- ---- The certificate.
   module _ (c : Certificate) where
-    pub next_none : {r : Certificate} → r ≡ no_certificate → (f : List Float) → CertifiesOn (setup_of p ln f) q c r counts
-    next_none z f = record { keeps = λ q₀ e j joins n k. none_certified (ap (λ (x : Certificate). x.on) z) }
-
     module _ (lasts : (c.on && ltb 0 c.left) && ltb c.near len ≡ true) where
       tests : T ((c.on && ltb 0 c.left) && ltb c.near len)
       tests = subst T (sym lasts) tt
@@ -112,9 +103,6 @@ module _ (p : Params) (ring : List ℕ) (head len : ℕ) (wc : List ℕ) (ln : L
 
       pub step_asks : (0 < c.left) × (c.near < 65535)
       step_asks = let w = W in (ltb→lt 0 c.left (and_r c.on (ltb 0 c.left) (and_l (c.on && ltb 0 c.left) (ltb c.near len) tests)), omega (arith, near_in, w.len_in, w.small))
-
-      pub since_asks : (head < length ring) × (c.near < len) × (len ≤ length ring) × (length ring ≤ 65535)
-      since_asks = let a = newest_asks in (a.0, near_in, a.2, a.3)
 
       module _ (entry : ℕ) (is : entry ≡ newest_in ring head len) (v w : Float) (v_is : (p : Params) (f : List Float) → v ≡ value (setup_of p ln f) counts (decode entry)) (w_is : w ≡ counted_value ln wc (decode entry)) where
         -- A law of `kept-..`, for the window as it was before.

@@ -15,9 +15,9 @@ use Rattle.letters.proofs.Entries.{decoded_at}
 use Rattle.scans.specs.declared.Params.{Params}
 use Rattle.scans.specs.Counts.{hit, count}
 use Rattle.scans.specs.Terms.Window.{queue, window, newest_in, Windowed}
-use Rattle.search.specs.Terms.Certified.{NoneFrom, Since}
+use Rattle.search.specs.Terms.Certified.{NoneFrom}
 use Rattle.scans.proofs.Counting.{hit_self, hit_other}
-use Rattle.scans.proofs.Ring.{queue_length}
+use Rattle.scans.proofs.Rings.{queue_length}
 use Rattle.scans.proofs.Windows.{long}
 
 hit_none : (x : ℕ) (e : Place) → (e ≡ plain x → ⊥) → hit x e ≡ 0
@@ -67,17 +67,6 @@ module _ {p : Params} {ring : List ℕ} {head len : ℕ} {counts : List ℕ} {n 
       none a h (omega (arith, before_long)) (plain_entry (get_or (queue ring head len) a 0) x place ∙ sym (plain_entry (newest_in ring head len) x (sym newest_place ∙ is))))
 
 -- ---- The search for the last entry that equals the newest, from the newest back.
-pub since_start : (ring : List ℕ) (head len : ℕ) → NoneFrom ring head len (len - 1)
-since_start ring head len a h l s = absurd (omega arith)
-
 pub since_turn : (ring : List ℕ) (head len l : ℕ) → l < len → NoneFrom ring head len (len - l) → (get_or (queue ring head len) (len - 1 - l) 0 ≡ newest_in ring head len → ⊥) → NoneFrom ring head len (len - (l + 1))
 since_turn ring head len l inside none other a h k s =
     ⊎_elim (λ (e : len - 1 - l ≡ a). other (ap (λ (i : ℕ). get_or (queue ring head len) i 0) e ∙ s)) (λ (g : len - 1 - l < a). none a (omega arith) k s) (eq-or-lt_of_le (let z : len - 1 - l ≤ a = omega arith in z))
-
-pub since_none : (ring : List ℕ) (head len near l : ℕ) → near < l → l ≤ near + 1 → NoneFrom ring head len (len - l) → Since ring head len near 0
-since_none ring head len near l over inside none =
-    record { none = λ _ a h. none a (omega arith); some = λ z. absurd (z refl) }
-
-pub since_some : (ring : List ℕ) (head len near l : ℕ) → 0 < l → l ≤ near → NoneFrom ring head len (len - l) → Since ring head len near (l + 1)
-since_some ring head len near l first inside none =
-    record { none = λ z. absurd (let y : ⊥ = omega arith in y); some = λ _. (omega arith, omega arith, λ a h. none a (omega arith)) }

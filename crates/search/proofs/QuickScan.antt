@@ -20,7 +20,7 @@ use Rattle.scans.specs.Setup.{Setup, f_at, kmers}
 use Rattle.scans.specs.Counts.{raise, cleared}
 use Rattle.scans.specs.Terms.Counted.{Counted}
 use Rattle.scans.specs.Scans.{Candidate, candidate, no_candidate, BackwardSums, backward_start, is_noted, noted, Backward, backward_from, with_best, none, at, dust_forward, try_from, tried}
-use Rattle.scans.specs.Terms.Parts.{too_low, Rest, sums_with, raised_at, fallen_to, Fresh, rest_of, rest_over, rest_from, rest_after, Backs, GoesOn, goes_on_of}
+use Rattle.scans.specs.Terms.Parts.{too_low, Rest, sums_with, raised_at, fallen_to, Fresh, rest_of, rest_over, rest_from, rest_after, Backs, goes_on_of}
 use Rattle.search.specs.Terms.Carry.{ScansQuick}
 use Rattle.scans.proofs.Test.{by_test}
 use Rattle.search.proofs.Noting.{first_not_noted}
@@ -241,12 +241,6 @@ module _ (S : Setup) (window_counts : List ℕ) (q : List Place) (counts₀ : Li
         go true p d e u = absurd (true≢false (sym u))
         go false p true e u = absurd (true≢false (sym u))
         go false p false e u = (p, e, ltb-true 0 a.low u)
-
-    pub going_some : goes_on_of a ≡ true → 0 < a.low
-    going_some t = (on t).2
-
-    pub going_turn : goes_on_of a ≡ true → (b : BackwardState) (counts' : List ℕ) → length counts' ≡ length counts → GoesOn S window_counts true q (rest_of a counts) (rest_of b counts') → Going S window_counts q counts₀ b counts'
-    going_turn t b counts' e g = record { same = e ∙ c.same; here = g.here; rest = c.rest ∙ rw ((on t).0, (on t).1) g.scanned }
 
     pub going_end : goes_on_of a ≡ false → Counted (kmers S) window_counts q → ScansQuick S q (rest_of a counts)
     unfolding rest_over

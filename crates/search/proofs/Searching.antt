@@ -1,11 +1,11 @@
 -- The search for candidates, a turn at a time: the scan goes on and leaves a peak or none, and when it is over the best place joins.
-use mathlib.Core.Path.{◌≡◌, refl, sym, ap, ap₂, ◌∙◌, subst}
+use mathlib.Core.Path.{◌≡◌, refl, sym, ap, ◌∙◌, subst}
 use mathlib.Core.Bool.{Bool, true, false, cond, ◌||◌, true≢false}
 use mathlib.Core.List.{List, [], ◌∷◌, ◌++◌}
 use mathlib.Core.Logic.{◌≢◌}
 use Prim.Native.Nat.{ℕ, ◌+◌, ◌-◌, ◌<◌, ◌≤◌}
 use native.Mathlib.Omega.{arith}
-use lib.ListN.{length, get_or, set, length-append}
+use lib.ListN.{length, get_or, set, length-append, length-set}
 use lib.Seq.{get_or_at}
 use lib.Dec.{eqb, ltb}
 use borrow.Author.Tests.{eqb-true, eqb-false}
@@ -27,12 +27,6 @@ use Rattle.scans.proofs.BackwardScan.{with_peak, backs_start, backward_goes}
 no_entries : (l : List Candidate) → length l ≡ 0 → l ≡ []
 no_entries [] e = refl
 no_entries (c ∷ l) e = absurd (let b : ⊥ = omega arith in b)
-
-pub gone_peaked : (a : Search) (scan : BackwardState) → scan.paused ≡ true → gone_on a scan ≡ noting_at (resting_at a scan a.on) (scan.low + 2)
-gone_peaked a scan t = ap (λ (b : Bool). cond b (noting_at (resting_at a scan a.on) (scan.low + 2)) (resting_at a scan a.on)) t
-
-pub gone_level : (a : Search) (scan : BackwardState) → scan.paused ≡ false → gone_on a scan ≡ resting_at a scan a.on
-gone_level a scan t = ap (λ (b : Bool). cond b (noting_at (resting_at a scan a.on) (scan.low + 2)) (resting_at a scan a.on)) t
 
 -- ---- The candidates that a search has noted.
 module _ (a : Search) (cs : List Candidate) (n : Noted a cs) where
@@ -60,11 +54,6 @@ none_left : (S : Setup) (q : List Place) (low l : ℕ) (x : BackwardSums) (count
     → backward_from S q low l x counts cs ≡ record { best = x.best; found = x.found; counts = counts; candidates = cs }
 unfolding backward_from
 none_left S q low l x counts cs z = rw z
-
-pub some_left : (a : BackwardState) → a.done || eqb a.low 0 ≡ false → 0 < a.low
-some_left a e =
-    let d : a.low ≢ 0 = eqb-false a.low 0 (neither a.done (eqb a.low 0) e).1 in
-    omega arith
 
 -- ---- A turn.
 module _ (S : Setup) (q : List Place) (a : Search) (counts : List ℕ) (c : Searches (kmers S) q a counts) where
@@ -214,9 +203,8 @@ module _ (S : Setup) (q : List Place) (counts₀ : List ℕ) (records₀ : List 
       }
 
   module _ (a : Search) (counts : List ℕ) (records : List ForwardPosition) (c : Seeking S q counts₀ records₀ a counts records) where
-    pub seeking_end : a.on ≡ false → (first : ForwardPosition) → first ≡ get_or records 0 no_position
-        → ScansBackward S q (record { noted = a.noted; low = a.scan.low; oldest = a.last.pos; newest = first.pos }) counts (candidates_in a.noted records)
-    seeking_end e first f =
+    pub seeking_end : a.on ≡ false → ScansBackward S q (record { noted = a.noted; low = a.scan.low; oldest = a.last.pos; newest = (get_or records 0 no_position).pos }) counts (candidates_in a.noted records)
+    seeking_end e =
         let l : List Candidate = candidates_in a.noted records in
         let all : l ≡ candidates_of S q = sym (c.rest ∙ rw e) in
         let over = c.ended e in
@@ -228,7 +216,7 @@ module _ (S : Setup) (q : List Place) (counts₀ : List ℕ) (records₀ : List 
             counted = over.counted;
             oldest_read = over.last_read;
             oldest_is = λ s. subst (λ (z : List Candidate). (get_or z (length z - 1) no_candidate).place ≡ a.last.pos) all (ap (λ (d : Candidate). d.place) (c.noted.last_is s));
-            newest_is = λ s. subst (λ (z : List Candidate). (get_or z 0 no_candidate).place ≡ first.pos) all (ap (λ (d : Candidate). d.place) (candidates_at a.noted records 0 s) ∙ ap (λ (d : ForwardPosition). d.pos) (sym f));
+            newest_is = λ s. subst (λ (z : List Candidate). (get_or z 0 no_candidate).place ≡ (get_or records 0 no_position).pos) all (ap (λ (d : Candidate). d.place) (candidates_at a.noted records 0 s));
           };
         }
 
@@ -274,10 +262,10 @@ module _ (S : Setup) (q : List Place) (counts₀ : List ℕ) (records₀ : List 
                 let l : candidates_of S q ≡ with_fresh b cs = c.rest ∙ k.same cs c.noted ∙ rw e in
                 omega (arith, (k.noted cs c.noted).many, ap length l, (to_try_fit S q some).0)
 
-        pub seeking_put : (records' : List ForwardPosition) → length records' ≡ length records → b.noted - 1 < length records → records' ≡ set records (b.noted - 1) b.last → Seeking S q counts₀ records₀ b counts' records'
-        seeking_put records' l r e =
+        pub seeking_put : b.noted - 1 < length records → Seeking S q counts₀ records₀ b counts' (set records (b.noted - 1) b.last)
+        seeking_put r =
             let m : b.noted - 1 ≡ a.noted = omega (arith, one_more) in
             let n : b.noted - 1 + 1 ≡ b.noted = omega (arith, one_more) in
-            turned records' l
-            (ap₂ (λ (x : ℕ) (rs : List ForwardPosition). candidates_in x rs) (sym n) e ∙ candidates_push (b.noted - 1) records b.last r
+            turned (set records (b.noted - 1) b.last) (length-set records (b.noted - 1) b.last)
+            (ap (λ (x : ℕ). candidates_in x (set records (b.noted - 1) b.last)) (sym n) ∙ candidates_push (b.noted - 1) records b.last r
             ∙ ap (λ (x : ℕ). candidates_in x records ++ candidate_of b.last ∷ []) m ∙ sym with_last)

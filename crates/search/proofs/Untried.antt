@@ -1,6 +1,6 @@
 -- For any float bits: where no candidate's forward scan is best at the newest place, nothing is found (`none_found`); and all candidates lie between the last noted and the first (`candidates_between`).
 use mathlib.Core.Path.{◌≡◌, refl, sym, subst}
-use mathlib.Core.Bool.{Bool, true, false, cond, true≢false}
+use mathlib.Core.Bool.{Bool, true, false, cond}
 use mathlib.Core.List.{List, []}
 use mathlib.Core.Logic.{◌≢◌, ⊎_elim}
 use Prim.Native.Nat.{ℕ, zero, suc, ◌+◌, ◌-◌, ◌≤◌, ◌<◌, max}
@@ -98,6 +98,3 @@ module _ (S : Setup) (q : List Place) where
     tells_short t counts counts' d k clear =
         let some : 0 < r.noted = let d' : r.noted ≢ 0 = d in omega arith in
         record { told = λ e. none_found r.oldest r.newest (λ _. (a.oldest_is some, a.newest_is some, k.told e)); clear = clear }
-
-  pub tells_nothing : (counts : List ℕ) → counts ≡ cleared S → TellsNone S q false counts
-  tells_nothing counts clear = record { told = λ e. absurd (true≢false (sym e)); clear = clear }

@@ -3,12 +3,11 @@
 ghost use Rattle.std.specs.Prelude.{◌≡◌, false, List, [], ◌∷◌, ◌++◌, ◌/◌, ◌<◌, length, get_or};
 ghost use Rattle.letters.specs.Place.{Place};
 ghost use Rattle.letters.specs.Terms.Entry.{decode};
-ghost use Rattle.scans.specs.Terms.Numbers.{setup_of};
-ghost use Rattle.scans.specs.Terms.Window.{window, Joining};
+ghost use Rattle.scans.specs.Terms.Run.{as_setup, entries_of, NewestJoins};
 ghost use Rattle.search.specs.Terms.Carry.{no_carry, begun_carry, CarriesOn, carried_ahead};
 
 use crate::{Carry, Certificate, Scanned};
-use scans::{Params, count_entry, newest_entry, window_value};
+use scans::{Ring, Setup, count_entry, window_value};
 
 impl Carry {
     // No scan is carried.
@@ -35,50 +34,49 @@ impl Carry {
         }
     }
 
-    // The same, field by field: taken whole out of a call, its unused bytes too would go through memory at each letter.
-    pub fn copied(self) -> Self
-        ensures { result ≡ self }
+    // The scan c in this one's place, field by field: taken whole, its unused bytes too would go through memory at each letter.
+    pub fn replaced(mut self, c: Carry) -> Self
+        ensures { result ≡ c }
     {
-        let c = self.certificate;
-        Self {
-            on: self.on,
-            s: self.s,
-            best: self.best,
-            certificate: Certificate {
-                on: c.on,
-                left: c.left,
-                near: c.near,
-                h: c.h,
-                u: c.u,
-                gap: c.gap,
-            },
-        }
+        self.on = c.on;
+        self.s = c.s;
+        self.best = c.best;
+        self.certificate.on = c.certificate.on;
+        self.certificate.left = c.certificate.left;
+        self.certificate.near = c.certificate.near;
+        self.certificate.h = c.certificate.h;
+        self.certificate.u = c.certificate.u;
+        self.certificate.gap = c.certificate.gap;
+        self
+    }
+
+    // No scan is carried any more.
+    pub fn ended(self) -> Self
+        ensures { result ≡ no_carry }
+    {
+        self.replaced(Carry::none())
     }
 
     // The newest entry joins the scan from `start` on and its certificate, and is counted.
     pub fn next(
         mut self,
-        p: Params,
+        setup: &Setup,
         start: usize,
-        queue: &[u32],
-        head: usize,
-        len: usize,
+        ring: &Ring,
         window_counts: &[u16],
-        ln: &[f64],
-        f: &[f64],
         scan_counts: &mut [u16],
     ) -> Self
-        requires joining { Joining p queue.now head len window_counts.now (length ln.now) scan_counts.old }
-        requires start_lt_len { (start < len) × (p.window_size < length f.now) }
-        ensures { (q₀ : List Place) (e : Place) → window queue.now head len ≡ q₀ ++ e ∷ []
-            → CarriesOn (setup_of p ln.now f.now) q₀ e start self result scan_counts.old
+        requires joining { NewestJoins setup.now ring.now window_counts.now scan_counts.old }
+        requires start_lt_len { start < ring.now.len }
+        ensures { (q₀ : List Place) (e : Place) → entries_of ring.now ≡ q₀ ++ e ∷ []
+            → CarriesOn (as_setup setup.now) q₀ e start self result scan_counts.old
             scan_counts.new }
     {
         let certificate = self.certificate;
-        self.certificate = certificate.next(p, queue, head, len, window_counts, ln, scan_counts);
-        let v = count_entry(scan_counts, ln, newest_entry(queue, head, len));
-        self.s = self.s + (v - p.score_threshold);
-        let sl = self.s - f[len - start];
+        self.certificate = certificate.next(setup, ring, window_counts, scan_counts);
+        let v = count_entry(scan_counts, setup.ln, ring.newest());
+        self.s = self.s + (v - setup.params.score_threshold);
+        let sl = self.s - setup.f[ring.len - start];
         if self.best <= sl {
             self.best = sl;
         }
@@ -86,22 +84,15 @@ impl Carry {
     }
 
     // The scan with the newest entry, its l-th, which is counted already; on if the entry is its best.
-    pub fn ahead(
-        self,
-        p: Params,
-        l: usize,
-        entry: u32,
-        ln: &[f64],
-        f: &[f64],
-        scan_counts: &[u16],
-    ) -> Self
-        requires { (entry / 2 < length scan_counts.now) × (get_or scan_counts.now (entry / 2) 0 < length ln.now)
-            × (l < length f.now) }
-        ensures { result ≡ carried_ahead (setup_of p ln.now f.now) l scan_counts.now (decode entry)
+    pub fn ahead(self, setup: &Setup, l: usize, entry: u32, scan_counts: &[u16]) -> Self
+        requires { (entry / 2 < length scan_counts.now)
+            × (get_or scan_counts.now (entry / 2) 0 < length setup.now.ln.now) × (l < length setup.now.f.now) }
+        ensures { result ≡ carried_ahead (as_setup setup.now) l scan_counts.now (decode entry)
             self }
     {
-        let s = self.s + (window_value(scan_counts, ln, entry) - p.score_threshold);
-        let sl = s - f[l];
+        let v = window_value(scan_counts, setup.ln, entry);
+        let s = self.s + (v - setup.params.score_threshold);
+        let sl = s - setup.f[l];
         Self {
             on: sl >= self.best,
             s: s,

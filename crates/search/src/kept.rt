@@ -1,31 +1,28 @@
 // The certificate of a carried scan's start, kept letter by letter.
 
-ghost use Rattle.std.specs.Prelude.{◌≡◌, List, ◌<◌, ◌≤◌, length, Float};
-ghost use Rattle.scans.specs.Terms.Numbers.{setup_of};
-ghost use Rattle.scans.specs.Terms.Window.{window, Joining};
+ghost use Rattle.std.specs.Prelude.{◌≡◌, ◌<◌, IfSome, unwrap_or};
+ghost use Rattle.scans.specs.Terms.Run.{as_setup, entries_of, NewestJoins};
 ghost use Rattle.search.specs.Terms.Certified.{no_certificate, certificate_step, Since, CertifiesOn};
 
 use crate::Certificate;
-use scans::{Params, newest_entry, raised_value, ring_index, window_value};
+use scans::{Ring, Setup, raised_value, window_value};
 
 // 2^-10: what floats say that are this far apart holds of the exact scores too.
 pub const DISTANCE: f64 = 0.0009765625;
 
-// How many entries lie from the last one that equals the newest to the newest, both counted; 0 where none of the `near` before the newest does.
-fn entries_since(queue: &[u32], head: usize, len: usize, near: usize) -> usize
-    requires { (head < length queue.now) × (near < len) × (len ≤ length queue.now) × (length queue.now ≤ 65535) }
-    ensures { Since queue.now head len near result }
+// How many entries lie from the last one that equals the newest to the newest, both counted; none where none of the `near` before the newest does.
+fn entries_since(ring: &Ring, near: usize) -> Option<usize>
+    requires { near < ring.now.len }
+    ensures since { Since ring.now.queue.now ring.now.head ring.now.len near (unwrap_or result 0) }
+    ensures some { IfSome result (λ l. 0 < l) }
 {
-    let newest = newest_entry(queue, head, len);
-    let mut l = 1;
-    while l <= near {
-        let i = ring_index(queue.len(), head, len - 1 - l);
-        if queue[i] == newest {
-            return l + 1;
+    let newest = ring.newest();
+    for l in 1..near + 1 {
+        if ring.queue[ring.index(ring.len - 1 - l)] == newest {
+            return Some(l + 1);
         }
-        l += 1;
     }
-    0
+    None
 }
 
 impl Certificate {
@@ -62,37 +59,34 @@ impl Certificate {
     // The certificate with the newest entry, which the scan counts have not.
     pub fn next(
         self,
-        p: Params,
-        queue: &[u32],
-        head: usize,
-        len: usize,
+        setup: &Setup,
+        ring: &Ring,
         window_counts: &[u16],
-        ln: &[f64],
         scan_counts: &[u16],
     ) -> Self
-        requires { Joining p queue.now head len window_counts.now (length ln.now) scan_counts.now }
-        ensures { (f : List Float) → CertifiesOn (setup_of p ln.now f) (window queue.now head len) self result
-            scan_counts.now }
+        requires { NewestJoins setup.now ring.now window_counts.now scan_counts.now }
+        ensures { CertifiesOn (as_setup setup.now) (entries_of ring.now) self result scan_counts.now }
     {
-        if !(self.on & (0 < self.left) & (self.near < len)) {
+        if !(self.on & (0 < self.left) & (self.near < ring.len)) {
             return Certificate::none();
         }
-        let t = p.score_threshold;
-        let entry = newest_entry(queue, head, len);
-        let v = raised_value(scan_counts, ln, entry);
-        let w = window_value(window_counts, ln, entry);
+        let t = setup.params.score_threshold;
+        let entry = ring.newest();
+        let v = raised_value(scan_counts, setup.ln, entry);
+        let w = window_value(window_counts, setup.ln, entry);
         if v <= 0.0 {
             return self.stepped(t, self.h, v, w);
         }
-        let l = entries_since(queue, head, len, self.near);
-        if l == 0 {
-            return self.stepped(t, self.h, v, w);
+        match entries_since(ring, self.near) {
+            None => self.stepped(t, self.h, v, w),
+            Some(l) => {
+                let h = self.h + v;
+                let n = l as u32;
+                if h + DISTANCE <= (n as f64) * t {
+                    return self.stepped(t, h, v, w);
+                }
+                Certificate::none()
+            }
         }
-        let h = self.h + v;
-        let n = l as u32;
-        if h + DISTANCE <= (n as f64) * t {
-            return self.stepped(t, h, v, w);
-        }
-        Certificate::none()
     }
 }

@@ -22,6 +22,7 @@ pub use dust::dust_backward;
 pub use kept::DISTANCE;
 
 // The sum and the best score of the last find's forward scan, carried on to the newest entry while `on`.
+// `on` is a flag among the fields, here and in the certificate, since they are set one by one at each letter: an Option would go through memory whole.
 #[derive(Clone, Copy)]
 pub struct Carry {
     pub on: bool,
@@ -47,6 +48,7 @@ pub struct Certificate {
 }
 
 // One past the index found, 0 for none, and the scan that is carried on.
+// A number, as the carry is there whether something was found or not, and is set field by field.
 #[derive(Clone, Copy)]
 pub struct Scanned {
     pub found: usize,

@@ -26,9 +26,7 @@ no_letter_tallied = refl
 
 -- A size of 9 is refused with 22, also where there is no room; a size of 2 with two entries with 11.
 number_22 : tally_refusal 9 [] ≡ 22
-unfolding tally_refusal
 number_22 = refl
 
 number_11 : tally_refusal 2 (0 ∷ 0 ∷ []) ≡ 11
-unfolding tally_refusal
 number_11 = refl

@@ -7,10 +7,10 @@ use native.Mathlib.Numerals.{add-one}
 use native.Mathlib.Omega.{arith}
 use lib.ListN.{length, drop, get_or, drop_of_length-le}
 use lib.Seq.{drop-cons}
-use Rattle.intervals.specs.Interval.{Interval, interval, Holds, Covers, covered_in, Ascending, Canonical, list_of}
+use Rattle.intervals.specs.declared.Interval.{Interval}
+use Rattle.intervals.specs.Interval.{interval, Holds, Covers, covered_in, Ascending, Canonical}
 use Rattle.intervals.proofs.Shape.{covers_above}
 use Rattle.intervals.proofs.Counted.{covered_all, covered_none, covered_at_most, covered_split, covered_equal}
-use Rattle.intervals.proofs.Slice.{length_list, list_at}
 
 -- The first interval's letters, and those of the others.
 covered_first : (n k lo : ℕ) (i : Interval) (is : List Interval) → Ascending n k lo (i ∷ is)
@@ -33,40 +33,40 @@ ascending_drop n k lo [] (suc i) u = (lo, tt)
 ascending_drop n k lo (j ∷ is) (suc i) u = ascending_drop n k (j.end + 1) is i u.3
 
 -- A loop over a mask in a slice ps, which adds interval i's letters in its turn.
-pub record Counting (n : ℕ) (ps : List (List ℕ)) (i letters : ℕ) : Type 0 where
+pub record Counting (n : ℕ) (ps : List Interval) (i letters : ℕ) : Type 0 where
   pub within : i ≤ length ps
-  pub rest : letters + covered_in (drop i (list_of ps)) 0 n ≡ covered_in (list_of ps) 0 n
+  pub rest : letters + covered_in (drop i ps) 0 n ≡ covered_in ps 0 n
 
-module _ {n : ℕ} {ps : List (List ℕ)} where
+module _ {n : ℕ} {ps : List Interval} where
   pub counting_start : Counting n ps 0 0
   counting_start = record { within = omega arith; rest = omega arith }
 
-  module _ (u : Canonical n 1 (list_of ps)) {i letters : ℕ} (a : Counting n ps i letters) (h : i < length ps) where
+  module _ (u : Canonical n 1 ps) {i letters : ℕ} (a : Counting n ps i letters) (h : i < length ps) where
     abbrev start : ℕ
-    start = get_or (get_or ps i []) 0 0
+    start = (get_or ps i (interval 0 0)).start
 
     abbrev end : ℕ
-    end = get_or (get_or ps i []) 1 0
+    end = (get_or ps i (interval 0 0)).end
 
-    next : (start + 1 ≤ end) × (covered_in (drop i (list_of ps)) 0 n ≡ (end - start) + covered_in (drop (i + 1) (list_of ps)) 0 n)
+    next : (start + 1 ≤ end) × (covered_in (drop i ps) 0 n ≡ (end - start) + covered_in (drop (i + 1) ps) 0 n)
     next =
-        let is = list_of ps in
+        let is = ps in
         let d : drop i is ≡ interval start end ∷ drop (i + 1) is =
-        drop-cons is i (interval 0 0) (omega (arith, length_list ps)) ∙ ap₂ (λ (j : Interval) (m : ℕ). j ∷ drop m is) (list_at ps i) (sym (add-one i)) in
+        drop-cons is i (interval 0 0) (omega arith) ∙ ap (λ (m : ℕ). get_or is i (interval 0 0) ∷ drop m is) (sym (add-one i)) in
         let b = ascending_drop n 1 0 is i u in
         let v : Ascending n 1 b.0 (interval start end ∷ drop (i + 1) is) = subst (λ (js : List Interval). Ascending n 1 b.0 js) d b.1 in
         (v.1, ap (λ (js : List Interval). covered_in js 0 n) d ∙ covered_first n 1 b.0 (interval start end) (drop (i + 1) is) v)
 
-    pub counting_ordered : get_or (get_or ps i []) 0 0 ≤ get_or (get_or ps i []) 1 0
+    pub counting_ordered : (get_or ps i (interval 0 0)).start ≤ (get_or ps i (interval 0 0)).end
     counting_ordered = omega (arith, next.0)
 
-    pub counting_fits : letters + (get_or (get_or ps i []) 1 0 - get_or (get_or ps i []) 0 0) ≤ n
-    counting_fits = omega (arith, next.1, a.rest, covered_at_most (list_of ps) 0 n)
+    pub counting_fits : letters + ((get_or ps i (interval 0 0)).end - (get_or ps i (interval 0 0)).start) ≤ n
+    counting_fits = omega (arith, next.1, a.rest, covered_at_most ps 0 n)
 
-    pub counting_turn : Counting n ps (i + 1) (letters + (get_or (get_or ps i []) 1 0 - get_or (get_or ps i []) 0 0))
+    pub counting_turn : Counting n ps (i + 1) (letters + ((get_or ps i (interval 0 0)).end - (get_or ps i (interval 0 0)).start))
     counting_turn = record { within = omega arith; rest = omega (arith, next.1, a.rest) }
 
-  pub counting_end : {i letters : ℕ} → Counting n ps i letters → length ps ≤ i → letters ≡ covered_in (list_of ps) 0 n
+  pub counting_end : {i letters : ℕ} → Counting n ps i letters → length ps ≤ i → letters ≡ covered_in ps 0 n
   counting_end {i} a h =
-      let e : drop i (list_of ps) ≡ [] = drop_of_length-le (list_of ps) (let k : length (list_of ps) ≤ i = omega (arith, length_list ps) in k) in
+      let e : drop i ps ≡ [] = drop_of_length-le ps (let k : length ps ≤ i = omega arith in k) in
       omega (arith, a.rest, ap (λ (js : List Interval). covered_in js 0 n) e, covered_none [] 0 n (λ x _ _ c. c))

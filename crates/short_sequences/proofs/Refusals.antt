@@ -11,7 +11,6 @@ use Rattle.short_sequences.specs.Tallies.{refusal}
 
 -- An accepted size is one of 1 to 8, and there is room for its tallies.
 pub accepted : (m : ℕ) (d : List ℕ) → refusal m d ≡ 0 → (1 ≤ m) × (m ≤ 8) × (m + 1 ≤ length d)
-unfolding refusal
 accepted m d h = go (ltb m 1) refl (ltb 8 m) refl (ltb (length d) (m + 1)) refl h
   where
     go : (a : Bool) → ltb m 1 ≡ a → (b : Bool) → ltb 8 m ≡ b → (e : Bool) → ltb (length d) (m + 1) ≡ e

@@ -12,7 +12,8 @@ use lib.Ieee.{Float}
 use Rattle.buffers.specs.Fill.{put}
 use Rattle.buffers.proofs.Filling.{put_all}
 use Rattle.letters.specs.Code.{codes}
-use Rattle.intervals.specs.Interval.{Interval, Canonical, Wrote, covered_in, list_of}
+use Rattle.intervals.specs.declared.Interval.{Interval}
+use Rattle.intervals.specs.Interval.{Canonical, Wrote, covered_in}
 use Rattle.intervals.proofs.Slice.{wrote_list}
 use Rattle.intervals.proofs.Shape.{canonical_room}
 use Rattle.intervals.proofs.Counted.{covered_none}
@@ -54,11 +55,11 @@ unfolding mask_of
 mask_is s ln f p q =
     ap₂ (λ (x y : List Float). mask short_options s x y) p (q ∙ ap (λ d. f_table 1 8 d) (sym (same_density (codes s))))
 
-abbrev fresh : List Float → List Float → List ForwardPosition → List (List ℕ) → List (List ℕ) → List (List ℕ) → Buffers
+abbrev fresh : List Float → List Float → List ForwardPosition → List Interval → List Interval → List Interval → Buffers
 fresh ln f candidates forward_list reverse_list list =
     buffers ln f (replicate 8 0) (replicate 4 0) (replicate 4 0) candidates (replicate 8 0) (replicate 8 0) forward_list reverse_list list (replicate 4 0)
 
-module _ (ln f : List Float) (cs : List ForwardPosition) (fl rl xs : List (List ℕ)) (t : Filled ln f) (lc : length cs ≡ 8) (lf : length fl ≡ 4) (lr : length rl ≡ 4) (lx : length xs ≡ 4) where
+module _ (ln f : List Float) (cs : List ForwardPosition) (fl rl xs : List Interval) (t : Filled ln f) (lc : length cs ≡ 8) (lf : length fl ≡ 4) (lr : length rl ≡ 4) (lx : length xs ≡ 4) where
   fresh_lent : lengths (fresh ln f cs fl rl xs) ≡ lent
   fresh_lent =
       let a : length ln ≡ 9 = ap length t.ln_is ∙ ln_table_length 8 in
@@ -97,11 +98,11 @@ module _ (ln f : List Float) (cs : List ForwardPosition) (fl rl xs : List (List 
   ran {o} {s} {b'} {a} e r = ran_options s b' a (subst (λ (o : LongdustOptions). Answered Kept o s (fresh ln f cs fl rl xs) b' a) e r)
 
 -- What a run comes to, from the list that it leaves.
-module _ {s : List ℕ} {xs xs' : List (List ℕ)} {r : Masked} (run : Ran s xs xs' r) where
+module _ {s : List ℕ} {xs xs' : List Interval} {r : Masked} (run : Ran s xs xs' r) where
   pub count_room : length s ≤ 8 → r.count ≤ 4
   count_room h = omega (arith, canonical_room (length s) 1 (unless (refusal_of s) (mask_of s)) run.shape, run.list.count_is)
 
-  pub list_usual : Canonical (length s) 1 (list_of (take r.count xs'))
+  pub list_usual : Canonical (length s) 1 (take r.count xs')
   list_usual = subst (λ (is : List Interval). Canonical (length s) 1 is) (sym (wrote_list run.list)) run.shape
 
   letters_are : (n : ℕ) → covered_in (unless n (mask_of s)) 0 (length s) ≡ cond (not (eqb n 0)) 0 (masked_letters s)
@@ -111,7 +112,7 @@ module _ {s : List ℕ} {xs xs' : List (List ℕ)} {r : Masked} (run : Ran s xs 
       let e : eqb (suc n) 0 ≡ false = ne_eqb (suc n) 0 (λ (z : suc n ≡ 0). let b : ⊥ = omega arith in b) in
       rw e (covered_none [] 0 (length s) (λ x _ _ c. c))
 
-  pub outcome_is : (letters : ℕ) → letters ≡ covered_in (list_of (take r.count xs')) 0 (length s)
+  pub outcome_is : (letters : ℕ) → letters ≡ covered_in (take r.count xs') 0 (length s)
       → ◌≡◌ {A = Outcome} (record { refused = not (eqb r.refusal 0); letters = letters }) (outcome_of s)
   unfolding is_refused
   outcome_is letters e =

@@ -7,7 +7,8 @@ use native.Mathlib.Numerals.{add-one}
 use native.Mathlib.Omega.{arith}
 use borrow.Author.Tests.{eqb-true, eqb-false}
 use lib.Dec.{eqb}
-use lib.ListN.{length, take, drop, get_or, set, length-set}
+use lib.ListN.{length, take, drop, get_or, set, replicate, length-set, length-replicate}
+use Rattle.std.proofs.lemmas.List.{get_or-replicate}
 use lib.Seq.{ext_get_or, take-suc, take_all, length-take-le, get_or-set_same, get_or-set_other}
 use Rattle.buffers.specs.Fill.{put, tabulate, tabulate_from}
 use Rattle.buffers.proofs.Tabulate.{tabulate_length, tabulate_at}
@@ -112,6 +113,17 @@ module _ (m : ℕ) where
 
     pub refused_more : count_of is_refused ss + one_if_refused (outcome_of s) ≡ count_of is_refused (ss ++ (s ∷ []))
     refused_more = sym (count_more is_refused ss s)
+
+-- Cleared tallies are those of no sequence.
+pub no_tallies : (m : ℕ) (d d' : List ℕ) → length d ≡ m + 1 → d' ≡ replicate (length d) 0 → d' ≡ tallies_over m []
+unfolding count_of
+no_tallies m d d' h e =
+    let long : length d' ≡ m + 1 = ap length e ∙ length-replicate (length d) 0 ∙ h in
+    ext_get_or 0 d' (tallies_over m []) (long ∙ sym (tallies_length m []))
+    (λ c l.
+    ap (λ (xs : List ℕ). get_or xs c 0) e
+    ∙ get_or-replicate (length d) c 0 0 (omega arith)
+    ∙ sym (tally_at m [] c (omega arith)))
 
 -- A loop over all sequences of m letters, which counts the sequence of index i in its turn.
 pub record Tallying (m i refused : ℕ) (tallies : List ℕ) : Type 0 where

@@ -3,7 +3,8 @@ use Rattle.std.specs.Prelude.{ℕ, ◌+◌, ◌^◌, ◌<◌, ◌≡◌, Bool, f
 use Rattle.buffers.specs.Fill.{put, tabulate}
 use Rattle.checks.specs.Checks.{Check, check, first}
 use Rattle.letters.specs.Code.{codes}
-use Rattle.intervals.specs.Interval.{Interval, covered_in}
+use Rattle.intervals.specs.declared.Interval.{Interval}
+use Rattle.intervals.specs.Interval.{covered_in}
 use Rattle.tables.specs.Density.{density}
 use Rattle.tables.specs.Tables.{ln_table, f_table}
 use Rattle.longdust.specs.declared.LongdustOptions.{LongdustOptions}
@@ -11,7 +12,6 @@ use Rattle.longdust.specs.declared.Lent.{Lent}
 use Rattle.longdust.specs.Options.{defaults}
 use Rattle.longdust.specs.Checks.{refusal as call_refusal}
 use Rattle.longdust.specs.Mask.{mask}
-use Rattle.short_sequences.specs.declared.Tallied.{Tallied}
 use Rattle.short_sequences.specs.Sequences.{sequences_of}
 
 -- k = 1, w = 8, two strands, the other options as in `LongdustOptions::default`.
@@ -88,12 +88,5 @@ total (n ∷ ns) = n + total ns
 abbrev pub checks : ℕ → List ℕ → List Check
 checks m d = check 22 (ltb m 1 || ltb 8 m) ∷ check 11 (ltb (length d) (m + 1)) ∷ []
 
-unfoldable pub refusal : ℕ → List ℕ → ℕ
+abbrev pub refusal : ℕ → List ℕ → ℕ
 refusal m d = first (checks m d)
-
--- What the call answers, r, and what it leaves of the buffer d in d'.
--- Refused: zeros, and the buffer as it was. Accepted: 5^m sequences, those refused among them, and the tallies over the buffer's front.
-pub record Tallies (m : ℕ) (d d' : List ℕ) (r : Tallied) : Type 0 where
-  pub number : r.refusal ≡ refusal m d
-  pub refused : 0 < r.refusal → (r.sequences ≡ 0) × (r.refused ≡ 0) × (d' ≡ d)
-  pub accepted : r.refusal ≡ 0 → (r.sequences ≡ 5 ^ m) × (r.refused ≡ refused_of m) × (d' ≡ put (tallies_of m) d)

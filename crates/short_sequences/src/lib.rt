@@ -2,13 +2,16 @@
 
 #![tactic(auto)]
 
-ghost use Rattle.std.specs.Prelude.{◌≡◌, [], ◌+◌, ◌^◌, ◌≤◌, ◌<◌, length, get_or};
-ghost use Rattle.intervals.specs.Interval.{Canonical, covered_in, list_of};
+ghost use Rattle.std.specs.Prelude.{◌≡◌, [], ◌+◌, ◌^◌, ◌≤◌, ◌<◌, length, get_or, IfOk, OnOk, OnErr};
+ghost use Rattle.intervals.specs.Interval.{Canonical, covered_in};
 ghost use Rattle.short_sequences.specs.Sequences.{sequences_of};
-ghost use Rattle.short_sequences.specs.Tallies.{short_options, tallies_over, tallies_of, refused_of, refusal, Tallies};
+ghost use Rattle.short_sequences.specs.Tallies.{short_options, tallies_over, tallies_of, refused_of, refusal};
+ghost use Rattle.buffers.specs.Fill.{put};
+ghost use Rattle.checks.specs.Refusal.{number_of};
 ghost use Rattle.short_sequences.specs.Terms.Outcome.{letter_at, Filled, Short, Ran, outcome_of, counted, one_if_refused};
 
-use checks::{below_sum, next_check};
+use checks::{Refusal, below_sum};
+use intervals::Interval;
 use longdust::LongdustOptions;
 use scans::ForwardPosition;
 use tables::GcOption;
@@ -22,10 +25,9 @@ const F_ROOM: usize = 10;
 
 const LIST_ROOM: usize = 4;
 
-// The refusal number and zeros, or 0, how many sequences there are, and how many of them are refused.
+/// How many sequences there are, and how many of them are refused.
 #[derive(Clone, Copy)]
 pub struct Tallied {
-    pub refusal: u32,
     pub sequences: usize,
     pub refused: u32,
 }
@@ -63,13 +65,7 @@ fn count_sequences(m: usize) -> usize
     requires { m ≤ 8 }
     ensures { result ≡ 5 ^ m }
 {
-    let mut count = 1;
-    let mut i = 0;
-    while i < m {
-        count *= 5;
-        i += 1;
-    }
-    count
+    5usize.pow(m as u32)
 }
 
 // Fills the slice with the sequence of that index among all of its size: the index in base five.
@@ -80,12 +76,10 @@ fn write_letters(index: usize, letters: &mut [u8])
 {
     let mut share = count_sequences(letters.len());
     let mut rest = index;
-    let mut i = 0;
-    while i < letters.len() {
+    for place in letters.iter_mut() {
         share /= 5;
-        letters[i] = letter(rest / share);
+        *place = letter(rest / share);
         rest %= share;
-        i += 1;
     }
 }
 
@@ -109,30 +103,22 @@ fn short_options() -> LongdustOptions
     }
 }
 
-fn no_candidates() -> [ForwardPosition; 8] {
-    [ForwardPosition {
-        pos: 0,
-        max_score: 0.0,
-    }; 8]
-}
-
-fn no_intervals() -> [[u32; 2]; LIST_ROOM] {
-    [[0, 0]; LIST_ROOM]
-}
-
 // Masks the letters by filled tables, in work buffers of its own that have exactly the paper's sizes for 8 letters.
-pub fn mask_letters(letters: &[u8], ln: &[f64], f: &[f64], list: &mut [[u32; 2]]) -> Masked
+pub fn mask_letters(letters: &[u8], ln: &[f64], f: &[f64], list: &mut [Interval]) -> Masked
     requires { Short letters.now ln.now f.now list.old }
     ensures { Ran letters.now list.old list.new result }
 {
     let mut queue = [0u32; 8];
     let mut window_counts = [0u16; 4];
     let mut scan_counts = [0u16; 4];
-    let mut candidates = no_candidates();
+    let mut candidates = [ForwardPosition {
+        pos: 0,
+        max_score: 0.0,
+    }; 8];
     let mut codes = [0u8; MOST_LETTERS];
     let mut reverse_codes = [0u8; MOST_LETTERS];
-    let mut forward_list = no_intervals();
-    let mut reverse_list = no_intervals();
+    let mut forward_list = [Interval { start: 0, end: 0 }; LIST_ROOM];
+    let mut reverse_list = [Interval { start: 0, end: 0 }; LIST_ROOM];
     let mut marks = [0u8; LIST_ROOM];
     let answer = longdust::process_tables(
         letters,
@@ -157,15 +143,13 @@ pub fn mask_letters(letters: &[u8], ln: &[f64], f: &[f64], list: &mut [[u32; 2]]
 }
 
 // How many of n letters a mask covers.
-fn count_letters(list: &[[u32; 2]], n: usize) -> usize
-    requires { Canonical n 1 (list_of list.now) }
-    ensures { result ≡ covered_in (list_of list.now) 0 n }
+fn count_letters(list: &[Interval], n: usize) -> usize
+    requires { Canonical n 1 list.now }
+    ensures { result ≡ covered_in list.now 0 n }
 {
     let mut letters: usize = 0;
-    let mut i = 0;
-    while i < list.len() {
-        letters += (list[i][1] - list[i][0]) as usize;
-        i += 1;
+    for interval in list {
+        letters += (interval.end - interval.start) as usize;
     }
     letters
 }
@@ -177,7 +161,7 @@ fn run_letters(letters: &[u8], ln: &[f64], f: &[f64]) -> Outcome
     requires filled { Filled ln.now f.now }
     ensures { result ≡ outcome_of letters.now }
 {
-    let mut list = no_intervals();
+    let mut list = [Interval { start: 0, end: 0 }; LIST_ROOM];
     let run = mask_letters(letters, ln, f, &mut list);
     let count = run.count;
     Outcome {
@@ -229,11 +213,9 @@ fn tally_all(
     ensures tallies_after { tallies.new ≡ tallies_of (length letters.old) }
 {
     let mut refused = 0;
-    let mut index = 0;
-    while index < sequences {
+    for index in 0..sequences {
         let outcome = run_index(index, letters, ln, f);
         refused += count_outcome(outcome, tallies);
-        index += 1;
     }
     refused
 }
@@ -247,17 +229,6 @@ fn fill_tables(ln: &mut [f64], f: &mut [f64])
     tables::fill_tables(ln, f, 1, 8, GcOption::Uniform, &no_letters);
 }
 
-fn clear(tallies: &mut [u32], m: usize)
-    requires { length tallies.old ≡ m + 1 }
-    ensures { tallies.new ≡ tallies_over m [] }
-{
-    let mut i = 0;
-    while i < tallies.len() {
-        tallies[i] = 0;
-        i += 1;
-    }
-}
-
 // The tallies in a slice of m + 1 entries; answers how many sequences are refused.
 fn tally(m: usize, sequences: usize, tallies: &mut [u32]) -> u32
     requires m_bound { (m ≤ 8) × (sequences ≡ 5 ^ m) }
@@ -269,36 +240,34 @@ fn tally(m: usize, sequences: usize, tallies: &mut [u32]) -> u32
     let mut f = [0.0f64; F_ROOM];
     let mut letters = [0u8; MOST_LETTERS];
     fill_tables(&mut ln, &mut f);
-    clear(tallies, m);
+    tallies.fill(0);
     tally_all(sequences, &mut letters[..m], &ln, &f, tallies)
 }
 
-// The number of the first check that fails, 0 if none does.
-fn check(m: usize, tallies: &[u32]) -> u32
-    ensures { result ≡ refusal m tallies.now }
+// The first check that fails.
+fn check(m: usize, tallies: &[u32]) -> Result<(), Refusal>
+    ensures { number_of result ≡ refusal m tallies.now }
 {
-    let r = next_check(0, 22, (m < 1) | (MOST_LETTERS < m));
-    next_check(r, 11, below_sum(tallies.len(), m, 1))
+    if (m < 1) | (MOST_LETTERS < m) {
+        return Err(Refusal::BadLength);
+    }
+    if below_sum(tallies.len(), m, 1) {
+        return Err(Refusal::ShortSlice);
+    }
+    Ok(())
 }
 
-// Fills the front of `tallies`: entry c is how many sequences of m letters over A C G T N lead to c masked letters.
-pub fn short_sequences(m: usize, tallies: &mut [u32]) -> Tallied
-    ensures { Tallies m tallies.old tallies.new result }
+/// Fills the front of `tallies`: entry c is how many sequences of m letters over A C G T N lead to c masked letters.
+pub fn short_sequences(m: usize, tallies: &mut [u32]) -> Result<Tallied, Refusal>
+    ensures tallied { IfOk result (λ tallied. (tallied.sequences ≡ 5 ^ m) × (tallied.refused ≡ refused_of m)) }
+    ensures few { IfOk result (λ tallied. tallied.sequences ≤ 390625) }
+    ensures tallies { OnOk result (tallies.new ≡ put (tallies_of m) tallies.old) }
+    ensures refusal { number_of result ≡ refusal m tallies.old }
+    ensures err { OnErr result (tallies.new ≡ tallies.old) }
 {
-    let refusal = check(m, tallies);
-    if refusal != 0 {
-        return Tallied {
-            refusal,
-            sequences: 0,
-            refused: 0,
-        };
-    }
+    check(m, tallies)?;
     let entries = m + 1;
     let sequences = count_sequences(m);
     let refused = tally(m, sequences, &mut tallies[..entries]);
-    Tallied {
-        refusal: 0,
-        sequences,
-        refused,
-    }
+    Ok(Tallied { sequences, refused })
 }

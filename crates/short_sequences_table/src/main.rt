@@ -12,21 +12,20 @@ fn print_column(rt: &impl Print, number: u32) -> io::Result<()> {
 fn print_line(rt: &impl Print, m: usize, refused: u32, tallies: &[u32]) -> io::Result<()> {
     print!(rt; "{m}")?;
     print_column(rt, refused)?;
-    let mut i = 0;
-    while i < tallies.len() {
-        print_column(rt, tallies[i])?;
-        i += 1;
+    for tally in tallies {
+        print_column(rt, *tally)?;
     }
     rt.println("")
 }
 
 fn main(rt: HostRuntime) -> io::Result<()> {
-    let mut m = 1;
-    while m <= short_sequences::MOST_LETTERS {
+    for m in 1..=short_sequences::MOST_LETTERS {
         let mut tallies = [0u32; 9];
-        let tallied = short_sequences::short_sequences(m, &mut tallies);
-        print_line(&rt, m, tallied.refused, &tallies[..m + 1])?;
-        m += 1;
+        let refused = match short_sequences::short_sequences(m, &mut tallies) {
+            Ok(tallied) => tallied.refused,
+            Err(_) => 0,
+        };
+        print_line(&rt, m, refused, &tallies[..m + 1])?;
     }
     Ok(())
 }

@@ -8,8 +8,8 @@ use lib.ListN.{length, take, get_or, set}
 use lib.Seq.{take_all, take-suc, length-take-le}
 use Rattle.buffers.specs.Fill.{put, put_at}
 use Rattle.buffers.proofs.Put.{put_at_next, put_next, put_at_store, put_at_more}
-use Rattle.intervals.specs.Interval.{Interval, interval, interval_of, list_of}
-use Rattle.intervals.proofs.Slice.{length_list, list_at}
+use Rattle.intervals.specs.declared.Interval.{Interval}
+use Rattle.intervals.specs.Interval.{interval}
 use Rattle.small.specs.Bytes.{four_bytes, pair_bytes, bytes_of}
 
 -- Four stores.
@@ -37,36 +37,33 @@ unfolding bytes_of
 bytes_length [] = refl
 bytes_length (i ∷ is) = omega (arith, bytes_length is)
 
-bytes_next : (ps : List (List ℕ)) (i : ℕ) → i < length ps
-    → bytes_of (take (i + 1) (list_of ps)) ≡ bytes_of (take i (list_of ps)) ++ pair_bytes (interval_of (get_or ps i []))
+bytes_next : (ps : List Interval) (i : ℕ) → i < length ps
+    → bytes_of (take (i + 1) ps) ≡ bytes_of (take i ps) ++ pair_bytes (get_or ps i (interval 0 0))
 unfolding bytes_of
 bytes_next ps i h =
-    let is : List Interval = list_of ps in
-    let l : i < length is = omega (arith, length_list ps) in
-    ap (λ (k : ℕ). bytes_of (take k is)) (add-one i)
-    ∙ ap (λ (js : List Interval). bytes_of js) (take-suc is i (interval 0 0) l)
-    ∙ bytes_append (take i is) (get_or is i (interval 0 0) ∷ [])
-    ∙ ap (λ (j : Interval). bytes_of (take i is) ++ pair_bytes j) (list_at ps i)
+    ap (λ (k : ℕ). bytes_of (take k ps)) (add-one i)
+    ∙ ap (λ (js : List Interval). bytes_of js) (take-suc ps i (interval 0 0) h)
+    ∙ bytes_append (take i ps) (get_or ps i (interval 0 0) ∷ [])
 
-taken : (ps : List (List ℕ)) (i : ℕ) → i ≤ length ps → length (bytes_of (take i (list_of ps))) ≡ 8 * i
-taken ps i h = bytes_length (take i (list_of ps)) ∙ ap (λ (n : ℕ). 8 * n) (length-take-le i (list_of ps) (omega (arith, length_list ps)))
+taken : (ps : List Interval) (i : ℕ) → i ≤ length ps → length (bytes_of (take i ps)) ≡ 8 * i
+taken ps i h = bytes_length (take i ps) ∙ ap (λ (n : ℕ). 8 * n) (length-take-le i ps (omega arith))
 
 -- A loop over a list in a slice ps, which writes interval i in its turn; after i turns the output d is l.
-pub record Writing (ps : List (List ℕ)) (d : List ℕ) (i : ℕ) (l : List ℕ) : Type 0 where
+pub record Writing (ps : List Interval) (d : List ℕ) (i : ℕ) (l : List ℕ) : Type 0 where
   pub within : i ≤ length ps
   pub long : length l ≡ length d
-  pub now : l ≡ put (bytes_of (take i (list_of ps))) d
+  pub now : l ≡ put (bytes_of (take i ps)) d
 
-module _ {ps : List (List ℕ)} {d : List ℕ} where
+module _ {ps : List Interval} {d : List ℕ} where
   pub writing_start : Writing ps d 0 d
   unfolding bytes_of
   writing_start = record { within = omega arith; long = refl; now = refl }
 
   pub writing_turn : {i : ℕ} {l l' : List ℕ} → Writing ps d i l → i < length ps → length l' ≡ length l
-      → l' ≡ put_at (8 * i) (pair_bytes (interval_of (get_or ps i []))) l → Writing ps d (i + 1) l'
+      → l' ≡ put_at (8 * i) (pair_bytes (get_or ps i (interval 0 0))) l → Writing ps d (i + 1) l'
   writing_turn {i} {l} {l'} a h k e =
-      let xs : List ℕ = bytes_of (take i (list_of ps)) in
-      let ys : List ℕ = pair_bytes (interval_of (get_or ps i [])) in
+      let xs : List ℕ = bytes_of (take i ps) in
+      let ys : List ℕ = pair_bytes (get_or ps i (interval 0 0)) in
       record {
         within = omega arith;
         long = k ∙ a.long;
@@ -77,9 +74,9 @@ module _ {ps : List (List ℕ)} {d : List ℕ} where
             ∙ ap (λ (z : List ℕ). put z d) (sym (bytes_next ps i h));
       }
 
-  pub writing_end : {i : ℕ} {l : List ℕ} → Writing ps d i l → length ps ≤ i → l ≡ put (bytes_of (list_of ps)) d
+  pub writing_end : {i : ℕ} {l : List ℕ} → Writing ps d i l → length ps ≤ i → l ≡ put (bytes_of ps) d
   writing_end {i} a h =
-      a.now ∙ ap (λ (is : List Interval). put (bytes_of is) d) (take_all i (list_of ps) (omega (arith, length_list ps)))
+      a.now ∙ ap (λ (is : List Interval). put (bytes_of is) d) (take_all i ps (omega arith))
 
 -- The laws by which `write_number`, `write_list` are proved.
 pub ruleset bytes = (four_stored, writing_start, writing_turn)

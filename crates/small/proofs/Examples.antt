@@ -38,22 +38,22 @@ letters = 65 ∷ 65 ∷ 65 ∷ 65 ∷ 65 ∷ 65 ∷ 65 ∷ 65 ∷ []
 
 -- The largest k and w, with an output of 8 R bytes; R is 1.
 inside : refusal (options 6 4096 50) letters 8 ≡ 0
-unfolding refusal outside not_uniform xdrop_bad threshold_bad any_byte options letters lt of_bits
+unfolding outside not_uniform xdrop_bad threshold_bad any_byte options letters lt of_bits
 inside = refl
 
 too_short : refusal (options 6 4096 50) letters 7 ≡ 11
-unfolding refusal outside not_uniform xdrop_bad threshold_bad any_byte options letters lt of_bits
+unfolding outside not_uniform xdrop_bad threshold_bad any_byte options letters lt of_bits
 too_short = refl
 
 -- One past each bound; 9 comes before 21, and 21 before 11.
 kmer_outside_lem : refusal (options 7 4096 50) letters 0 ≡ 21
-unfolding refusal outside not_uniform xdrop_bad threshold_bad any_byte options letters lt of_bits
+unfolding outside not_uniform xdrop_bad threshold_bad any_byte options letters lt of_bits
 kmer_outside_lem = refl
 
 window_outside : refusal (options 6 4097 50) letters 8 ≡ 21
-unfolding refusal outside not_uniform xdrop_bad threshold_bad any_byte options letters lt of_bits
+unfolding outside not_uniform xdrop_bad threshold_bad any_byte options letters lt of_bits
 window_outside = refl
 
 xdrop_first : refusal (options 7 4096 0) letters 8 ≡ 9
-unfolding refusal outside not_uniform xdrop_bad threshold_bad any_byte options letters lt of_bits
+unfolding outside not_uniform xdrop_bad threshold_bad any_byte options letters lt of_bits
 xdrop_first = refl

@@ -62,7 +62,6 @@ no_refusal p1 p2 p13 p3 p4 p5 p6 p7 p8 p9 p10 p11 = rw (p1, p2, p13, p3, p4, p5,
 
 module _ (o : LongdustOptions) (s : List ℕ) (room : ℕ) (e : refusal o s room ≡ 0) where
   passed : (j : ℕ) → (get_or (checks o s room) j (check 0 false)).fails ≡ false
-  unfolding refusal
   passed j = passes (checks o s room) refl e j
 
   inside : (o.kmer ≤ 6) × (o.window_size ≤ 4096) × (length s ≤ 4096) × (not_uniform o.gc ≡ false)

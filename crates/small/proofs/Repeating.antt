@@ -22,7 +22,7 @@ use Rattle.scans.specs.Counts.{count, raise}
 use Rattle.scans.proofs.Counting.{hit_other, count_le, count_snoc, Counted, raise_counted, cleared_counted}
 use Rattle.step.specs.Step.{intervals_of}
 use Rattle.step.proofs.Quiet.{quiet_intervals}
-use Rattle.intervals.specs.Interval.{Interval}
+use Rattle.intervals.specs.declared.Interval.{Interval}
 use Rattle.intervals.specs.Merge.{interleave, nonempty, join, merge, backwards}
 use Rattle.longdust.specs.declared.LongdustOptions.{LongdustOptions}
 use Rattle.longdust.specs.Mask.{setup, mask}

@@ -9,7 +9,8 @@ use lib.Ieee.{Float}
 use Rattle.buffers.specs.Fill.{put}
 use Rattle.checks.specs.Tests.{most_intervals}
 use Rattle.letters.specs.Code.{codes}
-use Rattle.intervals.specs.Interval.{Interval, Canonical, Wrote, list_of}
+use Rattle.intervals.specs.declared.Interval.{Interval}
+use Rattle.intervals.specs.Interval.{Canonical, Wrote}
 use Rattle.intervals.proofs.Slice.{wrote_list}
 use Rattle.intervals.proofs.Shape.{canonical_room}
 use Rattle.tables.specs.declared.Density.{Density}
@@ -67,7 +68,7 @@ module _ {o : LongdustOptions} {s : List ℕ} (a : Asked o s) {b b' : Buffers} {
       record { list = list; shape = subst (λ (is : List Interval). Canonical (length s) o.kmer is) (wrote_list list) R.shape }
 
 -- The work space before the run, whatever the tables, the candidates and the lists are.
-abbrev fresh : List Float → List Float → List ForwardPosition → List (List ℕ) → List (List ℕ) → List (List ℕ) → Buffers
+abbrev fresh : List Float → List Float → List ForwardPosition → List Interval → List Interval → List Interval → Buffers
 fresh ln f candidates forward_list reverse_list list =
     buffers
     ln
@@ -83,13 +84,13 @@ fresh ln f candidates forward_list reverse_list list =
     list
     (replicate 2048 0)
 
-pub ran : (ln f : List Float) (cs : List ForwardPosition) (fl rl xs : List (List ℕ)) → length ln ≡ 4097 → length f ≡ 4098 → length cs ≡ 4096 → length fl ≡ 2048 → length rl ≡ 2048 → length xs ≡ 2048
+pub ran : (ln f : List Float) (cs : List ForwardPosition) (fl rl xs : List Interval) → length ln ≡ 4097 → length f ≡ 4098 → length cs ≡ 4096 → length fl ≡ 2048 → length rl ≡ 2048 → length xs ≡ 2048
     → {o : LongdustOptions} {s : List ℕ} {b' : Buffers} {r : Answer} → Asked o s → Serve o s ln f → Answered Kept o s (fresh ln f cs fl rl xs) b' r
     → Ran o s xs b'.list r.count
 ran ln f cs fl rl xs ll lf lc lfl lrl lx a t A = ran_lent a A (simp (length-replicate, ll, lf, lc, lfl, lrl, lx)) t
 
 -- An accepted request of the profile: the list that the run leaves, and what is written of it.
-module _ {o : LongdustOptions} {s : List ℕ} {xs xs' : List (List ℕ)} {count : ℕ} (run : Ran o s xs xs' count) (room : ℕ) (e : small_refusal o s room ≡ 0) where
+module _ {o : LongdustOptions} {s : List ℕ} {xs xs' : List Interval} {count : ℕ} (run : Ran o s xs xs' count) (room : ℕ) (e : small_refusal o s room ≡ 0) where
   intervals_few : count ≤ most_intervals (length s) o.kmer
   intervals_few = omega (arith, run.list.count_is, canonical_room (length s) o.kmer (filled_mask o s) run.shape)
 
@@ -99,5 +100,5 @@ module _ {o : LongdustOptions} {s : List ℕ} {xs xs' : List (List ℕ)} {count 
   pub bytes_room : 8 * length (take count xs') ≤ room
   bytes_room = omega (arith, intervals_few, output_room o s room e, length-take count xs')
 
-  pub bytes_held : (d : List ℕ) {d' : List ℕ} → d' ≡ put (bytes_of (list_of (take count xs'))) d → d' ≡ put (bytes_of (filled_mask o s)) d
+  pub bytes_held : (d : List ℕ) {d' : List ℕ} → d' ≡ put (bytes_of (take count xs')) d → d' ≡ put (bytes_of (filled_mask o s)) d
   bytes_held d p = p ∙ ap (λ (is : List Interval). put (bytes_of is) d) (wrote_list run.list)

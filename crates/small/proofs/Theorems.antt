@@ -9,7 +9,7 @@ use Rattle.buffers.specs.Fill.{put}
 use Rattle.checks.specs.Tests.{most_intervals}
 use Rattle.letters.specs.Code.{codes}
 use Rattle.letters.proofs.Codes.{codes_length}
-use Rattle.intervals.specs.Interval.{Interval}
+use Rattle.intervals.specs.declared.Interval.{Interval}
 use Rattle.tables.specs.Density.{density}
 use Rattle.tables.specs.Tables.{ln_table, f_table}
 use Rattle.longdust.specs.declared.LongdustOptions.{LongdustOptions}
@@ -18,36 +18,28 @@ use Rattle.longdust.specs.Mask.{setup, mask}
 use Rattle.longdust.specs.Buffers.{Buffers}
 use Rattle.longdust.specs.Call.{listed, Filled, Answered}
 use Rattle.mask.proofs.Masks.{mask_room}
-use Rattle.small.specs.declared.Written.{Written}
+use Rattle.small.specs.Profile.{refusal}
 use Rattle.small.specs.Bytes.{four_bytes, bytes_of}
-use Rattle.small.specs.Call.{filled_mask, Writes}
+use Rattle.small.specs.Call.{filled_mask}
 use Rattle.small.proofs.Profile.{kmer_some, list_room_lem}
 use Rattle.small.proofs.Runs.{mask_listed, mask_counted}
 
 -- An accepted request of the profile, and an accepted request of the filling call with the same options and sequence.
-pub as_the_filling_call : (o : LongdustOptions) (s : List ℕ) {d d' : List ℕ} {q : Written} {b b' : Buffers} {r : Answer}
-    → Writes o s d d' q → q.refusal ≡ 0 → Answered Filled o s b b' r → r.refusal ≡ 0
-    → (q.count ≡ r.count) × (d' ≡ put (bytes_of (listed r b')) d)
-as_the_filling_call o s {d} W e A h =
-    let w = W.accepted e in (
-      w.0 ∙ sym (mask_counted o s A h),
-      w.1 ∙ ap (λ (is : List Interval). put (bytes_of is) d) (sym (mask_listed o s A h)),
-    )
+pub as_the_filling_call : (o : LongdustOptions) (s d d' : List ℕ) {count : ℕ} {b b' : Buffers} {r : Answer}
+    → count ≡ length (filled_mask o s) → d' ≡ put (bytes_of (filled_mask o s)) d → Answered Filled o s b b' r → r.refusal ≡ 0
+    → (count ≡ r.count) × (d' ≡ put (bytes_of (listed r b')) d)
+as_the_filling_call o s d d' counted written A h =
+    (counted ∙ sym (mask_counted o s A h), written ∙ ap (λ (is : List Interval). put (bytes_of is) d) (sym (mask_listed o s A h)))
 
 -- At most 2,048 intervals are written.
-pub count_few : {o : LongdustOptions} {s d d' : List ℕ} {q : Written} → Writes o s d d' q → q.count ≤ 2048
+pub count_few : (o : LongdustOptions) (s : List ℕ) (room : ℕ) → refusal o s room ≡ 0 → length (filled_mask o s) ≤ 2048
 unfolding filled_mask mask setup
-count_few {o} {s} {d} {q = q} W = go q.refusal refl
-  where
-    go : (n : ℕ) → q.refusal ≡ n → q.count ≤ 2048
-    go zero e =
-        let w = o.window_size in
-        let S = setup o (ln_table w) (f_table o.kmer w (density o.kmer o.gc (codes s))) in
-        let passed = sym W.number ∙ e in
-        let few = mask_room S o.forward_only (codes s) (kmer_some o s (length d) passed) in
-        let room = subst (λ (n : ℕ). length (filled_mask o s) ≤ most_intervals n o.kmer) (codes_length s) few in
-        omega (arith, (W.accepted e).0, list_room_lem o s (length d) passed)
-    go (suc n) e = omega (arith, (W.refused (omega arith)).0)
+count_few o s room passed =
+    let w = o.window_size in
+    let S = setup o (ln_table w) (f_table o.kmer w (density o.kmer o.gc (codes s))) in
+    let few = mask_room S o.forward_only (codes s) (kmer_some o s room passed) in
+    let most = subst (λ (n : ℕ). length (filled_mask o s) ≤ most_intervals n o.kmer) (codes_length s) few in
+    omega (arith, list_room_lem o s room passed)
 
 -- The number that four bytes stand for.
 digits_back : (x q r q₂ r₂ q₃ r₃ : ℕ) → q * 256 + r ≡ x → q₂ * 256 + r₂ ≡ q → q₃ * 256 + r₃ ≡ q₂ → r + 256 * r₂ + 65536 * r₃ + 16777216 * q₃ ≡ x

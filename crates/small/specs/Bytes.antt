@@ -1,6 +1,6 @@
 -- The small profile: intervals as bytes.
 use Rattle.std.specs.Prelude.{ℕ, ◌/◌, ◌%◌, List, [], ◌∷◌, ◌++◌}
-use Rattle.intervals.specs.Interval.{Interval}
+use Rattle.intervals.specs.declared.Interval.{Interval}
 
 -- A number below 2^32 as four bytes, lowest first.
 abbrev pub four_bytes : ℕ → List ℕ

@@ -36,5 +36,5 @@ checks o s room =
     ∷ []
 
 -- The number of the first check that fails; 0 if none does.
-unfoldable pub refusal : LongdustOptions → List ℕ → ℕ → ℕ
+abbrev pub refusal : LongdustOptions → List ℕ → ℕ → ℕ
 refusal o s room = first (checks o s room)

@@ -2,21 +2,20 @@
 
 #![tactic(auto)]
 
-ghost use Rattle.std.specs.Prelude.{◌≡◌, ◌+◌, ◌*◌, ◌≤◌, ◌<◌, ltb, length};
+ghost use Rattle.std.specs.Prelude.{◌≡◌, ◌+◌, ◌*◌, ◌≤◌, ◌<◌, ltb, length, IfOk, OnOk, OnErr};
 ghost use Rattle.buffers.specs.Fill.{put, put_at};
 ghost use Rattle.checks.specs.Tests.{most_intervals};
-ghost use Rattle.intervals.specs.Interval.{interval, list_of};
+ghost use Rattle.intervals.specs.Interval.{interval};
 ghost use Rattle.small.specs.Profile.{not_uniform, outside, refusal};
 ghost use Rattle.small.specs.Bytes.{four_bytes, bytes_of, pair_bytes};
-ghost use Rattle.small.specs.Call.{Writes};
+ghost use Rattle.checks.specs.Refusal.{number_of};
+ghost use Rattle.small.specs.Call.{filled_mask};
 ghost use Rattle.small.specs.Terms.Run.{Asked, FilledTo, Serve, Ran};
 
 mod quiet;
 
-use checks::{
-    find_bytes, kmer_outside, min_start_below, next_check, threshold_bad, too_few_letters,
-    window_above, window_below,
-};
+use checks::{Refusal, check_sequence, min_start_below, threshold_bad};
+use intervals::Interval;
 use longdust::LongdustOptions;
 use scans::ForwardPosition;
 use tables::GcOption;
@@ -30,23 +29,12 @@ pub const MOST_LETTERS: usize = 4096;
 
 const LIST_ROOM: usize = 2048;
 
-// The refusal number and 0, or 0 and how many intervals were written.
-#[derive(Clone, Copy)]
-pub struct Written {
-    pub refusal: u32,
-    pub count: usize,
-}
-
 // ---- The checks.
 #[tactic(auto, unfolding(crate::specs::Profile::not_uniform))]
 fn not_uniform(gc: GcOption) -> bool
     ensures { result ≡ not_uniform gc }
 {
-    match gc {
-        GcOption::Uniform => false,
-        GcOption::Fixed(_) => true,
-        GcOption::Auto => true,
-    }
+    !matches!(gc, GcOption::Uniform)
 }
 
 #[tactic(auto, unfolding(crate::specs::Profile::outside))]
@@ -68,26 +56,28 @@ fn below_bytes(room: usize, n: usize, k: usize) -> bool
     checks::below_intervals(room / 8, n, k)
 }
 
-// The number of the first check that fails, 0 if none does.
-fn check(sequence: &[u8], options: LongdustOptions, out: &[u8]) -> u32
-    ensures { result ≡ refusal options sequence.now (length out.now) }
+// The first check that fails; the output has room for so many bytes.
+fn check(sequence: &[u8], options: LongdustOptions, room: usize) -> Result<(), Refusal>
+    ensures { number_of result ≡ refusal options sequence.now room }
 {
     let n = sequence.len();
-    let k = options.kmer;
-    let w = options.window_size;
-    let xdrop = options.xdrop;
-    let bytes = find_bytes(sequence);
-    let r = next_check(0, 1, kmer_outside(k));
-    let r = next_check(r, 2, bytes.high);
-    let r = next_check(r, 13, bytes.other);
-    let r = next_check(r, 3, too_few_letters(n, k));
-    let r = next_check(r, 4, window_below(w, k));
-    let r = next_check(r, 5, window_above(w));
-    let r = next_check(r, 6, threshold_bad(options.score_threshold));
-    let r = next_check(r, 8, min_start_below(options.min_start_cnt));
-    let r = next_check(r, 9, longdust::xdrop_bad(xdrop));
-    let r = next_check(r, 21, outside(options, n));
-    next_check(r, 11, below_bytes(out.len(), n, k))
+    check_sequence(sequence, options.kmer, options.window_size)?;
+    if threshold_bad(options.score_threshold) {
+        return Err(Refusal::BadThreshold);
+    }
+    if min_start_below(options.min_start_cnt) {
+        return Err(Refusal::MinStartBelow);
+    }
+    if longdust::xdrop_bad(options.xdrop) {
+        return Err(Refusal::BadXdrop);
+    }
+    if outside(options, n) {
+        return Err(Refusal::OutsideProfile);
+    }
+    if below_bytes(room, n, options.kmer) {
+        return Err(Refusal::ShortSlice);
+    }
+    Ok(())
 }
 
 // ---- The bytes.
@@ -97,10 +87,7 @@ fn write_number(x: u32, out: &mut [u8], at: usize)
     requires { at + 4 ≤ length out.old }
     ensures { out.new ≡ put_at at (four_bytes x) out.old }
 {
-    out[at] = (x % 256) as u8;
-    out[at + 1] = (x / 256 % 256) as u8;
-    out[at + 2] = (x / 65536 % 256) as u8;
-    out[at + 3] = (x / 16777216 % 256) as u8;
+    out[at..at + 4].copy_from_slice(&x.to_le_bytes());
 }
 
 // Writes start and end.
@@ -114,29 +101,18 @@ fn write_pair(start: u32, end: u32, out: &mut [u8], at: usize)
 
 // Writes the intervals of the list to the front of the output.
 #[tactic(auto, using(crate::proofs::Bytes::bytes))]
-fn write_list(list: &[[u32; 2]], out: &mut [u8])
+fn write_list(list: &[Interval], out: &mut [u8])
     requires { 8 * length list.now ≤ length out.old }
-    ensures { out.new ≡ put (bytes_of (list_of list.now)) out.old }
+    ensures { out.new ≡ put (bytes_of list.now) out.old }
 {
     let mut i = 0;
     while i < list.len() {
-        write_pair(list[i][0], list[i][1], out, 8 * i);
+        write_pair(list[i].start, list[i].end, out, 8 * i);
         i += 1;
     }
 }
 
 // ---- The run.
-fn no_candidates() -> [ForwardPosition; 4096] {
-    [ForwardPosition {
-        pos: 0,
-        max_score: 0.0,
-    }; 4096]
-}
-
-fn no_intervals() -> [[u32; 2]; LIST_ROOM] {
-    [[0, 0]; LIST_ROOM]
-}
-
 // Fills the tables up to m, for uniform GC.
 fn fill_up_to(m: usize, k: usize, ln: &mut [f64], f: &mut [f64])
     requires m_bound { (m ≤ 4096) × (k ≤ 12) }
@@ -169,7 +145,7 @@ fn fill_read(letters: &[u8], options: LongdustOptions, ln: &mut [f64], f: &mut [
 }
 
 // Masks the letters in work buffers of its own; the intervals go to the front of the list. Answers how many there are.
-pub fn mask_letters(letters: &[u8], options: LongdustOptions, list: &mut [[u32; 2]]) -> usize
+pub fn mask_letters(letters: &[u8], options: LongdustOptions, list: &mut [Interval]) -> usize
     requires asked { Asked options letters.now }
     requires list_len { length list.old ≡ 2048 }
     ensures { Ran options letters.now list.old list.new result }
@@ -179,11 +155,14 @@ pub fn mask_letters(letters: &[u8], options: LongdustOptions, list: &mut [[u32; 
     let mut queue = [0u32; MOST_WINDOW];
     let mut window_counts = [0u16; 4096];
     let mut scan_counts = [0u16; 4096];
-    let mut candidates = no_candidates();
+    let mut candidates = [ForwardPosition {
+        pos: 0,
+        max_score: 0.0,
+    }; 4096];
     let mut codes = [0u8; MOST_LETTERS];
     let mut reverse_codes = [0u8; MOST_LETTERS];
-    let mut forward_list = no_intervals();
-    let mut reverse_list = no_intervals();
+    let mut forward_list = [Interval { start: 0, end: 0 }; LIST_ROOM];
+    let mut reverse_list = [Interval { start: 0, end: 0 }; LIST_ROOM];
     let mut marks = [0u8; LIST_ROOM];
     fill_read(letters, options, &mut ln, &mut f);
     let answer = longdust::process_tables(
@@ -205,22 +184,25 @@ pub fn mask_letters(letters: &[u8], options: LongdustOptions, list: &mut [[u32; 
     answer.count
 }
 
-// Writes the mask of the sequence to the front of `out`, each interval as its start and its end, four bytes each, lowest first.
-pub fn write_mask(sequence: &[u8], options: LongdustOptions, out: &mut [u8]) -> Written
-    ensures { Writes options sequence.now out.old out.new result }
+/// Writes the mask of the sequence to the front of `out`, each interval as its start and its end, four bytes each, lowest first.
+/// Returns the number of intervals written.
+pub fn write_mask(
+    sequence: &[u8],
+    options: LongdustOptions,
+    out: &mut [u8],
+) -> Result<usize, Refusal>
+    ensures count { IfOk result (λ count. count ≡ length (filled_mask options sequence.now)) }
+    ensures few { IfOk result (λ count. count ≤ 2048) }
+    ensures bytes { OnOk result (out.new ≡ put (bytes_of (filled_mask options sequence.now)) out.old) }
+    ensures refusal { number_of result ≡ refusal options sequence.now (length out.old) }
+    ensures err { OnErr result (out.new ≡ out.old) }
 {
-    let refusal = check(sequence, options, out);
-    if refusal != 0 {
-        return Written { refusal, count: 0 };
-    }
+    check(sequence, options, out.len())?;
     if quiet::is_quiet(sequence, options) {
-        return Written {
-            refusal: 0,
-            count: 0,
-        };
+        return Ok(0);
     }
-    let mut list = no_intervals();
+    let mut list = [Interval { start: 0, end: 0 }; LIST_ROOM];
     let count = mask_letters(sequence, options, &mut list);
     write_list(&list[..count], out);
-    Written { refusal: 0, count }
+    Ok(count)
 }

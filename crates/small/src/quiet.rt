@@ -32,13 +32,11 @@ fn repeats(codes: &[u8], k: usize, least: u16) -> bool
 {
     let mut counts = [0u16; 4096];
     let mut newest = letters::Kmer::new();
-    let mut i = 0;
-    while i < codes.len() {
-        newest = newest.next(codes[i], k);
+    for code in codes {
+        newest = newest.next(*code, k);
         if least <= raise_count(&mut counts, newest.entry(k)) {
             return true;
         }
-        i += 1;
     }
     false
 }

@@ -15,7 +15,8 @@ use Rattle.floats.proofs.Binary64.{near_as}
 use Rattle.floats.proofs.Sums.{err, half, err_small, zero_near}
 use Rattle.floats.proofs.Rounded.{Near, eps}
 use Rattle.letters.specs.Place.{Place, ambiguous, plain, Below, ReadAt, ReadFrom}
-use Rattle.intervals.specs.Interval.{Interval, Covers}
+use Rattle.intervals.specs.declared.Interval.{Interval}
+use Rattle.intervals.specs.Interval.{Covers}
 use Rattle.intervals.proofs.Order.{lt_or_le}
 use Rattle.intervals.proofs.Saving.{save_covers}
 use Rattle.scans.specs.Setup.{Setup, kmers}

@@ -13,7 +13,7 @@ use Rattle.letters.specs.Place.{Place, ambiguous, plain, place_at}
 use Rattle.letters.specs.Terms.Entry.{decode}
 use Rattle.letters.specs.Terms.Rolling.{kmer_after, entry_of}
 use Rattle.letters.proofs.Rolling.{entry_below, entry_place}
-use Rattle.intervals.specs.Interval.{Interval}
+use Rattle.intervals.specs.declared.Interval.{Interval}
 use Rattle.scans.specs.declared.Params.{Params}
 use Rattle.scans.specs.Setup.{Setup}
 use Rattle.scans.specs.Terms.Numbers.{setup_of}

@@ -8,7 +8,6 @@ pub mod Agreeing
 pub mod Quiet
 pub mod Theorems
 pub mod Examples
-pub mod Signed
 pub mod Moving
 pub mod Searching
 pub mod Finding

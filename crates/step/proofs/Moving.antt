@@ -21,7 +21,7 @@ use Rattle.scans.specs.Terms.Numbers.{setup_of}
 use Rattle.scans.specs.Counts.{count, raise, lower}
 use Rattle.scans.specs.Terms.Window.{queue, ring_index, window, counted_value, Windowed}
 use Rattle.scans.proofs.Counting.{Counted, hit_self, count_le, raise_counted, lower_counted}
-use Rattle.scans.proofs.Ring.{ring_index_at, queue_length, queue_join, queue_leave, window_join, window_leave, window_length}
+use Rattle.scans.proofs.Rings.{ring_index_at, queue_length, queue_join, queue_leave, window_join, window_leave, window_length}
 use Rattle.scans.proofs.Values.{decode_below, decoded_below, even_plain, odd_ambiguous}
 use Rattle.scans.proofs.Windows.{long}
 use Rattle.step.specs.Step.{sum_without, sum_with, last_q_without, without_oldest, leave, join}
@@ -139,9 +139,6 @@ module _ {p : Params} {ring : List ℕ} {head len : ℕ} {counts : List ℕ} {n 
   module _ (room : len < p.window_size) where
     abbrev next : ℕ
     next = ring_index p.window_size head len
-
-    pub next_in : {i : ℕ} → i ≡ next → i < length ring
-    next_in h = omega (arith, (ring_index_at p.window_size head len w.head_in w.len_in).0, w.ring_is)
 
     -- A window count is at most the number of entries.
     pub count_room : (x : ℕ) → (get_or counts x 0 < 65535) × (get_or counts x 0 + 1 < n)

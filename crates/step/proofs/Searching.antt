@@ -17,7 +17,7 @@ use Rattle.floats.specs.Binary64.{zero64, number}
 use Rattle.letters.specs.Place.{Place, ambiguous, plain, Below}
 use Rattle.letters.specs.Terms.Entry.{decode, decoded}
 use Rattle.letters.proofs.Entries.{decode_plain, decode_ambiguous}
-use Rattle.intervals.specs.Interval.{Interval}
+use Rattle.intervals.specs.declared.Interval.{Interval}
 use Rattle.scans.specs.declared.Params.{Params}
 use Rattle.search.specs.declared.Carry.{Carry}
 use Rattle.search.specs.declared.Scanned.{Scanned}
@@ -59,18 +59,6 @@ pub tried : (p : Params) (f : List Float) (a : State) {end last start : ℤ} {at
 tried p f a he hl hs x y z = rw (x, y, z, he, hl, hs)
 
 -- ---- The extension.
-module _ {p : Params} {ln f : List Float} {a : State} {x : ℕ} {counts : List ℕ} {b : Bool} where
-  pub extended_tried : {r : Bool} {counts' : List ℕ} → b ≡ tried_by p f a → b ≡ true → Extends (setup_of p ln f) counts a.window.len x r counts'
-      → Extended p ln f a x counts r counts'
-  extended_tried e t h =
-      record {
-        answer = h.answer ∙ ap (λ (z : Bool). z && extends (setup_of p ln f) counts a.window.len x) (sym t ∙ e);
-        counts_are = h.counts_are;
-      }
-
-  pub extended_untried : b ≡ tried_by p f a → b ≡ false → Extended p ln f a x counts false counts
-  extended_untried e t = record { answer = ap (λ (z : Bool). z && extends (setup_of p ln f) counts a.window.len x) (sym t ∙ e); counts_are = refl }
-
 -- In a window that holds, it is the definitions' extension.
 module _ {p : Params} {ln f : List Float} {a : State} {x : ℕ} {r : Bool} {counts counts' : List ℕ}
     (h : Extended p ln f a x counts r counts') {ring window_counts : List ℕ} (w : Windowed p ring a.window.head a.window.len window_counts (length ln)) (saved : List Interval) where
@@ -135,28 +123,18 @@ module _ (S : Setup) (i : ℕ) (a : Run) (e : ℕ) where
 
 -- ---- No find: what the carried scan makes of the newest entry.
 module _ {S : Setup} {q : List Place} {w : Window} {counts : List ℕ} where
-  pub passes_on : {l : ℕ} {carry : Carry} {counts' : List ℕ} → w.carry.on ≡ true → l ≡ whole w.last_q
-      → ((q₀ : List Place) (e : Place) → q ≡ q₀ ++ e ∷ [] → CarriesOn S q₀ e l w.carry carry counts counts') → Passes S q w (rescanned w w.live carry) counts counts'
-  passes_on {carry = carry} {counts'} on l_is h =
-      record {
-        off = λ off. absurd (true≢false (sym on ∙ off));
-        same = λ _. refl;
-        on = λ _ q₀ e joins. subst (λ (l : ℕ). CarriesOn S q₀ e l w.carry carry counts counts') l_is (h q₀ e joins);
-      }
-
   pub passes_off : w.carry.on ≡ false → Passes S q w w counts counts
   passes_off off = record { off = λ _. (refl, refl); same = λ _. refl; on = λ on. absurd (true≢false (sym on ∙ off)) }
 
 -- A carried scan can go on to an entry that has entered.
-pub passing : {p : Params} {ln f : List Float} {w : Window} {e n_f : ℕ} {ring window_counts counts : List ℕ} → Entered p ln f w e ring window_counts counts
-    → length counts ≡ 4 ^ p.kmer → p.window_size < n_f → Passing p w ring window_counts (length ln) n_f counts
-passing {w = w} {ring = ring} n c f =
+pub passing : {p : Params} {ln f : List Float} {w : Window} {e : ℕ} {ring window_counts counts : List ℕ} → Entered p ln f w e ring window_counts counts
+    → length counts ≡ 4 ^ p.kmer → Passing p w ring window_counts (length ln) counts
+passing {w = w} {ring = ring} n c =
     let k = n.known in
     let h = n.windowed in
     let q = window ring w.head (w.len - 1) in
     let j = whole w.last_q in
     record {
-      f_long = f;
       joining = λ on. record {
         windowed = h;
         some = n.some;

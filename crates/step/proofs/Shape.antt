@@ -10,7 +10,8 @@ use lib.IntN.{ℤ, pos, negsuc, ◌-ℤ◌}
 use lib.Signed.{lt_z}
 use Rattle.floats.proofs.Whole.{Is, is_as, is_sub}
 use Rattle.letters.specs.Place.{Place, ambiguous, plain, ReadAt, ReadFrom}
-use Rattle.intervals.specs.Interval.{Interval, Canonical}
+use Rattle.intervals.specs.declared.Interval.{Interval}
+use Rattle.intervals.specs.Interval.{Canonical}
 use Rattle.intervals.specs.Terms.Bounds.{EndsBelow}
 use Rattle.intervals.proofs.Shape.{ascending_more, canonical_room}
 use Rattle.intervals.proofs.Saving.{save_canonical, save_ends, ends_more}

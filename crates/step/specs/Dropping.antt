@@ -3,7 +3,7 @@
 use Rattle.std.specs.Prelude.{ℕ, ◌+◌, List, [], ◌∷◌, Bool, true, cond, ◌&&◌, ◌||◌, length, ℤ, pos}
 use Rattle.std.specs.Int.Signed.{lt_z, le_z}
 use Rattle.letters.specs.Place.{Place, places}
-use Rattle.intervals.specs.Interval.{Interval}
+use Rattle.intervals.specs.declared.Interval.{Interval}
 use Rattle.scans.specs.Setup.{Setup}
 use Rattle.scans.specs.Scans.{Find, none, at, Outcome}
 use Rattle.step.specs.Step.{Run, begin, leave, join, st2, save_from, saved_after, found_by}

@@ -5,7 +5,7 @@ use Rattle.std.specs.Float.Ieee.{lt}
 use Rattle.floats.specs.Arithmetic.{◌⊕◌, ◌⊖◌, ◌⊗◌}
 use Rattle.floats.specs.Binary64.{zero64, number}
 use Rattle.letters.specs.Place.{Place, ambiguous, plain, places}
-use Rattle.intervals.specs.Interval.{Interval}
+use Rattle.intervals.specs.declared.Interval.{Interval}
 use Rattle.intervals.specs.Save.{save}
 use Rattle.scans.specs.Setup.{Setup, ln_at, f_at}
 use Rattle.scans.specs.Counts.{count, raise, lower, cleared}

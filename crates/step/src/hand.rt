@@ -5,6 +5,8 @@ ghost use Rattle.scans.specs.Terms.Window.{find_of};
 ghost use Rattle.step.specs.Step.{first_letter, start_after, save_from, saved_after};
 ghost use Rattle.step.specs.Terms.Finding.{saved_in, Found, Saving};
 
+use intervals::Interval;
+
 // Its start and end, each -1 at first, and how many intervals are saved.
 #[derive(Clone, Copy)]
 pub struct Open {
@@ -42,7 +44,7 @@ fn start_after(start: i64, end: i64, s: i64) -> i64
 impl Open {
     // The interval is saved, if there is one; answers how many are saved then.
     #[tactic(auto, using(crate::proofs::Finding::closed))]
-    pub fn close(self, list: &mut [[u32; 2]]) -> usize
+    pub fn close(self, list: &mut [Interval]) -> usize
         requires { Saving self list.old }
         ensures { (saved_in result list.new ≡ save_from (saved_in self.count list.old) self.start self.end)
             × (result ≤ length list.new) }
@@ -57,7 +59,7 @@ impl Open {
     }
 
     // The same before a find from letter s on, unless s lies before the end.
-    fn close_before(self, s: i64, list: &mut [[u32; 2]]) -> usize
+    fn close_before(self, s: i64, list: &mut [Interval]) -> usize
         requires { Saving self list.old }
         ensures { (saved_in result list.new ≡ saved_after (saved_in self.count list.old) self.start self.end s)
             × (result ≤ length list.new) }
@@ -70,7 +72,7 @@ impl Open {
     }
 
     // The interval after a search at letter i: r is one past the index found in a window of `len` entries, 0 for none.
-    pub fn found(mut self, k: usize, i: usize, len: usize, r: usize, list: &mut [[u32; 2]]) -> Self
+    pub fn found(mut self, k: usize, i: usize, len: usize, r: usize, list: &mut [Interval]) -> Self
         requires i_bound { (i < 2147483648) × (len < 65536) × (r ≤ len) × (k ≤ 12) }
         requires saving { Saving self list.old }
         ensures { Found k i len self result (find_of r) (saved_in self.count list.old)

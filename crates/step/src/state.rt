@@ -3,8 +3,8 @@
 ghost use Rattle.std.specs.Prelude.{◌≡◌, true, List, ◌/◌, ◌^◌, ◌<◌, ◌≤◌, length, pos, ◌-ℤ◌, Float};
 ghost use Rattle.std.specs.Int.Signed.{le_z};
 ghost use Rattle.letters.specs.Terms.Rolling.{entry_of};
-ghost use Rattle.intervals.specs.Interval.{Interval};
-ghost use Rattle.scans.specs.Terms.Numbers.{setup_of};
+ghost use Rattle.intervals.specs.declared.Interval.{Interval};
+ghost use Rattle.scans.specs.Terms.Run.{as_setup};
 ghost use Rattle.scans.specs.Terms.Window.{window, Windowed};
 ghost use Rattle.step.specs.Terms.KnownCounts.{KnownCounts, Passing, sought, extended_of, answered_by};
 ghost use Rattle.step.specs.Terms.Entering.{held, newest_of, Next, Enters, unread};
@@ -13,6 +13,8 @@ ghost use Rattle.step.specs.Terms.Finding.{saved_in, Saving, TakesFind, PassedOn
 
 use crate::hand::Open;
 use crate::window::{Window, is_at};
+use intervals::Interval;
+use scans::{Ring, Setup};
 
 // What moves on letter by letter: the next letter i, the k-mer of the letters read, the window, and the interval in hand.
 // At letter i itself, once that has entered the window, the k-mer is that of letter i.
@@ -67,136 +69,120 @@ impl State {
     // Letter i enters the window: with a full queue the oldest entry leaves, then the new entry joins.
     pub fn enter(
         mut self,
-        p: scans::Params,
+        setup: &Setup,
         codes: &[u8],
-        ln: &[f64],
         queue: &mut [u32],
         window_counts: &mut [u16],
         scan_counts: &mut [u16],
     ) -> Self
-        requires { Next p codes.now (length ln.now) self queue.old window_counts.old (length scan_counts.old) }
-        ensures { (f : List Float) → KnownCounts (setup_of p ln.now f)
+        requires { Next setup.now.params codes.now (length setup.now.ln.now) self queue.old window_counts.old (length scan_counts.old) }
+        ensures { KnownCounts (as_setup setup.now)
             (window queue.old self.window.head self.window.len) self.window scan_counts.old
-            → Enters p codes.now ln.now f self result queue.old scan_counts.old
+            → Enters setup.now.params codes.now setup.now.ln.now setup.now.f.now self result queue.old scan_counts.old
             queue.new window_counts.new scan_counts.new }
     {
         let i = self.i;
-        self.kmer = self.kmer.next(codes[i], p.kmer);
-        let entry = self.kmer.entry(p.kmer);
+        self.kmer = self.kmer.next(codes[i], setup.params.kmer);
+        let entry = self.kmer.entry(setup.params.kmer);
         let room = self
             .window
-            .make_room(p, ln, queue, window_counts, scan_counts);
-        self.window = room.join(p, entry, ln, queue, window_counts);
+            .make_room(setup, queue, window_counts, scan_counts);
+        self.window = room.join(setup, entry, queue, window_counts);
         self
     }
 
     // Whether letter i is searched from: its place is plain, and its count at least min_start_cnt.
     #[tactic(auto, using(crate::proofs::Moving::by_lowest_bit))]
-    pub fn is_searched(self, p: scans::Params, window_counts: &[u16]) -> bool
-        requires { (self.kmer.value < 16777216) × (entry_of p.kmer self.kmer / 2 < length window_counts.now) }
-        ensures { result ≡ is_searched p.min_start_cnt window_counts.now (newest_of p self) }
+    pub fn is_searched(self, setup: &Setup, window_counts: &[u16]) -> bool
+        requires { (self.kmer.value < 16777216) × (entry_of setup.now.params.kmer self.kmer / 2 < length window_counts.now) }
+        ensures { result ≡ is_searched setup.now.params.min_start_cnt window_counts.now (newest_of setup.now.params self) }
     {
-        let entry = self.kmer.entry(p.kmer);
+        let entry = self.kmer.entry(setup.params.kmer);
         if entry & 1 != 0 {
             return false;
         }
         let kmer = (entry >> 1) as usize;
-        window_counts[kmer] >= p.min_start_cnt
+        window_counts[kmer] >= setup.params.min_start_cnt
     }
 
     // Letter i is no find: a carried scan goes on to it.
     pub fn passed(
         mut self,
-        p: scans::Params,
-        ln: &[f64],
-        f: &[f64],
+        setup: &Setup,
         queue: &[u32],
         window_counts: &[u16],
         scan_counts: &mut [u16],
     ) -> Self
         requires i_bound { self.i < 2147483648 }
-        requires passing { Passing p self.window queue.now window_counts.now (length ln.now) (length f.now) scan_counts.old }
-        ensures { PassedOn p ln.now f.now queue.now self result scan_counts.old
+        requires passing { Passing setup.now.params self.window queue.now window_counts.now (length setup.now.ln.now) scan_counts.old }
+        ensures { PassedOn setup.now.params setup.now.ln.now setup.now.f.now queue.now self result scan_counts.old
             scan_counts.new }
     {
-        self.window = self
-            .window
-            .passed(p, ln, f, queue, window_counts, scan_counts);
+        self.window = self.window.passed(setup, queue, window_counts, scan_counts);
         self.i += 1;
         self
     }
 
     // Letter i is settled: the window with the scan counts that the search left, and one past the index found, 0 for none.
-    fn settled(
-        mut self,
-        p: scans::Params,
-        window: Window,
-        found: usize,
-        list: &mut [[u32; 2]],
-    ) -> Self
-        requires i_bound { (self.i < 2147483648) × (window.len < 65536) × (found ≤ window.len) × (p.kmer ≤ 12) }
+    fn settled(mut self, setup: &Setup, window: Window, found: usize, list: &mut [Interval]) -> Self
+        requires i_bound { (self.i < 2147483648) × (window.len < 65536) × (found ≤ window.len) × (setup.now.params.kmer ≤ 12) }
         requires saving { Saving self.hand list.old }
-        ensures { TakesFind p.kmer self (sought window found) result
+        ensures { TakesFind setup.now.params.kmer self (sought window found) result
             (saved_in self.hand.count list.old) (saved_in result.hand.count list.new)
             × (result.hand.count ≤ length list.new) }
     {
-        self.hand = self.hand.found(p.kmer, self.i, window.len, found, list);
+        self.hand = self
+            .hand
+            .found(setup.params.kmer, self.i, window.len, found, list);
         self.window = window.found(found);
         self.i += 1;
         self
     }
 
     // Letter i is a find by extension, at the oldest entry.
-    pub fn extended(self, p: scans::Params, list: &mut [[u32; 2]]) -> Self
-        requires i_bound { (self.i < 2147483648) × (self.window.len < 65536) × (1 ≤ self.window.len) × (p.kmer ≤ 12) }
+    pub fn extended(self, setup: &Setup, list: &mut [Interval]) -> Self
+        requires i_bound { (self.i < 2147483648) × (self.window.len < 65536) × (1 ≤ self.window.len) × (setup.now.params.kmer ≤ 12) }
         requires saving { Saving self.hand list.old }
-        ensures { TakesFind p.kmer self (extended_of self.window) result
+        ensures { TakesFind setup.now.params.kmer self (extended_of self.window) result
             (saved_in self.hand.count list.old) (saved_in result.hand.count list.new)
             × (result.hand.count ≤ length list.new) }
     {
-        self.settled(p, self.window.extended(), 1, list)
+        self.settled(setup, self.window.extended(), 1, list)
     }
 
     // The backward scan from letter i is answered.
-    pub fn answered(self, p: scans::Params, r: search::Scanned, list: &mut [[u32; 2]]) -> Self
-        requires i_bound { (self.i < 2147483648) × (self.window.len < 65536) × (r.found ≤ self.window.len) × (p.kmer ≤ 12) }
+    pub fn answered(self, setup: &Setup, r: search::Scanned, list: &mut [Interval]) -> Self
+        requires i_bound { (self.i < 2147483648) × (self.window.len < 65536) × (r.found ≤ self.window.len) × (setup.now.params.kmer ≤ 12) }
         requires saving { Saving self.hand list.old }
-        ensures { TakesFind p.kmer self (answered_by self.window r.found r.carry) result
+        ensures { TakesFind setup.now.params.kmer self (answered_by self.window r.found r.carry) result
             (saved_in self.hand.count list.old) (saved_in result.hand.count list.new)
             × (result.hand.count ≤ length list.new) }
     {
         let found = r.found;
-        self.settled(p, self.window.answered(found, r.carry), found, list)
+        self.settled(setup, self.window.answered(found, r.carry), found, list)
     }
 
     // Whether extend is tried at letter i: i = end, window score > 0, and last_q = 0 or i - start >= len.
-    fn extend_tried(self, p: scans::Params, f: &[f64]) -> bool
-        requires { (self.i < 2147483648) × (self.window.len < length f.now) × (self.window.len < 65536) }
-        ensures { result ≡ tried_by p f.now self }
+    fn extend_tried(self, setup: &Setup) -> bool
+        requires { (self.i < 2147483648) × (self.window.len ≤ setup.now.params.window_size) × (self.window.len < 65536) }
+        ensures { result ≡ tried_by setup.now.params setup.now.f.now self }
     {
         let len = self.window.len;
         let l = len as u32;
-        let score = self.window.sum - f[len] - (l as f64) * p.score_threshold;
+        let score = self.window.sum - setup.f[len] - (l as f64) * setup.params.score_threshold;
         let due = is_at(self.window.last_q, 0) | is_past(self.hand.start, self.i, len);
         is_at(self.hand.end, self.i) & ((score > 0.0) & due)
     }
 
     // Extends from letter i's k-mer if that is tried, and answers whether it succeeded.
-    fn extends(
-        self,
-        p: scans::Params,
-        kmer: u32,
-        ln: &[f64],
-        f: &[f64],
-        scan_counts: &mut [u16],
-    ) -> bool
-        requires { (self.i < 2147483648) × (0 < self.window.len) × (self.window.len ≤ p.window_size) × (p.window_size ≤ 65535)
-            × (p.window_size < length ln.now) × (p.window_size < length f.now) × (kmer < length scan_counts.old) }
-        ensures { Extended p ln.now f.now self kmer scan_counts.old result
+    fn extends(self, setup: &Setup, kmer: u32, scan_counts: &mut [u16]) -> bool
+        requires { (self.i < 2147483648) × (0 < self.window.len) × (self.window.len ≤ setup.now.params.window_size) × (setup.now.params.window_size ≤ 65535)
+            × (kmer < length scan_counts.old) }
+        ensures { Extended setup.now.params setup.now.ln.now setup.now.f.now self kmer scan_counts.old result
             scan_counts.new }
     {
-        if self.extend_tried(p, f) {
-            return scans::extend(p, self.window.len, kmer, ln, f, scan_counts);
+        if self.extend_tried(setup) {
+            return scans::extend(setup, self.window.len, kmer, scan_counts);
         }
         false
     }
@@ -204,34 +190,29 @@ impl State {
     // What letter i, which is searched from, leads to. An extension raises its scan count.
     pub fn look(
         self,
-        p: scans::Params,
-        ln: &[f64],
-        f: &[f64],
+        setup: &Setup,
         queue: &[u32],
         window_counts: &[u16],
         scan_counts: &mut [u16],
     ) -> Look
         requires i_bound { (self.i < 2147483648) × (0 < self.window.len) × (self.kmer.value < 16777216)
-            × (entry_of p.kmer self.kmer / 2 < 4 ^ p.kmer) × (length scan_counts.old ≡ 4 ^ p.kmer)
-            × (p.window_size < length f.now) }
-        requires windowed { Windowed p queue.now self.window.head self.window.len window_counts.now (length ln.now) }
-        requires self_value { is_searched p.min_start_cnt window_counts.now (newest_of p self) ≡ true }
-        ensures { (saved : List Interval) → Looks (setup_of p ln.now f.now) self.i
-            (held self queue.now scan_counts.old saved) (newest_of p self)
+            × (entry_of setup.now.params.kmer self.kmer / 2 < 4 ^ setup.now.params.kmer) × (length scan_counts.old ≡ 4 ^ setup.now.params.kmer) }
+        requires windowed { Windowed setup.now.params queue.now self.window.head self.window.len window_counts.now (length setup.now.ln.now) }
+        requires self_value { is_searched setup.now.params.min_start_cnt window_counts.now (newest_of setup.now.params self) ≡ true }
+        ensures { (saved : List Interval) → Looks (as_setup setup.now) self.i
+            (held self queue.now scan_counts.old saved) (newest_of setup.now.params self)
             result scan_counts.new }
     {
-        let kmer = self.kmer.entry(p.kmer) >> 1;
-        if self.extends(p, kmer, ln, f, scan_counts) {
+        let kmer = self.kmer.entry(setup.params.kmer) >> 1;
+        if self.extends(setup, kmer, scan_counts) {
             return Look::Extension;
         }
-        if scans::if_backward(
-            p,
-            queue,
-            self.window.head,
-            self.window.len,
-            window_counts,
-            ln,
-        ) {
+        let ring = Ring {
+            queue: queue,
+            head: self.window.head,
+            len: self.window.len,
+        };
+        if scans::if_backward(setup, &ring, window_counts) {
             return Look::Scan;
         }
         Look::Pass

@@ -3,14 +3,16 @@
 ghost use Rattle.std.specs.Prelude.{◌≡◌, ◌+◌, ◌/◌, ◌^◌, ◌<◌, ◌≤◌, length, get_or, replicate};
 ghost use Rattle.letters.specs.Place.{plain};
 ghost use Rattle.letters.specs.Terms.Entry.{decode};
-ghost use Rattle.scans.specs.Terms.Numbers.{setup_of};
 ghost use Rattle.scans.specs.Counts.{raise, lower};
 ghost use Rattle.scans.specs.Terms.Window.{find_of, window, Windowed};
 ghost use Rattle.scans.specs.Terms.Parts.{Queued};
+ghost use Rattle.scans.specs.Terms.Run.{as_setup};
 ghost use Rattle.step.specs.Step.{whole, last_q_without, is_at};
 ghost use Rattle.step.specs.Terms.KnownCounts.{Passing, Passes, Clearing, extended_of, answered_by};
 ghost use Rattle.step.specs.Terms.Entering.{sum_less, sum_more, Left, Joined};
 ghost use Rattle.step.specs.Terms.Finding.{last_q_by};
+
+use scans::{Ring, Setup};
 
 // The window's float sum, last_q, and where its entries stand in the ring: `len` of them, the oldest at `head`.
 // Unless `live`, all scan counts are 0; `carry` is the forward scan from last_q on.
@@ -86,27 +88,26 @@ impl Window {
     // The oldest entry leaves a full queue; last_q = 0 lowers its scan count, unless all are 0, and ends a carried scan, which began there.
     fn leave(
         mut self,
-        p: scans::Params,
-        ln: &[f64],
+        setup: &Setup,
         queue: &[u32],
         window_counts: &mut [u16],
         scan_counts: &mut [u16],
     ) -> Self
-        requires len_value { (self.len ≡ p.window_size) × (length scan_counts.old ≡ 4 ^ p.kmer) }
-        requires windowed { Windowed p queue.now self.head self.len window_counts.old (length ln.now) }
-        ensures { Left p ln.now self result queue.now scan_counts.old
+        requires len_value { (self.len ≡ setup.now.params.window_size) × (length scan_counts.old ≡ 4 ^ setup.now.params.kmer) }
+        requires windowed { Windowed setup.now.params queue.now self.head self.len window_counts.old (length setup.now.ln.now) }
+        ensures { Left setup.now.params setup.now.ln.now self result queue.now scan_counts.old
             window_counts.new scan_counts.new }
     {
         let head = self.head;
         let last_q = self.last_q;
         let entry = queue[head];
-        self.sum = sum_without(self.sum, entry, ln, window_counts);
+        self.sum = sum_without(self.sum, entry, setup.ln, window_counts);
         if self.live & is_at(last_q, 0) {
             scans::lower_entry(scan_counts, entry);
-            self.carry = search::Carry::none();
+            self.carry = self.carry.ended();
         }
         self.last_q = last_q_without(last_q);
-        self.head = scans::ring_index(p.window_size, head, 1);
+        self.head = scans::ring_index(setup.params.window_size, head, 1);
         self.len -= 1;
         self
     }
@@ -114,40 +115,39 @@ impl Window {
     // If the queue is full, the oldest entry leaves.
     pub fn make_room(
         self,
-        p: scans::Params,
-        ln: &[f64],
+        setup: &Setup,
         queue: &[u32],
         window_counts: &mut [u16],
         scan_counts: &mut [u16],
     ) -> Self
-        requires scan_counts_len { length scan_counts.old ≡ 4 ^ p.kmer }
-        requires windowed { Windowed p queue.now self.head self.len window_counts.old (length ln.now) }
-        ensures { Left p ln.now self result queue.now scan_counts.old
+        requires scan_counts_len { length scan_counts.old ≡ 4 ^ setup.now.params.kmer }
+        requires windowed { Windowed setup.now.params queue.now self.head self.len window_counts.old (length setup.now.ln.now) }
+        ensures { Left setup.now.params setup.now.ln.now self result queue.now scan_counts.old
             window_counts.new scan_counts.new }
     {
-        if self.len == p.window_size {
-            return self.leave(p, ln, queue, window_counts, scan_counts);
+        if self.len == setup.params.window_size {
+            self.leave(setup, queue, window_counts, scan_counts)
+        } else {
+            self
         }
-        self
     }
 
     // A new entry joins.
     pub fn join(
         mut self,
-        p: scans::Params,
+        setup: &Setup,
         entry: u32,
-        ln: &[f64],
         queue: &mut [u32],
         window_counts: &mut [u16],
     ) -> Self
-        requires len_bound { (self.len < p.window_size) × (entry / 2 < 4 ^ p.kmer) }
-        requires windowed { Windowed p queue.old self.head self.len window_counts.old (length ln.now) }
-        ensures { Joined p ln.now self result entry queue.old queue.new
+        requires len_bound { (self.len < setup.now.params.window_size) × (entry / 2 < 4 ^ setup.now.params.kmer) }
+        requires windowed { Windowed setup.now.params queue.old self.head self.len window_counts.old (length setup.now.ln.now) }
+        ensures { Joined setup.now.params setup.now.ln.now self result entry queue.old queue.new
             window_counts.new }
     {
-        let i = scans::ring_index(p.window_size, self.head, self.len);
+        let i = scans::ring_index(setup.params.window_size, self.head, self.len);
         queue[i] = entry;
-        self.sum = sum_with(self.sum, entry, ln, window_counts);
+        self.sum = sum_with(self.sum, entry, setup.ln, window_counts);
         self.len += 1;
         self
     }
@@ -155,31 +155,26 @@ impl Window {
     // No find: a carried scan goes on to the newest entry.
     pub fn passed(
         mut self,
-        p: scans::Params,
-        ln: &[f64],
-        f: &[f64],
+        setup: &Setup,
         queue: &[u32],
         window_counts: &[u16],
         scan_counts: &mut [u16],
     ) -> Self
-        requires { Passing p self queue.now window_counts.now (length ln.now) (length f.now) scan_counts.old }
-        ensures { Passes (setup_of p ln.now f.now) (window queue.now self.head self.len) self result
+        requires { Passing setup.now.params self queue.now window_counts.now (length setup.now.ln.now) scan_counts.old }
+        ensures { Passes (as_setup setup.now) (window queue.now self.head self.len) self result
             scan_counts.old scan_counts.new }
     {
         if self.carry.on {
             let from = self.last_q_index();
-            let carry = self.carry.next(
-                p,
-                from,
-                queue,
-                self.head,
-                self.len,
-                window_counts,
-                ln,
-                f,
-                scan_counts,
-            );
-            self.carry = carry.copied();
+            let ring = Ring {
+                queue: queue,
+                head: self.head,
+                len: self.len,
+            };
+            let carry = self
+                .carry
+                .next(setup, from, &ring, window_counts, scan_counts);
+            self.carry = self.carry.replaced(carry);
         }
         self
     }
@@ -189,7 +184,7 @@ impl Window {
         ensures { result ≡ (extended_of self).window }
     {
         self.live = true;
-        self.carry = search::Carry::none();
+        self.carry = self.carry.ended();
         self
     }
 
@@ -198,7 +193,7 @@ impl Window {
         ensures { result ≡ (answered_by self found carry).window }
     {
         self.live = found != 0;
-        self.carry = carry;
+        self.carry = self.carry.replaced(carry);
         self
     }
 
@@ -210,7 +205,12 @@ impl Window {
     {
         if self.live {
             let from = self.last_q_index();
-            scans::clear_from(queue, self.head, self.len, from, scan_counts);
+            let ring = Ring {
+                queue: queue,
+                head: self.head,
+                len: self.len,
+            };
+            ring.clear_from(from, scan_counts);
         }
     }
 

@@ -1,6 +1,6 @@
 -- Low starts that are known while letters are read: what is left of the window in which they were found, when a search asks for them.
-use mathlib.Core.Path.{◌≡◌, refl, sym, ap, ◌∙◌, subst}
-use mathlib.Core.Bool.{false≢true}
+use mathlib.Core.Path.{◌≡◌, sym, ap, ◌∙◌, subst}
+use Rattle.std.specs.Prelude.{Option, Some, None, IfSome}
 use mathlib.Core.List.{List, []}
 use mathlib.Core.Logic.{⊎_elim}
 use Prim.Native.Nat.{ℕ, ◌+◌, ◌-◌, ◌≤◌, ◌<◌}
@@ -13,16 +13,15 @@ use Rattle.intervals.proofs.Order.{lt_or_le}
 use Rattle.scans.specs.Setup.{Setup, kmers}
 use Rattle.scans.specs.Counts.{cleared}
 use Rattle.scans.specs.Scans.{Find, Outcome}
-use Rattle.certificates.specs.declared.LowStarts.{LowStarts}
 use Rattle.search.specs.declared.Scanned.{Scanned}
 use Rattle.scans.specs.Terms.Window.{find_of}
 use Rattle.search.specs.Terms.Carry.{counts_left, Answers}
-use Rattle.certificates.specs.Terms.Low as certificates
+use Rattle.certificates.specs.Terms.Low.{LowBounds}
 use Rattle.scans.proofs.Counting.{below_take, below_drop}
 use Rattle.certificates.proofs.LowScan.{low_drop}
 use Rattle.strand.specs.declared.known.LowSince.{LowSince}
 use Rattle.strand.specs.Terms.ReadingOn.{run_to}
-use Rattle.strand.specs.Terms.LowStarts.{no_low, KnownLow, AsksLow, Renewed}
+use Rattle.strand.specs.Terms.LowStarts.{KnownLow, AsksLow}
 use Rattle.step.proofs.Placing.{newest, newest_length, window_newest}
 
 -- ---- The window after `made` places, in that after i places.
@@ -51,17 +50,17 @@ module _ (w : ℕ) (ps : List Place) {made i : ℕ} (earlier : made ≤ i) (h : 
       ∙ ap (λ (n : ℕ). drop n (take made ps)) (let n : i - w ≡ made - w + (i - w - (made - w)) = omega arith in n)
       ∙ sym (drop-drop (i - w - (made - w)) (made - w) (take made ps))
 
--- ---- What is known: nothing at first.
-pub known_none : {S : Setup} {codes : List ℕ} {i : ℕ} {c : LowSince} → c ≡ no_low → KnownLow S codes i c
-known_none e = rw e (record { made_in = omega arith; low = record { bounds = λ on. absurd (false≢true on) } })
-
-module _ {S : Setup} {codes : List ℕ} {i : ℕ} {c : LowSince} (k : KnownLow S codes i c) where
-  pub known_on : {j : ℕ} → i ≤ j → KnownLow S codes j c
-  known_on h = record { made_in = omega (arith, k.made_in); low = k.low }
+-- ---- What is known stays known.
+module _ (S : Setup) (codes : List ℕ) {i : ℕ} where
+  pub known_on : (c : Option LowSince) {j : ℕ} → i ≤ j → IfSome c (KnownLow S codes i) → IfSome c (KnownLow S codes j)
+  known_on None h k = tt
+  known_on (Some c) h k = record { made_in = omega (arith, k.made_in); low = k.low }
 
   -- At letter i, which has entered the window.
-  pub asks_low : {q : List Place} {len : ℕ} → 0 < S.window_size → i < length codes → length q ≡ len → q ≡ (run_to S codes (i + 1)).window → AsksLow S q len i c
-  asks_low {q} {len} some l n e =
+  pub asks_low : {q : List Place} {len : ℕ} → 0 < S.window_size → i < length codes → length q ≡ len → q ≡ (run_to S codes (i + 1)).window
+      → (c : Option LowSince) → IfSome c (KnownLow S codes i) → IfSome c (AsksLow S q len i)
+  asks_low some l n e None k = tt
+  asks_low {q} {len} some l n e (Some c) k =
       let w = S.window_size in
       let ps = places S.kmer codes in
       let made = c.made in
@@ -74,29 +73,11 @@ module _ {S : Setup} {codes : List ℕ} {i : ℕ} {c : LowSince} (k : KnownLow S
       ∙ newest_older w ps {made = made} {i = i + 1} (omega (arith, k.made_in)) (omega arith) (len - (i + 1 - made)) (omega (arith, sym n ∙ ap length now ∙ newest_length w (i + 1) ps (omega arith))) in
       record {
         made_in = k.made_in;
-        low = subst (λ (z : List Place). certificates.Low S z c.starts) (sym old)
+        low = subst (λ (z : List Place). LowBounds S z c.starts) (sym old)
             (low_drop S (newest w made ps) (below_drop (kmers S) (made - w) (take made ps) (below_take (kmers S) made ps (places_below S.kmer codes))) (omega (arith, newest_length w made ps (omega (arith, k.made_in)))) d c.starts
-            (subst (λ (z : List Place). certificates.Low S z c.starts) then k.low));
-      }
-
--- ---- After a search: what was known, or what is found in the window.
-module _ {S : Setup} {q : List Place} {i : ℕ} {c : LowSince} where
-  pub renewed_same : {counts : List ℕ} → Renewed S q i c c counts counts
-  renewed_same = record { known = λ codes e k. known_on k (omega arith); counts_are = refl }
-
-  pub renewed_found : {starts : LowStarts} {counts counts' : List ℕ} → certificates.FindsLow S q starts counts' → counts ≡ cleared S
-      → Renewed S q i c (record { starts = starts; made = i + 1 }) counts counts'
-  renewed_found {starts} h clear =
-      record {
-        known = λ codes e k. record { made_in = omega arith; low = subst (λ (z : List Place). certificates.Low S z starts) e h.low };
-        counts_are = h.clear ∙ sym clear;
+            (subst (λ (z : List Place). LowBounds S z c.starts) then k.low));
       }
 
 -- The answer of a search, with counts that are the same.
 pub answers_same : {S : Setup} {q : List Place} {o : Outcome} {r : Scanned} {counts counts' : List ℕ} → counts' ≡ counts → Answers S q o r counts → Answers S q o r counts'
 answers_same e h = rw e h
-
--- A search that finds nothing leaves cleared counts.
-pub answers_clear : {S : Setup} {q : List Place} {o : Outcome} {r : Scanned} {counts : List ℕ} → Answers S q o r counts → r.found ≡ 0 → counts ≡ cleared S
-answers_clear {S} {o = o} h e =
-    h.settles.counts_are ∙ ap (λ (f : Find). counts_left S f o.counts) (sym h.settles.find_is ∙ ap find_of e)

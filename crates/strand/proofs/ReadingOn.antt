@@ -12,7 +12,7 @@ use Rattle.letters.specs.Place.{Place, ambiguous, place_at, places}
 use Rattle.letters.specs.Terms.Rolling.{kmer_after, entry_of}
 use Rattle.letters.proofs.Places.{places_length, places_at}
 use Rattle.letters.proofs.Rolling.{value_small}
-use Rattle.intervals.specs.Interval.{Interval}
+use Rattle.intervals.specs.declared.Interval.{Interval}
 use Rattle.scans.specs.declared.Params.{Params}
 use Rattle.scans.specs.Setup.{Setup}
 use Rattle.scans.specs.Terms.Numbers.{setup_of}
@@ -52,10 +52,6 @@ module _ {p : Params} {ln f : List Float} {a a' : State} {ring window_counts cou
   passes_by : is_at a.hand.end (a.i + 1) ≡ false → (saved : List Interval) → Settled p ln f a a' ring window_counts counts saved counts' saved
   passes_by past saved = settles past n.windowed unfound (passed_find saved t)
 
--- No letter yet, letter i, and all letters.
-pub skims_none : {p : Params} {codes : List ℕ} {ln f : List Float} {a : State} {ring counts : List ℕ} → Skims p codes ln f a a ring counts ring counts
-skims_none = record { further = omega arith; hand_is = refl; onward = λ saved h l. l }
-
 pub next : {p : Params} {codes : List ℕ} {ln f : List Float} {n_counts : ℕ} {a : State} {ring window_counts counts : List ℕ} → Read p codes ln f a ring window_counts counts
     → p.kmer ≤ 12 → length codes < 2147483648 → n_counts ≡ 4 ^ p.kmer → a.i < length codes → Next p codes (length ln) a ring window_counts n_counts
 next v k n c l = record { kmer_small = k; letters_in = n; counts_is = c; i_in = l; kmer_is = v.kmer_is; windowed = v.windowed }
@@ -64,20 +60,8 @@ pub small : {p : Params} {codes : List ℕ} {ln f : List Float} {a a' : State} {
     → Enters p codes ln f a a' ring counts ring' window_counts' counts' → p.kmer ≤ 12 → a'.kmer.value < 16777216
 small {p} {codes} {a = a} {a'} n k = value_small p.kmer codes (a.i + 1) a'.kmer n.kmer_is k
 
-pub skimmed_all : {p : Params} {codes : List ℕ} {ln f : List Float} {from r : State} {ring₀ counts₀ ring window_counts counts : List ℕ}
-    → Skims p codes ln f from r ring₀ counts₀ ring counts → length codes ≤ r.i → Skimmed p codes ln f from r ring₀ counts₀ ring window_counts counts
-skimmed_all s h = record { ends = λ _. s; stops = λ l. absurd (let b : ⊥ = omega arith in b) }
-
 module _ {p : Params} {codes : List ℕ} {ln f : List Float} {a a₁ : State} (l : a.i < length codes)
     {ring counts ring' window_counts' counts₁ : List ℕ} (n : Enters p codes ln f a a₁ ring counts ring' window_counts' counts₁) where
-  pub skimmed_to : {from : State} {ring₀ counts₀ : List ℕ} → Skims p codes ln f from a ring₀ counts₀ ring counts
-      → is_searched p.min_start_cnt window_counts' (newest_of p a₁) ≡ true → Skimmed p codes ln f from a₁ ring₀ counts₀ ring' window_counts' counts₁
-  skimmed_to s t =
-      record {
-        ends = λ h. absurd (let b : ⊥ = omega (arith, h, n.i_is, l) in b);
-        stops = λ _. record { before = a; ring₀ = ring; counts₀ = counts; skims = s; enters = n; searched = t };
-      }
-
   module _ (h : is_searched p.min_start_cnt window_counts' (newest_of p a₁) ≡ false) {a' : State} {counts' : List ℕ} (t : PassedOn p ln f ring' a₁ a' counts₁ counts') where
     i_after : a'.i ≡ a.i + 1
     i_after = t.i_is ∙ ap (λ (i : ℕ). i + 1) n.i_is

@@ -13,8 +13,7 @@ use Rattle.letters.specs.Terms.Entry.{decoded}
 use Rattle.letters.specs.Terms.Rolling.{kmer_after, entry_of}
 use Rattle.letters.proofs.Places.{places_length, place_read}
 use Rattle.letters.proofs.Rolling.{kmer_none}
-use Rattle.intervals.specs.Interval.{Interval}
-use Rattle.intervals.proofs.Slice.{length_list}
+use Rattle.intervals.specs.declared.Interval.{Interval}
 use Rattle.scans.specs.declared.Params.{Params}
 use Rattle.scans.specs.Setup.{Setup}
 use Rattle.scans.specs.Terms.Numbers.{setup_of}
@@ -50,7 +49,7 @@ closing_of k i (pos s) (pos e) a b c d = (omega arith, omega arith)
 closing_of k i (pos s) (negsuc e) a b c d = absurd (let b : ⊥ = omega arith in b)
 closing_of k i (negsuc s) end a b c d = tt
 
-pub saving : {k i : ℕ} {o : Open} {list : List (List ℕ)} (n : ℕ) → 0 < k → n < 2147483648 → i ≤ n → (n + 1) / (k + 1) ≤ length list → o.count ≤ length list
+pub saving : {k i : ℕ} {o : Open} {list : List Interval} (n : ℕ) → 0 < k → n < 2147483648 → i ≤ n → (n + 1) / (k + 1) ≤ length list → o.count ≤ length list
     → ShapedList k i o.start o.end (saved_in o.count list) → Saving o list
 saving {k} {i} {o} {list} n some small l long count_in h =
     let r = saved_room n k i o.start o.end (saved_in o.count list) l h in
@@ -65,13 +64,13 @@ pub cleared_is : {counts : List ℕ} {n m : ℕ} → n ≡ m → counts ≡ repl
 cleared_is e h = h ∙ ap (λ (n : ℕ). replicate n 0) e
 
 -- What a part of the run asks of the slices, which are as long as they were.
-pub part_lent : {p : Params} {n n_ln n_f n_ring n_window_counts n_counts n_candidates n_list n_counts' n_list' : ℕ}
-    → StrandLent p n n_ln n_f n_ring n_window_counts n_counts n_candidates n_list → n_counts' ≡ 4 ^ p.kmer → n_list' ≡ n_list
-    → PartLent p n n_f n_counts' n_list'
+pub part_lent : {p : Params} {n n_ring n_window_counts n_counts n_candidates n_list n_counts' n_list' : ℕ}
+    → StrandLent p n n_ring n_window_counts n_counts n_candidates n_list → n_counts' ≡ 4 ^ p.kmer → n_list' ≡ n_list
+    → PartLent p n n_counts' n_list'
 part_lent l c e = rw (c ∙ sym l.part.counts_is, e) l.part
 
 -- ---- No letter yet.
-begun_is : (S : Setup) (ring counts : List ℕ) (list : List (List ℕ)) → counts ≡ cleared S → held unread ring counts (saved_in 0 list) ≡ begin S
+begun_is : (S : Setup) (ring counts : List ℕ) (list : List Interval) → counts ≡ cleared S → held unread ring counts (saved_in 0 list) ≡ begin S
 unfolding begin queue decoded
 begun_is S ring counts list h = rw h
 
@@ -79,13 +78,13 @@ begun_known : (S : Setup) (ring counts : List ℕ) → counts ≡ cleared S → 
 unfolding queue decoded
 begun_known S ring counts h = rw h known_unread
 
-module _ {p : Params} {codes : List ℕ} {ln f : List Float} {ring window_counts counts : List ℕ} {list : List (List ℕ)} where
-  pub inv_start : {n_f n_window_counts n_counts n_candidates n_list : ℕ} {a : State}
-      → StrandLent p (length codes) (length ln) n_f (length ring) n_window_counts n_counts n_candidates n_list
+module _ {p : Params} {codes : List ℕ} {ln f : List Float} {ring window_counts counts : List ℕ} {list : List Interval} where
+  pub inv_start : {n_window_counts n_counts n_candidates n_list : ℕ} {a : State}
+      → StrandLent p (length codes) (length ring) n_window_counts n_counts n_candidates n_list → p.window_size < length ln
       → (a ≡ unread) × (window_counts ≡ replicate n_window_counts 0) × (counts ≡ replicate n_counts 0)
       → Before p codes ln f a ring window_counts counts list
   unfolding run run_from queue decoded
-  inv_start l (e, hw, hc) =
+  inv_start l long (e, hw, hc) =
       let S = setup_of p ln f in
       let window_clear = cleared_is l.window_counts_are hw in
       let clear = cleared_is l.part.counts_is hc in
@@ -101,7 +100,7 @@ module _ {p : Params} {codes : List ℕ} {ln f : List Float} {ring window_counts
             small = l.small;
             head_in = omega (arith, l.wide);
             len_in = omega arith;
-            ln_long = l.ln_long;
+            ln_long = long;
             counts_long = rw window_clear (length-replicate (4 ^ p.kmer) 0);
             below = λ j m. absurd (let b : ⊥ = omega (arith, m) in b);
             counted = rw window_clear (cleared_counted (4 ^ p.kmer)).counted;
@@ -116,7 +115,7 @@ module _ {p : Params} {codes : List ℕ} {ln f : List Float} {ring window_counts
 run_end : (S : Setup) (codes : List ℕ) (i : ℕ) → length codes ≤ i → run_to S codes i ≡ run S (places S.kmer codes)
 run_end S codes i h = ap (λ (ps : List Place). run S ps) (take_all i (places S.kmer codes) (omega (arith, places_length S.kmer codes)))
 
-module _ {p : Params} {codes : List ℕ} {ln f : List Float} {a : State} {ring window_counts counts : List ℕ} {list : List (List ℕ)}
+module _ {p : Params} {codes : List ℕ} {ln f : List Float} {a : State} {ring window_counts counts : List ℕ} {list : List Interval}
     (v : Before p codes ln f a ring window_counts counts list) where
   -- ---- A letter that is searched from.
   module _ {r : State} {ring' window_counts' counts₁ : List ℕ} (s : Stops p codes ln f a r ring counts ring' window_counts' counts₁) (l : r.i < length codes) where
@@ -134,7 +133,7 @@ module _ {p : Params} {codes : List ℕ} {ln f : List Float} {a : State} {ring w
     pub past : is_at r.hand.end (r.i + 1) ≡ false
     past = not_ended r.hand stopped_hand stopped_further
 
-    pub inv_turn : {a' : State} {counts' : List ℕ} {list' : List (List ℕ)}
+    pub inv_turn : {a' : State} {counts' : List ℕ} {list' : List Interval}
         → Settled p ln f r a' ring' window_counts' counts₁ (saved_in r.hand.count list) counts' (saved_in a'.hand.count list')
         → a'.hand.count ≤ length list' → Before p codes ln f a' ring' window_counts' counts' list'
     inv_turn {a'} {counts'} {list'} t count_in =
@@ -190,7 +189,7 @@ module _ {p : Params} {codes : List ℕ} {ln f : List Float} {a : State} {ring w
       }
 
 -- ---- A letter that is searched from, by what the look answers.
-module _ {p : Params} {codes : List ℕ} {ln f : List Float} {a : State} {ring₀ window_counts₀ counts₀ : List ℕ} {list : List (List ℕ)}
+module _ {p : Params} {codes : List ℕ} {ln f : List Float} {a : State} {ring₀ window_counts₀ counts₀ : List ℕ} {list : List Interval}
     (v : Before p codes ln f a ring₀ window_counts₀ counts₀ list)
     {r : State} {ring window_counts counts : List ℕ} (s : Stops p codes ln f a r ring₀ counts₀ ring window_counts counts) (l : r.i < length codes)
     {look : Look} {counts₁ : List ℕ}
@@ -199,7 +198,7 @@ module _ {p : Params} {codes : List ℕ} {ln f : List Float} {a : State} {ring�
   entered = s.enters.entered
 
   -- Before the next letter, when what was sought is taken.
-  before_next : {q : Sought} {a' : State} {counts' : List ℕ} {list' : List (List ℕ)} → SeeksAt p ln f r ring counts q counts'
+  before_next : {q : Sought} {a' : State} {counts' : List ℕ} {list' : List Interval} → SeeksAt p ln f r ring counts q counts'
       → TakesFind p.kmer r q a' (saved_in r.hand.count list) (saved_in a'.hand.count list')
       → a'.hand.count ≤ length list' → Before p codes ln f a' ring window_counts counts' list'
   before_next t h count_in = inv_turn v s l (settles (past v s l) entered.windowed t h) count_in
@@ -209,8 +208,7 @@ module _ {p : Params} {codes : List ℕ} {ln f : List Float} {a : State} {ring�
   entered_as e = subst (λ (z : List ℕ). Entered p ln f r.window (entry_of p.kmer r.kmer) ring window_counts z) (sym e) entered
 
   -- Nothing more.
-  pub look_passing : {n_f : ℕ} → look ≡ Pass → length counts₁ ≡ 4 ^ p.kmer → p.window_size < n_f
-      → Passing p r.window ring window_counts (length ln) n_f counts₁
+  pub look_passing : look ≡ Pass → length counts₁ ≡ 4 ^ p.kmer → Passing p r.window ring window_counts (length ln) counts₁
   look_passing e = passing (entered_as (looked_counts (k []) e))
 
   pub before_passed : {a' : State} {counts' : List ℕ} → look ≡ Pass → PassedOn p ln f ring r a' counts₁ counts' → Before p codes ln f a' ring window_counts counts' list
@@ -222,7 +220,7 @@ module _ {p : Params} {codes : List ℕ} {ln f : List Float} {a : State} {ring�
       (subst (λ (o : Open). o.count ≤ length list) (sym (t.hand_is ∙ stopped_hand v s l)) v.count_in)
 
   -- A find by extension.
-  pub before_extended : {a' : State} {list' : List (List ℕ)} → look ≡ Extension
+  pub before_extended : {a' : State} {list' : List Interval} → look ≡ Extension
       → TakesFind p.kmer r (extended_of r.window) a' (saved_in r.hand.count list) (saved_in a'.hand.count list')
       → a'.hand.count ≤ length list' → Before p codes ln f a' ring window_counts counts₁ list'
   before_extended e h = before_next {q = extended_of r.window} (λ saved. seeks_extended (k saved) entered.known entered.newest e refl) h
@@ -232,19 +230,19 @@ module _ {p : Params} {codes : List ℕ} {ln f : List Float} {a : State} {ring�
     abbrev entered_still : Entered p ln f r.window (entry_of p.kmer r.kmer) ring window_counts counts₁
     entered_still = entered_as (looked_counts (k []) e)
 
-    pub scan_asking : length counts₁ ≡ 4 ^ p.kmer → p.window_size < length f → Asking p ln f r.window ring window_counts counts₁
-    scan_asking c h = record { some = entered.some; windowed = entered.windowed; known = entered_still.known; counts_is = c; f_long = h }
+    pub scan_asking : length counts₁ ≡ 4 ^ p.kmer → Asking p ln f r.window ring window_counts counts₁
+    scan_asking c = record { some = entered.some; windowed = entered.windowed; known = entered_still.known; counts_is = c }
 
-    answer_seeks : {b : Scanned} {counts' : List ℕ} → ScanAnswer p ln f r.window ring b counts'
+    answer_seeks : {b : Scanned} {counts' : List ℕ} → ScanAnswer (setup_of p ln f) r.window ring b counts'
         → SeeksAt p ln f r ring counts (answered_by r.window b.found b.carry) counts'
     answer_seeks h saved =
         seeks_scanned (k saved) e (seeks_answered (omega (arith, long entered.windowed, entered.some)) (window_below_lem entered.windowed) h refl)
 
     -- A carried scan tells its answer.
-    pub answer_within : {b : Scanned} {counts' : List ℕ} → ScanAnswer p ln f r.window ring b counts' → b.found ≤ r.window.len
+    pub answer_within : {b : Scanned} {counts' : List ℕ} → ScanAnswer (setup_of p ln f) r.window ring b counts' → b.found ≤ r.window.len
     answer_within h = found_within (setup_of p ln f) r.i r.hand entered (answer_seeks h [])
 
-    pub before_answered : {b : Scanned} {a' : State} {counts' : List ℕ} {list' : List (List ℕ)} → ScanAnswer p ln f r.window ring b counts'
+    pub before_answered : {b : Scanned} {a' : State} {counts' : List ℕ} {list' : List Interval} → ScanAnswer (setup_of p ln f) r.window ring b counts'
         → TakesFind p.kmer r (answered_by r.window b.found b.carry) a' (saved_in r.hand.count list) (saved_in a'.hand.count list')
         → a'.hand.count ≤ length list' → Before p codes ln f a' ring window_counts counts' list'
     before_answered {b} h = before_next {q = answered_by r.window b.found b.carry} (answer_seeks h)
@@ -263,9 +261,9 @@ module _ {p : Params} {codes : List ℕ} {ln f : List Float} {a : State} {ring�
         }
 
 -- The last interval is saved.
-pub last_saved : {p : Params} {codes : List ℕ} {ln f : List Float} {o : Open} {list list' : List (List ℕ)} {r : ℕ} → Finished p codes ln f o list
+pub last_saved : {p : Params} {codes : List ℕ} {ln f : List Float} {o : Open} {list list' : List Interval} {r : ℕ} → Finished p codes ln f o list
     → saved_in r list' ≡ save_from (saved_in o.count list) o.start o.end → r ≤ length list' → StrandList (setup_of p ln f) codes list' r
 unfolding intervals_of intervals_of_places
 last_saved {p} {codes} {ln} {f} {list' = list'} {r} ran h l =
     let same : saved_in r list' ≡ intervals_of (setup_of p ln f) codes = h ∙ rw (ran.saved_is, ran.start_is, ran.end_is) in
-    record { list_is = same; count_is = sym (length_list (take r list') ∙ length-take-le r list' l) ∙ ap (λ (is : List Interval). length is) same }
+    record { list_is = same; count_is = sym (length-take-le r list' l) ∙ ap (λ (is : List Interval). length is) same }

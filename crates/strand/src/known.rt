@@ -1,171 +1,129 @@
 // What is known of a backward scan that is due, before it is made.
 
-ghost use Rattle.std.specs.Prelude.{◌≡◌, ◌^◌, ◌<◌, length, replicate};
-ghost use Rattle.scans.specs.Terms.Numbers.{setup_of};
-ghost use Rattle.scans.specs.Terms.Shape.{Shaped};
-ghost use Rattle.scans.specs.Terms.Window.{window, Windowed};
+ghost use Rattle.std.specs.Prelude.{◌≡◌, List, ℕ, ◌+◌, ◌-◌, ◌<◌, IfSome, IfNone, length};
+ghost use Rattle.scans.specs.Counts.{cleared};
+ghost use Rattle.scans.specs.Terms.Run.{as_setup, entries_of, WindowCounted};
+ghost use Rattle.scans.specs.Terms.Window.{window};
 ghost use Rattle.search.specs.Terms.Fails.{TellsNone};
-ghost use Rattle.strand.specs.Terms.LowStarts.{no_low, Renewed, AsksLow};
-ghost use Rattle.strand.specs.Terms.Running.{Asking, Told, Foretells};
+ghost use Rattle.step.specs.Terms.KnownCounts.{Clearing};
+ghost use Rattle.strand.specs.Terms.ReadingOn.{run_to};
+ghost use Rattle.strand.specs.Terms.LowStarts.{KnownLow, AsksLow};
+ghost use Rattle.strand.specs.Terms.Running.{Asking, ScanAnswer};
 
+use certificates::LowStarts;
+use scans::{Ring, Setup};
+use search::{Answered, Scanned};
 use step::{State, Window};
 
 // Low starts, found when `made` letters were read.
 #[derive(Clone, Copy)]
 pub struct LowSince {
-    pub starts: certificates::LowStarts,
+    pub starts: LowStarts,
     pub made: usize,
 }
 
-impl LowSince {
-    // Nothing is known.
-    pub fn none() -> Self
-        ensures { result ≡ no_low }
-    {
-        LowSince {
-            starts: certificates::LowStarts::none(),
-            made: 0,
-        }
+// Low starts after the search at letter i, whose answer is r: those of the window where it found nothing, from cleared counts.
+pub fn renewed(
+    setup: &Setup,
+    low: Option<LowSince>,
+    i: usize,
+    r: Answered,
+    ring: &Ring,
+    window_counts: &[u16],
+    scan_counts: &mut [u16],
+) -> Option<LowSince>
+    requires i_bound { (i < 2147483648) × (r.scanned.found ≡ 0 → scan_counts.old ≡ cleared (as_setup setup.now)) }
+    requires windowed { WindowCounted setup.now ring.now window_counts.now }
+    ensures known { (codes : List ℕ) → entries_of ring.now ≡ (run_to (as_setup setup.now) codes (i + 1)).window
+        → IfSome low (KnownLow (as_setup setup.now) codes i) → IfSome result (KnownLow (as_setup setup.now) codes (i + 1)) }
+    ensures counts_are { scan_counts.new ≡ scan_counts.old }
+{
+    if r.scanned.found != 0 {
+        return low;
     }
+    let starts = certificates::find_low(setup, r.read, ring, window_counts, scan_counts)?;
+    Some(LowSince {
+        starts: starts,
+        made: i + 1,
+    })
+}
 
-    // Low starts after the search at letter i: those of the window where it found nothing, from cleared counts; `read` is how many entries it has read.
-    pub fn renewed(
-        self,
-        p: scans::Params,
-        st: State,
-        found: usize,
-        read: usize,
-        queue: &[u32],
-        window_counts: &[u16],
-        ln: &[f64],
-        f: &[f64],
-        scan_counts: &mut [u16],
-    ) -> Self
-        requires i_bound { (st.i < 2147483648) × (p.window_size < length f.now) × (found ≡ 0 → scan_counts.old ≡ replicate (4 ^ p.kmer) 0) }
-        requires windowed { Windowed p queue.now st.window.head st.window.len window_counts.now (length ln.now) }
-        requires shaped { Shaped p ln.now f.now }
-        ensures { Renewed (setup_of p ln.now f.now) (window queue.now st.window.head st.window.len)
-            st.i self result scan_counts.old scan_counts.new }
-    {
-        if found != 0 {
-            return self;
+// Whether low starts tell that the search at letter i finds nothing, from cleared counts, which are cleared again.
+fn tells(
+    setup: &Setup,
+    low: Option<LowSince>,
+    i: usize,
+    ring: &Ring,
+    window_counts: &[u16],
+    scan_counts: &mut [u16],
+) -> bool
+    requires i_bound { (i < 2147483648) × (scan_counts.old ≡ cleared (as_setup setup.now)) }
+    requires windowed { WindowCounted setup.now ring.now window_counts.now }
+    requires asks_low { IfSome low (AsksLow (as_setup setup.now) (entries_of ring.now) ring.now.len i) }
+    ensures { TellsNone (as_setup setup.now) (entries_of ring.now) result
+        scan_counts.new }
+{
+    match low {
+        Some(since) => {
+            let age = i + 1 - since.made;
+            certificates::low_tells(setup, since.starts, age, ring, window_counts, scan_counts)
         }
-        let starts = certificates::find_low(
-            p,
-            read,
-            queue,
-            st.window.head,
-            st.window.len,
-            window_counts,
-            ln,
-            f,
-            scan_counts,
-        );
-        LowSince {
-            starts: starts,
-            made: st.i + 1,
-        }
-    }
-
-    // Whether they tell that the search at letter i finds nothing, from cleared counts, which are cleared again.
-    fn tells(
-        self,
-        p: scans::Params,
-        st: State,
-        queue: &[u32],
-        window_counts: &[u16],
-        ln: &[f64],
-        f: &[f64],
-        scan_counts: &mut [u16],
-    ) -> bool
-        requires i_bound { (st.i < 2147483648) × (p.window_size < length f.now) × (scan_counts.old ≡ replicate (4 ^ p.kmer) 0) }
-        requires windowed { Windowed p queue.now st.window.head st.window.len window_counts.now (length ln.now) }
-        requires asks_low { AsksLow (setup_of p ln.now f.now) (window queue.now st.window.head st.window.len) st.window.len st.i self }
-        ensures { TellsNone (setup_of p ln.now f.now) (window queue.now st.window.head st.window.len) result
-            scan_counts.new }
-    {
-        certificates::low_tells(
-            p,
-            self.starts,
-            st.i + 1 - self.made,
-            queue,
-            st.window.head,
-            st.window.len,
-            window_counts,
-            ln,
-            f,
-            scan_counts,
-        )
+        None => false,
     }
 }
 
-// The answer of the backward scan that is due, where a carried scan tells it.
+// The answer of the backward scan that is due, where a carried scan tells it; else the scan counts can be cleared.
 fn certain(
-    p: scans::Params,
+    setup: &Setup,
     w: Window,
     queue: &[u32],
     window_counts: &[u16],
-    ln: &[f64],
-    f: &[f64],
     scan_counts: &mut [u16],
-) -> search::Scanned
-    requires asking { Asking p ln.now f.now w queue.now window_counts.now scan_counts.old }
-    requires shaped { Shaped p ln.now f.now }
-    ensures { Told p ln.now f.now w queue.now result scan_counts.new }
+) -> Option<Scanned>
+    requires { Asking setup.now.params setup.now.ln.now setup.now.f.now w queue.now window_counts.now scan_counts.old }
+    ensures told { IfSome result (λ r. ScanAnswer (as_setup setup.now) w queue.now r scan_counts.new) }
+    ensures untold { IfNone result (Clearing w (window queue.now w.head w.len) scan_counts.new) }
 {
-    if w.carry.on {
-        let from = w.last_q_index();
-        return certificates::find_certain(
-            p,
-            w.carry,
-            from,
-            queue,
-            w.head,
-            w.len,
-            window_counts,
-            ln,
-            f,
-            scan_counts,
-        );
+    if !w.carry.on {
+        return None;
     }
-    search::nothing()
+    let ring = Ring {
+        queue: queue,
+        head: w.head,
+        len: w.len,
+    };
+    let from = w.last_q_index();
+    certificates::find_certain(setup, w.carry, from, &ring, window_counts, scan_counts)
 }
 
-// The answer of a backward scan, if it is `told` without the scan.
-#[derive(Clone, Copy)]
-pub struct Foretold {
-    pub told: bool,
-    pub scanned: search::Scanned,
-}
-
-// What is known of the backward scan that is due at letter i: a carried scan or low starts tell its answer, or the scan counts are cleared for it.
+// The answer of the backward scan that is due at letter i, where a carried scan or low starts tell it; else the scan counts are cleared for the scan.
 pub fn foretell(
-    p: scans::Params,
+    setup: &Setup,
     st: State,
-    low: LowSince,
+    low: Option<LowSince>,
     queue: &[u32],
     window_counts: &[u16],
-    ln: &[f64],
-    f: &[f64],
     scan_counts: &mut [u16],
-) -> Foretold
+) -> Option<Scanned>
     requires i_bound { st.i < 2147483648 }
-    requires asking { Asking p ln.now f.now st.window queue.now window_counts.now scan_counts.old }
-    requires shaped { Shaped p ln.now f.now }
-    requires asks_low { AsksLow (setup_of p ln.now f.now) (window queue.now st.window.head st.window.len) st.window.len st.i low }
-    ensures { Foretells p ln.now f.now st.window queue.now result scan_counts.new }
+    requires asking { Asking setup.now.params setup.now.ln.now setup.now.f.now st.window queue.now window_counts.now scan_counts.old }
+    requires asks_low { IfSome low (AsksLow (as_setup setup.now) (window queue.now st.window.head st.window.len) st.window.len st.i) }
+    ensures told { IfSome result (λ r. ScanAnswer (as_setup setup.now) st.window queue.now r scan_counts.new) }
+    ensures untold { IfNone result (scan_counts.new ≡ cleared (as_setup setup.now)) }
 {
-    let r = certain(p, st.window, queue, window_counts, ln, f, scan_counts);
-    if r.found != 0 {
-        return Foretold {
-            told: true,
-            scanned: r,
-        };
+    let w = st.window;
+    if let Some(r) = certain(setup, w, queue, window_counts, scan_counts) {
+        return Some(r);
     }
-    st.window.clear(queue, scan_counts);
-    let told = low.tells(p, st, queue, window_counts, ln, f, scan_counts);
-    Foretold {
-        told: told,
-        scanned: search::nothing(),
+    w.clear(queue, scan_counts);
+    let ring = Ring {
+        queue: queue,
+        head: w.head,
+        len: w.len,
+    };
+    let told = tells(setup, low, st.i, &ring, window_counts, scan_counts);
+    if told {
+        return Some(search::nothing());
     }
+    None
 }

@@ -11,137 +11,123 @@
 mod known;
 mod skim;
 
-ghost use Rattle.std.specs.Prelude.{◌≡◌, length, replicate};
-ghost use Rattle.scans.specs.Terms.Numbers.{setup_of};
-ghost use Rattle.scans.specs.Terms.Shape.{Shaped};
+ghost use Rattle.std.specs.Prelude.{◌≡◌, IfSome, length, replicate};
+ghost use Rattle.scans.specs.Terms.Run.{as_setup};
 ghost use Rattle.step.specs.Terms.Entering.{unread};
 ghost use Rattle.strand.specs.Terms.LowStarts.{KnownLow};
 ghost use Rattle.strand.specs.Terms.Running.{PartLent, StrandLent, Before, Reached, StrandList};
 
-use crate::known::{LowSince, foretell};
+use crate::known::{LowSince, foretell, renewed};
 use crate::skim::skim;
+use intervals::Interval;
+use scans::{Ring, Setup};
 use step::{Look, State};
+
+// Where a run stands: its state, and the low starts that are known.
+#[derive(Clone, Copy)]
+struct Progress {
+    state: State,
+    low: Option<LowSince>,
+}
 
 // No letter is read, and the counts are cleared.
 fn begin(window_counts: &mut [u16], scan_counts: &mut [u16]) -> State
     ensures { (result ≡ unread) × (window_counts.new ≡ replicate (length window_counts.old) 0)
         × (scan_counts.new ≡ replicate (length scan_counts.old) 0) }
 {
-    buffers::clear(window_counts);
-    buffers::clear(scan_counts);
+    window_counts.fill(0);
+    scan_counts.fill(0);
     State::new()
 }
 
 // Goes on to the next letter whose backward scan is due and has to be made, with cleared scan counts, or to the end.
 fn until_scan(
-    p: scans::Params,
-    from: State,
-    low: LowSince,
+    setup: &Setup,
+    from: Progress,
     codes: &[u8],
-    ln: &[f64],
-    f: &[f64],
     queue: &mut [u32],
     window_counts: &mut [u16],
     scan_counts: &mut [u16],
-    list: &mut [[u32; 2]],
+    list: &mut [Interval],
 ) -> State
-    requires part_lent { PartLent p (length codes.now) (length f.now) (length scan_counts.old) (length list.old) }
-    requires before { Before p codes.now ln.now f.now from queue.old window_counts.old scan_counts.old list.old }
-    requires shaped { Shaped p ln.now f.now }
-    requires known_low { KnownLow (setup_of p ln.now f.now) codes.now from.i low }
-    ensures { Reached p codes.now ln.now f.now from.i result
+    requires part_lent { PartLent setup.now.params (length codes.now) (length scan_counts.old) (length list.old) }
+    requires before { Before setup.now.params codes.now setup.now.ln.now setup.now.f.now from.state queue.old window_counts.old scan_counts.old list.old }
+    requires known_low { IfSome from.low (KnownLow (as_setup setup.now) codes.now from.state.i) }
+    ensures { Reached setup.now.params codes.now setup.now.ln.now setup.now.f.now from.state.i result
         queue.new window_counts.new scan_counts.new list.new }
 {
-    let mut st = from;
+    let mut st = from.state;
     loop {
-        st = skim(p, st, codes, ln, f, queue, window_counts, scan_counts);
+        st = skim(setup, st, codes, queue, window_counts, scan_counts);
         if st.i >= codes.len() {
             return st;
         }
-        let look = st.look(p, ln, f, queue, window_counts, scan_counts);
+        let look = st.look(setup, queue, window_counts, scan_counts);
         match look {
             Look::Scan => {
-                let r = foretell(p, st, low, queue, window_counts, ln, f, scan_counts);
-                if r.told {
-                    st = st.answered(p, r.scanned, list);
-                    continue;
+                match foretell(setup, st, from.low, queue, window_counts, scan_counts) {
+                    Some(r) => {
+                        st = st.answered(setup, r, list);
+                        continue;
+                    }
+                    None => return st,
                 }
-                return st;
             }
             Look::Extension => {
-                st = st.extended(p, list);
+                st = st.extended(setup, list);
                 continue;
             }
             Look::Pass => {
-                st = st.passed(p, ln, f, queue, window_counts, scan_counts);
+                st = st.passed(setup, queue, window_counts, scan_counts);
                 continue;
             }
         }
     }
 }
 
-// Takes a strand of codes, the tables and the lent buffers; writes the strand's intervals to the first entries of `list`, in order, and answers how many there are.
+// Takes a strand of codes, the setup and the lent buffers; writes the strand's intervals to the first entries of `list`, in order, and answers how many there are.
 pub fn inner_process(
-    p: scans::Params,
+    setup: &Setup,
     codes: &[u8],
-    ln: &[f64],
-    f: &[f64],
     queue: &mut [u32],
     window_counts: &mut [u16],
     scan_counts: &mut [u16],
     candidates: &mut [scans::ForwardPosition],
-    list: &mut [[u32; 2]],
+    list: &mut [Interval],
 ) -> usize
-    requires strand_lent { StrandLent p (length codes.now) (length ln.now) (length f.now) (length queue.old)
+    requires { StrandLent setup.now.params (length codes.now) (length queue.old)
         (length window_counts.old) (length scan_counts.old) (length candidates.old)
         (length list.old) }
-    requires shaped { Shaped p ln.now f.now }
-    ensures { StrandList (setup_of p ln.now f.now) codes.now list.new result }
+    ensures { StrandList (as_setup setup.now) codes.now list.new result }
 {
-    let mut st = begin(window_counts, scan_counts);
-    let mut low = LowSince::none();
+    // In a place of its own, where no store through a lent slice can lie, the numbers stay in registers.
+    let own = *setup;
+    let setup = &own;
+    let mut at = Progress {
+        state: begin(window_counts, scan_counts),
+        low: None,
+    };
     loop {
-        st = until_scan(
-            p,
-            st,
-            low,
-            codes,
-            ln,
-            f,
-            queue,
-            window_counts,
-            scan_counts,
-            list,
-        );
+        let st = until_scan(setup, at, codes, queue, window_counts, scan_counts, list);
         if st.i >= codes.len() {
             return st.hand.close(list);
         }
-        let from = st.window.last_q_index();
+        let w = st.window;
+        let ring = Ring {
+            queue: queue,
+            head: w.head,
+            len: w.len,
+        };
         let r = search::dust_backward(
-            p,
-            st.window.carry,
-            from,
-            queue,
-            st.window.head,
-            st.window.len,
+            setup,
+            w.carry,
+            w.last_q_index(),
+            &ring,
             window_counts,
-            ln,
-            f,
             scan_counts,
             candidates,
         );
-        let found = r.scanned.found;
-        low = low.renewed(
-            p,
-            st,
-            found,
-            r.read,
-            queue,
-            window_counts,
-            ln,
-            f,
-            scan_counts,
-        );
-        st = st.answered(p, r.scanned, list);
+        at.low = renewed(setup, at.low, st.i, r, &ring, window_counts, scan_counts);
+        at.state = st.answered(setup, r.scanned, list);
     }
 }

@@ -27,7 +27,7 @@ pub record Admitted (Q : Asked) (codes_len counts_len : ℕ) : Type 0 where
   pub f_small : largest Q.f Q.window_size < 4503599627370496
 
 pub admitted : (Q : Asked) (codes_len counts_len : ℕ) → refusal Q codes_len counts_len ≡ 0 → Admitted Q codes_len counts_len
-unfolding refusal too_short_of too_wide
+unfolding too_short_of too_wide
 admitted Q codes_len counts_len e =
     let n = length Q.sequence in
     let k = Q.kmer in

@@ -158,7 +158,7 @@ module _ (Q : Asked) (codes_len counts_len : ℕ) (A : Admitted Q codes_len coun
 
     pub found : (rise g : ℕ) (z : ℤ) → rise ≡ largest Q.ln Q.window_size - Q.threshold → z ≡ pos r.best.gain -ℤ pos r.best.loss
         → g ≡ gap_of r st (av - st) rise Q.threshold
-        → Found Q cs cs' counts counts' (record { refusal = 0; start = Q.place + 1 - r.best.size; score = z; steps = st; gap = g })
+        → Found Q cs cs' counts counts' (record { start = Q.place + 1 - r.best.size; score = z; steps = st; gap = g })
     found rise g z rise_is z_is g_is =
         record {
           start = ap (λ (n : ℕ). Q.place + 1 - n) (size_is Q A.inside A.kmer_low A.budget_some window_some r read);

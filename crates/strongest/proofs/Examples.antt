@@ -46,38 +46,38 @@ tie_to_the_longer = (refl, refl, refl, refl, refl)
 
 -- ---- Refusals, with 5 codes and 16 scan counts lent.
 taken : refusal (aaaac 3 9) 5 16 ≡ 0
-unfolding refusal any_byte too_short_of too_wide largest
+unfolding any_byte too_short_of too_wide largest
 taken = refl
 
 -- A scan count too few, before the budget of 0, before place 5, before a T of 2^36.
 number_11 : refusal (aaaac 5 0) 5 15 ≡ 11
-unfolding refusal any_byte too_short_of too_wide largest
+unfolding any_byte too_short_of too_wide largest
 number_11 = refl
 
 number_18 : refusal (aaaac 5 0) 5 16 ≡ 18
-unfolding refusal any_byte too_short_of too_wide largest
+unfolding any_byte too_short_of too_wide largest
 number_18 = refl
 
 abbrev wide : ℕ → ℕ → List ℕ → List ℕ → Asked
 wide place t ln' f' = asked (65 ∷ 65 ∷ 65 ∷ 65 ∷ 67 ∷ []) 2 4 place 1 t ln' f'
 
 number_19 : refusal (wide 5 (2 ^ 36) ln f) 5 16 ≡ 19
-unfolding refusal any_byte too_short_of too_wide largest
+unfolding any_byte too_short_of too_wide largest
 number_19 = refl
 
 number_20 : refusal (wide 4 (2 ^ 36) ln f) 5 16 ≡ 20
-unfolding refusal any_byte too_short_of too_wide largest
+unfolding any_byte too_short_of too_wide largest
 number_20 = refl
 
 -- Entries 0 and those past w are not read.
 unread_entries : refusal (wide 4 0 (2 ^ 36 ∷ 1 ∷ 1 ∷ 1 ∷ 1 ∷ 2 ^ 36 ∷ []) (2 ^ 52 ∷ 1 ∷ 1 ∷ 1 ∷ 1 ∷ 2 ^ 52 ∷ [])) 5 16 ≡ 0
-unfolding refusal any_byte too_short_of too_wide largest
+unfolding any_byte too_short_of too_wide largest
 unread_entries = refl
 
 wide_ln : refusal (wide 4 0 (9 ∷ 1 ∷ 1 ∷ 1 ∷ 2 ^ 36 ∷ []) f) 5 16 ≡ 20
-unfolding refusal any_byte too_short_of too_wide largest
+unfolding any_byte too_short_of too_wide largest
 wide_ln = refl
 
 wide_f : refusal (wide 4 0 ln (9 ∷ 2 ^ 52 ∷ 1 ∷ 1 ∷ 1 ∷ 9 ∷ [])) 5 16 ≡ 20
-unfolding refusal any_byte too_short_of too_wide largest
+unfolding any_byte too_short_of too_wide largest
 wide_f = refl

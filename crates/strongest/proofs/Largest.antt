@@ -25,12 +25,12 @@ module _ (table : List ℕ) where
   unfolding largest
   largest_none = refl
 
-  pub largest_next : (i m : ℕ) → 0 < i → m ≡ largest table (i - 1) → max m (get_or table i 0) ≡ largest table (i + 1 - 1)
+  pub largest_next : (i m v : ℕ) → 0 < i → m ≡ largest table (i - 1) → v ≡ max m (get_or table i 0) → v ≡ largest table (i + 1 - 1)
   unfolding largest
-  largest_next i m h e =
+  largest_next i m v h e v_is =
       let same : i + 1 - 1 ≡ suc (i - 1) = omega arith in
       let this : i ≡ suc (i - 1) = omega arith in
-      ap₂ (λ (x n : ℕ). max x (get_or table n 0)) e this ∙ sym (ap (largest table) same)
+      v_is ∙ ap₂ (λ (x n : ℕ). max x (get_or table n 0)) e this ∙ sym (ap (largest table) same)
 
   -- Entries past the end count as 0.
   pub largest_past : (v w : ℕ) → length table ≤ v + 1 → v ≤ w → largest table v ≡ largest table w

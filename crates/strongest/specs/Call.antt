@@ -1,9 +1,9 @@
--- What the call answers, and what it leaves in the lent buffers.
-use Rattle.std.specs.Prelude.{◌≡◌, List, ℕ, ◌^◌, ◌<◌, pos, length}
+-- What is asked, what an accepted request answers, and what it leaves in the lent buffers.
+use Rattle.std.specs.Prelude.{◌≡◌, List, ℕ, ◌^◌, length}
 use Rattle.buffers.specs.Free.{Free}
+use Rattle.strongest.specs.declared.Request.{Request}
 use Rattle.strongest.specs.declared.Strongest.{Strongest}
 use Rattle.strongest.specs.Strongest.{Asked, steps, start, best_score, gap}
-use Rattle.strongest.specs.Checks.{refusal}
 
 abbrev pub asked : List ℕ → ℕ → ℕ → ℕ → ℕ → ℕ → List ℕ → List ℕ → Asked
 asked sequence kmer window_size place budget threshold ln f =
@@ -18,14 +18,8 @@ asked sequence kmer window_size place budget threshold ln f =
       f = f;
     }
 
--- A refusal: its number and zeros, and no buffer changes.
-abbrev pub zeros : ℕ → Strongest
-zeros number = record { refusal = number; start = 0; score = pos 0; steps = 0; gap = 0 }
-
-pub record Refused (cs cs' counts counts' : List ℕ) (r : Strongest) : Type 0 where
-  pub answer : r ≡ zeros r.refusal
-  pub codes : cs' ≡ cs
-  pub scan_counts : counts' ≡ counts
+abbrev pub asked_of : Request → Asked
+asked_of q = asked q.sequence.now q.kmer q.window_size q.place q.budget q.scoring.threshold q.scoring.ln.now q.scoring.f.now
 
 -- Codes and scan counts hold free content within the listed sizes.
 pub record Found (Q : Asked) (cs cs' counts counts' : List ℕ) (r : Strongest) : Type 0 where
@@ -35,9 +29,3 @@ pub record Found (Q : Asked) (cs cs' counts counts' : List ℕ) (r : Strongest) 
   pub gap : r.gap ≡ gap Q
   pub codes : Free (length Q.sequence) cs cs'
   pub scan_counts : Free (4 ^ Q.kmer) counts counts'
-
--- The answer r of a call that is lent the buffers cs and counts and leaves cs' and counts' in them; the tables are only read.
-pub record Answers (Q : Asked) (cs cs' counts counts' : List ℕ) (r : Strongest) : Type 0 where
-  pub number : r.refusal ≡ refusal Q (length cs) (length counts)
-  pub refused : 0 < r.refusal → Refused cs cs' counts counts' r
-  pub accepted : r.refusal ≡ 0 → Found Q cs cs' counts counts' r

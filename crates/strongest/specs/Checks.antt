@@ -31,5 +31,5 @@ checks Q codes_len counts_len =
     ∷ []
 
 -- The number of the first check that fails; 0 if none does.
-unfoldable pub refusal : Asked → ℕ → ℕ → ℕ
+abbrev pub refusal : Asked → ℕ → ℕ → ℕ
 refusal Q codes_len counts_len = first (checks Q codes_len counts_len)

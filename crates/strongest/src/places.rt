@@ -1,18 +1,12 @@
 // The places of a strand, read backward from its last letter, and their scan counts.
 
-ghost use Rattle.std.specs.Prelude.{◌≡◌, ◌+◌, ◌-◌, ◌/◌, ◌%◌, ◌^◌, ◌≤◌, ◌<◌, min, length, get_or};
+ghost use Rattle.std.specs.Prelude.{◌≡◌, ◌+◌, ◌-◌, ◌/◌, ◌%◌, ◌^◌, ◌≤◌, ◌<◌, length, get_or};
 ghost use Rattle.letters.specs.Place.{place_at};
 ghost use Rattle.letters.specs.Terms.Entry.{decode};
 ghost use Rattle.scans.specs.Counts.{raise};
 ghost use Rattle.strongest.specs.Terms.Reading.{back, Known, raised_entry, cleared_at, Adds};
 
 use letters::Kmer;
-
-pub fn smaller(a: usize, b: usize) -> usize
-    ensures { result ≡ min a b }
-{
-    if a < b { a } else { b }
-}
 
 // The place of the last letter, as a queue entry.
 #[tactic(auto, using(crate::proofs::Backward::rolling))]
@@ -21,10 +15,8 @@ fn last_entry(letters: &[u8], kmer: usize) -> u32
     ensures { (decode result ≡ place_at kmer letters.now (length letters.now - 1)) × (result / 2 < 4 ^ kmer) }
 {
     let mut state = Kmer::new();
-    let mut i = 0;
-    while i < letters.len() {
-        state = state.next(letters[i], kmer);
-        i += 1;
+    for letter in letters {
+        state = state.next(*letter, kmer);
     }
     state.entry(kmer)
 }
@@ -36,7 +28,7 @@ fn entry_back(letters: &[u8], kmer: usize, i: usize) -> u32
     ensures { (decode result ≡ back kmer letters.now i) × (result / 2 < 4 ^ kmer) }
 {
     let end = letters.len() - i;
-    let from = end - smaller(kmer, end);
+    let from = end - kmer.min(end);
     last_entry(&letters[from..end], kmer)
 }
 
@@ -58,10 +50,8 @@ pub fn clear_counts(letters: &[u8], kmer: usize, steps: usize, counts: &mut [u16
     requires { (0 < kmer) × (kmer ≤ 12) × (steps ≤ length letters.now) × (length counts.old ≡ 4 ^ kmer) }
     ensures { Known kmer letters.now steps 0 counts.new }
 {
-    let mut i = 0;
-    while i < steps {
+    for i in 0..steps {
         clear_entry(counts, entry_back(letters, kmer, i));
-        i += 1;
     }
 }
 

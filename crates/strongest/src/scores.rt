@@ -13,6 +13,14 @@ pub struct Scored {
     pub loss: u64,
 }
 
+// T and the two tables, in units of 2^-32.
+#[derive(Clone, Copy)]
+pub struct Scoring<'a> {
+    pub threshold: u64,
+    pub ln: &'a [u64],
+    pub f: &'a [u64],
+}
+
 // What was read: the ln entries that all places gain, and the best stretch so far.
 #[derive(Clone, Copy)]
 pub struct Reading {
@@ -59,22 +67,20 @@ pub fn read_back(
     letters: &[u8],
     kmer: usize,
     steps: usize,
-    threshold: u64,
-    ln: &[u64],
-    f: &[u64],
+    scoring: &Scoring,
     counts: &mut [u16],
 ) -> Reading
     requires kmer_nonzero { (0 < kmer) × (kmer ≤ 12) × (steps ≤ length letters.now) × (steps ≤ 65535) }
-    requires narrow { Narrow threshold ln.now f.now steps }
+    requires narrow { Narrow scoring.now.threshold scoring.now.ln.now scoring.now.f.now steps }
     requires known { Known kmer letters.now steps 0 counts.old }
-    ensures { Reads kmer threshold ln.now f.now letters.now steps result }
+    ensures { Reads kmer scoring.now.threshold scoring.now.ln.now scoring.now.f.now letters.now steps result }
 {
     let mut reading = Reading::new();
-    let mut l = 0;
-    while l < steps {
-        let value = count_back(letters, kmer, steps, l, ln, counts);
-        l += 1;
-        reading = reading.judged(l, value, (l as u64) * threshold + f[l]);
+    for l in 0..steps {
+        let value = count_back(letters, kmer, steps, l, scoring.ln, counts);
+        let size = l + 1;
+        let loss = (size as u64) * scoring.threshold + scoring.f[size];
+        reading = reading.judged(size, value, loss);
     }
     reading
 }
@@ -84,24 +90,15 @@ pub fn search_back(
     letters: &[u8],
     kmer: usize,
     steps: usize,
-    threshold: u64,
-    ln: &[u64],
-    f: &[u64],
+    scoring: &Scoring,
     counts: &mut [u16],
 ) -> Reading
     requires kmer_nonzero { (0 < kmer) × (kmer ≤ 12) × (steps ≤ length letters.now) × (steps ≤ 65535) × (length counts.old ≡ 4 ^ kmer) }
-    requires narrow { Narrow threshold ln.now f.now steps }
-    ensures { Reads kmer threshold ln.now f.now letters.now steps result }
+    requires narrow { Narrow scoring.now.threshold scoring.now.ln.now scoring.now.f.now steps }
+    ensures { Reads kmer scoring.now.threshold scoring.now.ln.now scoring.now.f.now letters.now steps result }
 {
     clear_counts(letters, kmer, steps, counts);
-    read_back(letters, kmer, steps, threshold, ln, f, counts)
-}
-
-// a - b, or 0 where b is larger.
-pub fn excess(a: u64, b: u64) -> u64
-    ensures { result ≡ a - b }
-{
-    if a < b { 0 } else { a - b }
+    read_back(letters, kmer, steps, scoring, counts)
 }
 
 // The gap, where each of the places unread can add `rise` to the score.
@@ -115,7 +112,7 @@ pub fn gap_of(reading: Reading, steps: usize, unread: usize, rise: u64, threshol
     }
     let high = reading.gain + (unread as u64) * rise;
     let low = (steps as u64) * threshold;
-    excess(high + reading.best.loss, low + reading.best.gain)
+    (high + reading.best.loss).saturating_sub(low + reading.best.gain)
 }
 
 // gain - loss as a signed number.

@@ -3,7 +3,7 @@ use Rattle.std.proofs.Common.{◌≡◌, true, [], ◌∷◌, refl}
 use lib.Ieee.{Float, inf, binary64, add, sub, mul, div, lt, le, eq, of_bits, of_int}
 use Rattle.buffers.specs.Fill.{tabulate, tabulate_from}
 use Rattle.floats.specs.Binary64.{number, zero64, one64}
-use Rattle.letters.specs.Gc.{acgt_count, gc_of}
+use Rattle.letters.specs.Gc.{gc_of}
 use Rattle.tables.specs.declared.GcOption.TheVariants.{Auto}
 use Rattle.tables.specs.Countdown.{countdown}
 use Rattle.tables.specs.Ln.{ln_step, ln_series, ln_parts, ln_scaled, ln_of}
@@ -38,7 +38,7 @@ exp_0 = refl
 
 -- no letter A, C, G or T
 no_letters : density 7 Auto (4 ∷ 4 ∷ []) ≡ by_gc 7 zero64
-unfolding density gc_of acgt_count
+unfolding density gc_of
 no_letters = refl
 
 -- k = 1, length 5

@@ -3,10 +3,11 @@
 use Rattle.std.proofs.Common.{◌≡◌, ℕ, zero, suc, ◌+◌, ◌-◌, ◌*◌, ◌/◌, ◌%◌, ◌^◌, ◌<◌, ◌≤◌, Bool, true, false, cond, not, T, eqb, leb, sym, refl, ap, ◌∙◌, subst, ap₂, lt_of_lt_of_le, lt_of_le_of_lt, lt_irrefl, mul-le-mul_right, mod-eq_of_lt, mul-lt-mul_of_pos_right, lt_of_not-le, arith, pow_pos, pow_mono, pow-add, ne_eqb}
 use lib.Bits.{bit_and, and_mask}
 use lib.Count.{count_leading_zeros, leading_top}
-use lib.Ieee.{Float, nan, inf, binary64, lt, odd, is_nan, nan_bits, of_bits, of_fields}
-use lib.Ieee.Bits.{nan_bits_is}
+use lib.Ieee.{Float, nan, inf, binary64, lt, odd, fits, is_nan, nan_bits, of_bits, to_bits, of_fields}
+use lib.Ieee.Bits.{nan_bits_is, of_bits-to_bits}
 use borrow.Author.Tests.{lt-leb}
 use Rattle.floats.specs.Binary64.{zero64}
+use Rattle.tables.specs.Ln.{infinity, ln_of}
 
 -- ---- a significand with 53 digits
 is_number : (d q k l : ℕ) → T (not (is_nan (odd d false q k l)))
@@ -73,8 +74,8 @@ negative_not (suc x) t h = go (eqb (suc x) 2047) (eqb t 0) h
     go true false h = h
     go false b h = odd_not 53 (4503599627370496 + t) x 1074 h
 
-top_not : (t : ℕ) → T (lt (of_fields binary64 false 2047 t) (inf false)) → ⊥
-unfolding of_fields lt
+top_not : (t : ℕ) → T (lt (of_fields binary64 false 2047 t) infinity) → ⊥
+unfolding of_bits of_fields lt
 top_not t h = go (eqb t 0) h
   where
     go : (b : Bool) → T (lt (cond b (inf false) nan) (inf false)) → ⊥
@@ -104,12 +105,12 @@ sign b h = go (leb 9223372036854775808 b) refl
         (subst (λ (f : Float). T (lt zero64 f)) (by_fields b ∙ ap (λ (s : Bool). of_fields binary64 s (b / 4503599627370496 % 2048) (b % 4503599627370496)) e) h))
     go false e = e
 
-pub fields : (b : ℕ) → T (lt zero64 (of_bits binary64 b)) → T (lt (of_bits binary64 b) (inf false)) → Fields b
+fields : (b : ℕ) → T (lt zero64 (of_bits binary64 b)) → T (lt (of_bits binary64 b) infinity) → Fields b
 fields b h u =
     let x = b / 4503599627370496 % 2048 in
     let t = b % 4503599627370496 in
     let e : of_bits binary64 b ≡ of_fields binary64 false x t = by_fields b ∙ ap (λ (s : Bool). of_fields binary64 s x t) (sign b h) in
-    let ne : x ≡ 2047 → ⊥ = λ q. top_not t (subst (λ (f : Float). T (lt f (inf false))) (e ∙ ap (λ (n : ℕ). of_fields binary64 false n t) q) u) in
+    let ne : x ≡ 2047 → ⊥ = λ q. top_not t (subst (λ (f : Float). T (lt f infinity)) (e ∙ ap (λ (n : ℕ). of_fields binary64 false n t) q) u) in
     let nz : x ≡ 0 → t ≡ 0 → ⊥ = λ q r. zero_not (subst (λ (f : Float). T (lt zero64 f)) (e ∙ ap₂ (λ (n m : ℕ). of_fields binary64 false n m) q r) h) in
     record {
       is = e;
@@ -136,3 +137,41 @@ at_suc (suc x) t p h =
     let n : eqb (suc x) 2047 ≡ false = ne_eqb (suc x) 2047 (λ e. let b : ⊥ = omega arith in b) in
     ap (λ (a : Bool). cond a (cond (eqb t 0) (inf false) nan) (odd 53 false (4503599627370496 + t) x 1074)) n
     ∙ ap₂ (λ (a k : ℕ). odd 53 false a k 1074) (let e : 4503599627370496 + t ≡ t + 4503599627370496 = omega arith in e) (let e : x ≡ suc x - 1 = omega arith in e)
+
+-- ---- a float above zero and below infinity, by its bits as the code masks them
+module _ (x : Float) (float : fits binary64 x ≡ true) (positive : T (lt zero64 x)) (finite : T (lt x infinity)) where
+  abbrev b : ℕ
+  b = to_bits binary64 x
+
+  back : of_bits binary64 b ≡ x
+  back = of_bits-to_bits binary64 x (subst T (sym float) tt)
+
+  parts : Fields b
+  parts = fields b (rw back positive) (rw back finite)
+
+  pub digits_some : bit_and (to_bits binary64 x / 4503599627370496) 2047 ≡ 0 → 0 < bit_and (to_bits binary64 x) 4503599627370495
+  digits_some e = rw (digits b) (parts.some (sym (field b) ∙ e))
+
+  pub field_fits : bit_and (to_bits binary64 x / 4503599627370496) 2047 < 2047
+  field_fits = rw (field b) parts.finite
+
+  pub ln_small : bit_and (to_bits binary64 x / 4503599627370496) 2047 ≡ 0 → ln_of (odd 53 false (bit_and (to_bits binary64 x) 4503599627370495) 0 1074) ≡ ln_of x
+  ln_small e =
+      let t = b % 4503599627370496 in
+      ap (λ (n : ℕ). ln_of (odd 53 false n 0 1074)) (digits b)
+      ∙ sym (ap ln_of (sym back ∙ parts.is ∙ ap (λ (n : ℕ). of_fields binary64 false n t) (sym (field b) ∙ e) ∙ at_zero t))
+
+  pub ln_large : (bit_and (to_bits binary64 x / 4503599627370496) 2047 ≡ 0 → ⊥)
+      → ln_of (odd 53 false (bit_and (to_bits binary64 x) 4503599627370495 + 4503599627370496) (bit_and (to_bits binary64 x / 4503599627370496) 2047 - 1) 1074) ≡ ln_of x
+  ln_large e =
+      let t = b % 4503599627370496 in
+      let n = b / 4503599627370496 % 2048 in
+      let p : 0 < n = lt_of_not-le (λ (g : n ≤ 0). e (field b ∙ omega arith)) in
+      ap₂ (λ (m k : ℕ). ln_of (odd 53 false (m + 4503599627370496) (k - 1) 1074)) (digits b) (field b)
+      ∙ sym (ap ln_of (sym back ∙ parts.is ∙ at_suc n t p parts.finite))
+
+pub digits_fit : (b : ℕ) → bit_and b 4503599627370495 < 4503599627370496
+digits_fit b = omega (arith, digits b)
+
+-- The laws by which `ln_finite` is proved.
+pub ruleset by_bits = (digits_some, digits_fit, field_fits, ln_small, ln_large)

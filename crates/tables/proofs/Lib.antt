@@ -9,3 +9,4 @@ pub mod Densities
 pub mod Terms
 pub mod Tables
 pub mod Examples
+pub mod LnBound

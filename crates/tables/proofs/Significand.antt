@@ -1,9 +1,10 @@
 -- ln of a positive float by its digits: shifting them up to 53 digits scales them to 1 <= m < 2.
-use Rattle.std.proofs.Common.{◌≡◌, ℕ, zero, suc, ◌+◌, ◌-◌, ◌*◌, ◌/◌, ◌%◌, ◌^◌, ◌<◌, ◌≤◌, false, ℤ, pos, ◌+ℤ◌, sym, refl, ap, ◌∙◌, subst, ap₂, lt_of_lt_of_le, le_of_suc-le-suc, lt_of_le_of_lt, lt_irrefl, mul-le-mul_right, mul_assoc, le_antisymm, lt_of_mul-lt-mul_right, mul-lt-mul_of_pos_right, pow-suc, lt_of_not-le, mul-one, mul-div_cancel, arith, pow_pos, pow_mono, pow-add}
+use Rattle.std.proofs.Common.{◌≡◌, ℕ, zero, suc, ◌+◌, ◌-◌, ◌*◌, ◌/◌, ◌%◌, ◌^◌, ◌<◌, ◌≤◌, not, T, false, ℤ, pos, ◌+ℤ◌, sym, refl, ap, ◌∙◌, subst, ap₂, lt_of_lt_of_le, le_of_suc-le-suc, lt_of_le_of_lt, lt_irrefl, mul-le-mul_right, mul_assoc, le_antisymm, lt_of_mul-lt-mul_right, mul-lt-mul_of_pos_right, pow-suc, lt_of_not-le, mul-one, mul-div_cancel, arith, pow_pos, pow_mono, pow-add}
 use lib.Bits.{shifted_half, shifted_even}
-use lib.Count.{count_trailing_zeros, under}
-use lib.Ieee.{Float, fin, minus, odd, size}
+use lib.Count.{count_leading_zeros, count_trailing_zeros, under}
+use lib.Ieee.{Float, fin, binary64, minus, odd, size, nan_bits, of_bits}
 use lib.Ieee.Digits.{size-lt, size-le}
+use Rattle.tables.proofs.Fields.{Shift, shift, pattern, pattern_number}
 use Rattle.tables.proofs.Exponent.{minus_add, minus_same}
 use Rattle.tables.specs.Ln.{ln_scaled, ln_of}
 
@@ -80,7 +81,7 @@ scaled (suc m) i k z o h s =
     (minus_same 0 (53 - (i + z) - 1) (1022 + (i + z)) 1074 (omega arith))
     (minus_add (k + i) 1074 (53 - (i + z) - 1) ∙ minus_same (k + i + (53 - (i + z) - 1)) 1074 k (1022 + z) (omega arith))
 
-pub normalized : (q k z : ℕ) → 0 < q → q < 2 ^ 53 → 2 ^ 52 ≤ q * 2 ^ z → q * 2 ^ z < 2 ^ 53
+normalized : (q k z : ℕ) → 0 < q → q < 2 ^ 53 → 2 ^ 52 ≤ q * 2 ^ z → q * 2 ^ z < 2 ^ 53
     → ln_of (odd 53 false q k 1074) ≡ ln_scaled (odd 53 false (q * 2 ^ z) 1022 1074) (minus k (1022 + z))
 normalized q k z h u lo hi =
     let p = odd_part 53 q h u in
@@ -92,3 +93,30 @@ normalized q k z h u lo hi =
     ∙ ap ln_of (written m i k p.odd p.below)
     ∙ scaled m i k z p.odd s (size_is m (i + z) s (rw e at lo) (rw e at hi))
     ∙ ap (λ (x : Float). ln_scaled x (minus k (1022 + z))) (sym (written m (i + z) 1022 p.odd s) ∙ ap (λ (n : ℕ). odd 53 false n 1022 1074) (sym e))
+
+-- ---- q shifted as the code shifts it
+module _ (q : ℕ) (h : 0 < q) (u : q < 2 ^ 53) where
+  shifted : Shift q (count_leading_zeros 64 q)
+  shifted = shift q h u
+
+  pub shift_enough : 11 ≤ count_leading_zeros 64 q
+  shift_enough = shifted.enough
+
+  pub pattern_fits : (q * 2 ^ (count_leading_zeros 64 q - 11)) % 18446744073709551616 + 4602678819172646912 < 18446744073709551616
+  pattern_fits = omega (arith, shifted.whole, shifted.hi)
+
+  pub pattern_no_nan : T (not (nan_bits binary64 ((q * 2 ^ (count_leading_zeros 64 q - 11)) % 18446744073709551616 + 4602678819172646912)))
+  pattern_no_nan =
+      subst (λ (n : ℕ). T (not (nan_bits binary64 (n + 4602678819172646912)))) (sym shifted.whole) (pattern_number _ shifted.lo shifted.hi)
+
+  pub ln_shifted : (k z : ℕ) → z ≡ count_leading_zeros 64 q - 11
+      → ln_scaled (of_bits binary64 ((q * 2 ^ z) % 18446744073709551616 + 4602678819172646912)) (minus k (1022 + z)) ≡ ln_of (odd 53 false q k 1074)
+  ln_shifted k z e =
+      let w = count_leading_zeros 64 q - 11 in
+      rw e
+      (ap (λ (n : ℕ). ln_scaled (of_bits binary64 (n + 4602678819172646912)) (minus k (1022 + w))) shifted.whole
+      ∙ ap (λ (m : Float). ln_scaled m (minus k (1022 + w))) (pattern (q * 2 ^ w) shifted.lo shifted.hi)
+      ∙ sym (normalized q k w h u shifted.lo shifted.hi))
+
+-- The laws by which `ln_digits` is proved.
+pub ruleset of_digits = (shift_enough, pattern_fits, pattern_no_nan, ln_shifted)

@@ -1,5 +1,5 @@
 -- The turns and ends of the loops over the terms of a class and over the classes, and f's first entry.
-use Rattle.std.proofs.Common.{◌≡◌, ℕ, zero, suc, ◌+◌, ◌^◌, true, false, get_or, refl, add-one}
+use Rattle.std.proofs.Common.{◌≡◌, ℕ, zero, suc, ◌+◌, ◌^◌, ◌<◌, true, false, get_or, refl, add-one, arith}
 use lib.Ieee.{Float, nan, le}
 use Rattle.floats.specs.Arithmetic.{◌⊕◌, ◌⊗◌, ◌⊘◌}
 use Rattle.floats.specs.Binary64.{number, zero64}
@@ -16,9 +16,10 @@ module _ (m p n : ℕ) (lambda x sn y s : Float) (left : p ≡ suc m) (is_ln : s
   unfolding terms_from
   term_added t = rw (left, ← is_ln, t, add-one n)
 
-  pub term_last : le z (x ⊗ epsilon) ≡ true → x ≡ terms_from p n lambda x sn y
-  unfolding terms_from
-  term_last t = rw (left, ← is_ln, t)
+pub term_last : (p n : ℕ) (lambda x sn y s : Float) → 0 < p → s ≡ ln_of (number n) → le (y ⊗ (lambda ⊘ number n) ⊗ (sn ⊕ s)) (x ⊗ epsilon) ≡ true → x ≡ terms_from p n lambda x sn y
+unfolding terms_from
+term_last zero n lambda x sn y s h e t = absurd (let b : ⊥ = omega arith in b)
+term_last (suc m) n lambda x sn y s h e t = rw (← e, t)
 
 pub terms_over : (p n : ℕ) (lambda x sn y : Float) → p ≡ 0 → x ≡ terms_from p n lambda x sn y
 unfolding terms_from
@@ -39,10 +40,10 @@ pub f_none : (k : ℕ) (d : Density) (l : ℕ) → l ≡ 0 → zero64 ≡ f_of k
 unfolding f_of
 f_none k d l e = rw e
 
-pub f_some : (k : ℕ) (d : Density) (l : ℕ) (all : Float) → (l ≡ 0 → ⊥) → all ≡ number (4 ^ k) → classes_from d.classes 0 d (number l ⊘ all) zero64 ≡ f_of k d l
+pub f_some : (k : ℕ) (d : Density) (l n : ℕ) (all : Float) → (l ≡ 0 → ⊥) → n ≡ d.classes → all ≡ number (4 ^ k) → classes_from n 0 d (number l ⊘ all) zero64 ≡ f_of k d l
 unfolding f_of
-f_some k d zero all h e = absurd (h refl)
-f_some k d (suc l) all h e = rw e
+f_some k d zero n all h g e = absurd (h refl)
+f_some k d (suc l) n all h g e = rw (g, e)
 
 -- The laws by which `terms` is proved.
 pub ruleset of_terms = (term_added, term_last, terms_over)

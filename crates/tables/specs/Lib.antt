@@ -4,3 +4,5 @@ pub mod Exp
 pub mod Density
 pub mod F
 pub mod Tables
+pub mod Series
+pub mod Logarithm

@@ -18,6 +18,9 @@ ln2 = from_bits binary64 0x3fe6_2e42_fefa_39ef
 abbrev pub root2 : Float
 root2 = from_bits binary64 0x3ff6_a09e_667f_3bcd
 
+abbrev pub infinity : Float
+infinity = from_bits binary64 0x7ff0_0000_0000_0000
+
 -- h = h times q + 1/d
 unfoldable pub ln_step : Float → ℕ → Float → Float
 ln_step q j h = h ⊗ q ⊕ one64 ⊘ number (2 * j + 1)

@@ -24,31 +24,29 @@ fn calculate_f(k: usize) -> Density
 }
 
 // For i letters C or G, how much more often than 1 in 4^k such a k-mer is expected.
+#[tactic(auto, using(crate::proofs::Densities::in_thirteen))]
 fn ratios(k: usize, gc: f64) -> [f64; 13]
     requires { k ≤ 12 }
     ensures { result ≡ thirteen (ratio_at k gc) (k + 1) }
 {
     let mut ratio = [0.0f64; 13];
-    let mut i: usize = 0;
-    while i <= k {
+    for i in 0..=k {
         ratio[i] = powi(gc / 0.5, i) * powi((1.0 - gc) / 0.5, k - i);
-        i += 1;
     }
     ratio
 }
 
 // For i letters C or G, how many such k-mers there are.
+#[tactic(auto, using(crate::proofs::Densities::in_thirteen))]
 fn counts(k: usize) -> [f64; 13]
     requires { k ≤ 12 }
     ensures { result ≡ thirteen (count_at k) (k + 1) }
 {
     let mut count = [0.0f64; 13];
     let mut binomial: u64 = 1;
-    let mut i: usize = 0;
-    while i <= k {
+    for i in 0..=k {
         count[i] = std::num::nearest_u64_to_f64(binomial << k);
         binomial = binomial * ((k - i) as u64) / ((i + 1) as u64);
-        i += 1;
     }
     count
 }

@@ -1,6 +1,6 @@
 // The score that places of a window are expected to have by chance.
 
-ghost use Rattle.std.specs.Prelude.{◌≡◌, ◌+◌, ◌≤◌, take};
+ghost use Rattle.std.specs.Prelude.{◌≡◌, ◌-◌, ◌≤◌, length};
 ghost use Rattle.floats.specs.Binary64.{number};
 ghost use Rattle.tables.specs.Ln.{ln_of};
 ghost use Rattle.tables.specs.F.{terms, stirlings_approx, f_large, f_class, f_of};
@@ -9,39 +9,44 @@ ghost use Rattle.tables.specs.Tables.{ln_table};
 use crate::exponential::exp_neg;
 use crate::{Density, logarithm};
 
-// ln n, read up to w and calculated above it.
-#[tactic(auto, using(crate::proofs::Tables::ln_entries))]
-fn ln_at(ln: &[f64], w: usize, n: u32) -> f64
-    requires { take (w + 1) ln.now ≡ ln_table w }
-    ensures { result ≡ ln_of (number n) }
-{
-    let at = n as usize;
-    if at <= w {
-        ln[at]
-    } else {
-        logarithm::ln(n as f64)
+// ln n for n = 0 .. w, in w + 1 entries.
+#[derive(Clone, Copy)]
+pub struct LnTable<'a> {
+    pub entries: &'a [f64],
+    ghost filled: { entries.now ≡ ln_table (length entries.now - 1) },
+}
+
+impl<'a> LnTable<'a> {
+    // ln n, read up to w and calculated above it.
+    #[tactic(auto, using(crate::proofs::Tables::ln_entry))]
+    fn at(self, n: u32) -> f64
+        ensures { result ≡ ln_of (number n) }
+    {
+        let at = n as usize;
+        if at < self.entries.len() {
+            self.entries[at]
+        } else {
+            logarithm::ln(n as f64)
+        }
     }
 }
 
 // The terms of n = 2 .. 10000, up to the first that is too small to count.
 #[tactic(auto, using(crate::proofs::Terms::of_terms), unfolding(crate::specs::F::terms))]
-fn terms(lambda: f64, ln: &[f64], w: usize) -> f64
-    requires { take (w + 1) ln.now ≡ ln_table w }
+fn terms(lambda: f64, ln: LnTable) -> f64
     ensures { result ≡ terms lambda }
 {
     let mut x = 0.0f64;
     let mut sn = 0.0f64;
     let mut y = lambda;
-    let mut n: u32 = 2;
-    while n <= 10000 {
-        sn = sn + ln_at(ln, w, n);
-        y = y * (lambda / (n as f64));
+    for n in 2..=10000u32 {
+        sn += ln.at(n);
+        y *= lambda / (n as f64);
         let z = y * sn;
         if z <= x * 2.220446049250313e-16 {
             return x;
         }
-        x = x + z;
-        n += 1;
+        x += z;
     }
     x
 }
@@ -64,12 +69,11 @@ fn f_large(lambda: f64) -> f64
 
 // The expected score of one k-mer that is expected lambda times.
 #[tactic(auto, unfolding(crate::specs::F::f_class))]
-fn f_class(lambda: f64, ln: &[f64], w: usize) -> f64
-    requires { take (w + 1) ln.now ≡ ln_table w }
+fn f_class(lambda: f64, ln: LnTable) -> f64
     ensures { result ≡ f_class lambda }
 {
     if lambda < 30.0 {
-        terms(lambda, ln, w) * exp_neg(lambda)
+        terms(lambda, ln) * exp_neg(lambda)
     } else {
         f_large(lambda)
     }
@@ -77,8 +81,8 @@ fn f_class(lambda: f64, ln: &[f64], w: usize) -> f64
 
 // f at the length l.
 #[tactic(auto, using(crate::proofs::Terms::of_classes))]
-pub fn calculate_f_internal(k: usize, l: u32, d: Density, ln: &[f64], w: usize) -> f64
-    requires { (k ≤ 12) × (d.classes ≤ 13) × (take (w + 1) ln.now ≡ ln_table w) }
+pub fn calculate_f_internal(k: usize, l: u32, d: Density, ln: LnTable) -> f64
+    requires { (k ≤ 12) × (d.classes ≤ 13) }
     ensures { result ≡ f_of k d l }
 {
     if l == 0 {
@@ -86,10 +90,8 @@ pub fn calculate_f_internal(k: usize, l: u32, d: Density, ln: &[f64], w: usize) 
     }
     let share = (l as f64) / std::num::nearest_u64_to_f64(letters::n_kmers(k) as u64);
     let mut accum = 0.0f64;
-    let mut i: usize = 0;
-    while i < d.classes {
-        accum = accum + f_class(share * d.ratio[i], ln, w) * d.count[i];
-        i += 1;
+    for i in 0..d.classes {
+        accum += f_class(share * d.ratio[i], ln) * d.count[i];
     }
     accum
 }

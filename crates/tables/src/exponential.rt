@@ -4,15 +4,13 @@ ghost use Rattle.std.specs.Prelude.{◌≡◌};
 ghost use Rattle.tables.specs.Exp.{times, powi, exp_series, exp_neg};
 
 // x multiplied n times by b.
-#[tactic(auto, using(crate::proofs::Countdown::countdowns), unfolding(crate::specs::Exp::times))]
+#[tactic(auto, using(crate::proofs::Countdown::countdowns))]
 fn times(n: usize, b: f64, x: f64) -> f64
     ensures { result ≡ times n b x }
 {
-    let mut left = n;
     let mut y = x;
-    while left > 0 {
-        left -= 1;
-        y = y * b;
+    for _ in 0..n {
+        y *= b;
     }
     y
 }
@@ -24,15 +22,13 @@ pub fn powi(base: f64, n: usize) -> f64
     times(n, base, 1.0)
 }
 
-#[tactic(auto, using(crate::proofs::Countdown::countdowns), unfolding(crate::specs::Exp::exp_series, crate::specs::Exp::exp_step))]
+#[tactic(auto, using(crate::proofs::Countdown::countdowns), unfolding(crate::specs::Exp::exp_series))]
 fn series(v: f64) -> f64
     ensures { result ≡ exp_series v }
 {
     let mut h = 1.0;
-    let mut j: u32 = 20;
-    while j > 0 {
-        j -= 1;
-        h = 1.0 - v / ((j + 1) as f64) * h;
+    for d in (1..=20u32).rev() {
+        h = 1.0 - v / (d as f64) * h;
     }
     h
 }
@@ -44,8 +40,9 @@ pub fn exp_neg(v: f64) -> f64
 {
     let mut rest = v;
     let mut a: usize = 0;
+    // Two tests end the loop, and what it counted is used after it.
     while (a < 30) & (rest >= 1.0) {
-        rest = rest - 1.0;
+        rest -= 1.0;
         a += 1;
     }
     times(a, 0.36787944117144233, series(rest))

@@ -6,6 +6,7 @@
 ghost use Rattle.std.specs.Prelude.{◌≡◌, ◌+◌, ◌≤◌, length, take};
 ghost use Rattle.buffers.specs.Fill.{put};
 ghost use Rattle.tables.specs.Density.{density};
+ghost use Rattle.tables.specs.Logarithm.{EntriesWithin};
 ghost use Rattle.tables.specs.Tables.{ln_table, f_table};
 
 mod background;
@@ -14,6 +15,7 @@ mod exponential;
 mod logarithm;
 
 pub use background::classes;
+use expected::LnTable;
 
 // The GC choice: the share of C and G among the letters, from which each k-mer's expected number follows.
 #[derive(Clone, Copy)]
@@ -32,28 +34,30 @@ pub struct Density {
     pub classes: usize,
 }
 
-// ln n for n = 0 .. w.
+// ln n for n = 0 .. w, each entry from 1 on within 2^-45 of the true logarithm.
+#[tactic(auto, using(crate::proofs::Tables::ln_filled))]
 pub fn fill_ln(ln: &mut [f64], w: usize)
     requires { (w ≤ 65535) × (w + 1 ≤ length ln.old) }
-    ensures { ln.new ≡ put (ln_table w) ln.old }
+    ensures ln_after { ln.new ≡ put (ln_table w) ln.old }
+    ensures within { EntriesWithin w ln.new }
 {
-    let mut n: usize = 0;
-    while n <= w {
+    for n in 0..=w {
         ln[n] = logarithm::ln((n as u32) as f64);
-        n += 1;
     }
 }
 
 // f l for l = 0 .. w + 1, ln being filled up to w.
+#[tactic(auto, using(crate::proofs::Tables::f_filled))]
 pub fn fill_f(f: &mut [f64], ln: &[f64], k: usize, w: usize, d: Density)
     requires k_bound { (k ≤ 12) × (w ≤ 65535) × (d.classes ≤ 13) }
     requires w_in_bounds { (w + 2 ≤ length f.old) × (take (w + 1) ln.now ≡ ln_table w) }
     ensures { f.new ≡ put (f_table k w d) f.old }
 {
-    let mut l: usize = 0;
-    while l <= w + 1 {
-        f[l] = expected::calculate_f_internal(k, l as u32, d, ln, w);
-        l += 1;
+    let ln = LnTable {
+        entries: &ln[..w + 1],
+    };
+    for l in 0..w + 2 {
+        f[l] = expected::calculate_f_internal(k, l as u32, d, ln);
     }
 }
 

@@ -1,19 +1,17 @@
 // ln of any float, from its bits.
 
-ghost use Rattle.std.specs.Prelude.{◌≡◌, ◌^◌, ◌<◌, false, T, from_bits};
-ghost use Rattle.std.specs.Float.{binary64, inf};
+ghost use Rattle.std.specs.Prelude.{◌≡◌, ◌^◌, ◌<◌, false, T};
+ghost use Rattle.std.specs.Float.{binary64};
 ghost use Rattle.std.specs.Float.Ieee.{lt, minus, odd, of_int};
 ghost use Rattle.floats.specs.Binary64.{zero64};
-ghost use Rattle.tables.specs.Ln.{ln_series, ln_parts, ln_scaled, ln_of};
+ghost use Rattle.tables.specs.Ln.{infinity, ln_series, ln_parts, ln_scaled, ln_of};
 
-#[tactic(auto, using(crate::proofs::Countdown::countdowns), unfolding(crate::specs::Ln::ln_series, crate::specs::Ln::ln_step))]
+#[tactic(auto, using(crate::proofs::Countdown::countdowns), unfolding(crate::specs::Ln::ln_series))]
 fn series(q: f64) -> f64
     ensures { result ≡ ln_series q }
 {
     let mut h = 1.0 / 21.0;
-    let mut j: u32 = 10;
-    while j > 0 {
-        j -= 1;
+    for j in (0..10u32).rev() {
         h = h * q + 1.0 / ((2 * j + 1) as f64);
     }
     h
@@ -54,6 +52,7 @@ fn ln_scaled(m: f64, a: u32, b: u32) -> f64
 }
 
 // ln of q * 2^k times the smallest float above 0, which is 2^-1074.
+#[tactic(auto, using(crate::proofs::Significand::of_digits))]
 fn ln_digits(q: u64, k: u32) -> f64
     requires { (0 < q) × (q < 2 ^ 53) × (k < 2046) }
     ensures { result ≡ ln_of (odd 53 false q k 1074) }
@@ -63,12 +62,14 @@ fn ln_digits(q: u64, k: u32) -> f64
     ln_scaled(m, k, 1022 + z)
 }
 
-// ln of the finite float above 0 with the bits b.
-fn ln_bits(b: u64) -> f64
-    requires positive { T (lt zero64 (from_bits binary64 b)) }
-    requires finite { T (lt (from_bits binary64 b) (inf false)) }
-    ensures { result ≡ ln_of (from_bits binary64 b) }
+// ln of a finite float above 0.
+#[tactic(auto, using(crate::proofs::Fields::by_bits))]
+fn ln_finite(x: f64) -> f64
+    requires positive { T (lt zero64 x) }
+    requires finite { T (lt x infinity) }
+    ensures { result ≡ ln_of x }
 {
+    let b = x.to_bits();
     let field = ((b >> 52) & 0x7ff) as u32;
     let digits = b & 0xf_ffff_ffff_ffff;
     if field == 0 {
@@ -78,18 +79,15 @@ fn ln_bits(b: u64) -> f64
     }
 }
 
+#[tactic(auto, using(crate::proofs::LnCases::cases))]
 pub fn ln(x: f64) -> f64
     ensures { result ≡ ln_of x }
 {
     if x > 0.0 {
-        if x < 1.0 / 0.0 {
-            ln_bits(f64::to_bits(x))
-        } else {
-            x
-        }
+        if x < f64::INFINITY { ln_finite(x) } else { x }
     } else if x == 0.0 {
-        -1.0 / 0.0
+        f64::NEG_INFINITY
     } else {
-        0.0 / 0.0
+        f64::NAN
     }
 }

@@ -2,7 +2,8 @@
 use mathlib.Core.Path.{◌≡◌, refl}
 use mathlib.Core.List.{List, [], ◌∷◌}
 use Prim.Native.Nat.{ℕ}
-use Rattle.intervals.specs.Interval.{Interval, interval, covered, usual_from}
+use Rattle.intervals.specs.declared.Interval.{Interval}
+use Rattle.intervals.specs.Interval.{interval, covered, usual_from}
 use Rattle.intervals.specs.Save.{staying, save}
 use Rattle.tracks.specs.Stretches.{stretches}
 use Rattle.tracks.specs.Tracks.{joined, joined_marks, marks_for, seen, refusal}
@@ -49,25 +50,25 @@ marks_joined = refl
 
 -- Too many letters come first, then a list that is not of the usual kind, ours or theirs, then short slices.
 refused_letters : refusal 2147483648 (interval 3 3 ∷ []) [] [] 0 0 ≡ 10
-unfolding refusal usual_from
+unfolding usual_from
 refused_letters = refl
 
 refused_empty : refusal 14 (interval 3 3 ∷ []) [] theirs 0 0 ≡ 16
-unfolding refusal usual_from
+unfolding usual_from
 refused_empty = refl
 
 refused_touching : refusal 14 ours marks (interval 5 7 ∷ interval 7 9 ∷ []) 0 0 ≡ 16
-unfolding refusal usual_from
+unfolding usual_from
 refused_touching = refl
 
 refused_past : refusal 13 ours marks theirs 4 4 ≡ 16
-unfolding refusal usual_from
+unfolding usual_from
 refused_past = refl
 
 refused_short : refusal 14 ours marks theirs 4 3 ≡ 11
-unfolding refusal usual_from
+unfolding usual_from
 refused_short = refl
 
 accepted_both : refusal 14 ours marks theirs 4 4 ≡ 0
-unfolding refusal usual_from
+unfolding usual_from
 accepted_both = refl

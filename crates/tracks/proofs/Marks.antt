@@ -9,7 +9,8 @@ use lib.Bits.{bit_or}
 use lib.Dec.{ltb, eqb}
 use lib.ListN.{length, drop, get_or}
 use borrow.Author.Tests.{ltb-true, lt-ltb, le-ltb, eqb-true}
-use Rattle.intervals.specs.Interval.{Interval, interval, Holds}
+use Rattle.intervals.specs.declared.Interval.{Interval}
+use Rattle.intervals.specs.Interval.{interval, Holds}
 use Rattle.intervals.proofs.Order.{lt_or_le}
 use Rattle.intervals.proofs.Counted.{or_agrees, and_agrees, ltb_agrees, same_test}
 use Rattle.intervals.specs.Merge.{byte_of}

@@ -5,7 +5,8 @@ use mathlib.Core.Bool.{Bool, true, cond}
 use mathlib.Core.List.{List}
 use native.Mathlib.Omega.{arith}
 use lib.ListN.{length, drop, get_or}
-use Rattle.intervals.specs.Interval.{Interval, interval, Canonical}
+use Rattle.intervals.specs.declared.Interval.{Interval}
+use Rattle.intervals.specs.Interval.{interval, Canonical}
 use Rattle.tracks.specs.Tracks.{wanted, wanted_at, marks_for}
 use Rattle.intervals.specs.Terms.Leading.{ended}
 use Rattle.tracks.specs.Terms.Sweep.{side_of, sweep, piece_at}

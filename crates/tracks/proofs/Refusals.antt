@@ -9,18 +9,18 @@ use lib.Dec.{ltb}
 use lib.ListN.{length, get_or}
 use Rattle.checks.specs.Checks.{check}
 use Rattle.checks.proofs.Next.{passes}
-use Rattle.intervals.specs.Interval.{Interval, usual}
+use Rattle.intervals.specs.declared.Interval.{Interval}
+use Rattle.intervals.specs.Interval.{usual}
 use Rattle.intervals.proofs.Usual.{usual_agrees}
 use Rattle.tracks.specs.Tracks.{checks, refusal}
 use Rattle.tracks.specs.Terms.Sweep.{Ready}
 
-pub record Accepted (n : ℕ) (ours : List Interval) (ms : List ℕ) (theirs : List Interval) (xs : List (List ℕ)) (ys : List ℕ) : Type 0 where
+pub record Accepted (n : ℕ) (ours : List Interval) (ms : List ℕ) (theirs : List Interval) (xs : List Interval) (ys : List ℕ) : Type 0 where
   pub few : n ≤ 2147483647
   pub ready : Ready n ours ms theirs xs ys
 
-pub accepted : {n : ℕ} {ours : List Interval} {ms : List ℕ} {theirs : List Interval} {xs : List (List ℕ)} {ys : List ℕ}
+pub accepted : {n : ℕ} {ours : List Interval} {ms : List ℕ} {theirs : List Interval} {xs : List Interval} {ys : List ℕ}
     → refusal n ours ms theirs (length xs) (length ys) ≡ 0 → Accepted n ours ms theirs xs ys
-unfolding refusal
 accepted {n} {ours} {ms} {theirs} {xs} {ys} h =
     let o : ℕ = length ours in
     let t : ℕ = length theirs in

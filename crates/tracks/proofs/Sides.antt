@@ -8,7 +8,8 @@ use native.Mathlib.Omega.{arith}
 use lib.Dec.{leb}
 use lib.ListN.{length, take, drop, get_or}
 use borrow.Author.Tests.{lt-ltb, le-ltb, le-leb, lt-leb}
-use Rattle.intervals.specs.Interval.{Interval, interval, covered, Ascending}
+use Rattle.intervals.specs.declared.Interval.{Interval}
+use Rattle.intervals.specs.Interval.{interval, covered, Ascending}
 use Rattle.intervals.proofs.Order.{lt_or_le}
 use Rattle.tracks.specs.Tracks.{seen, marks_for}
 use Rattle.intervals.specs.Terms.Leading.{leading, ended}

@@ -5,7 +5,8 @@ use mathlib.Core.Bool.{Bool, true, false, cond, true≢false}
 use mathlib.Core.List.{List, [], ◌∷◌, ◌++◌}
 use mathlib.Core.Logic.{◌⊎◌, inl, inr, ⊎_elim, ◌↔◌}
 use native.Mathlib.Omega.{arith}
-use Rattle.intervals.specs.Interval.{Interval, interval, Holds, Covers, covered, Ascending, Canonical}
+use Rattle.intervals.specs.declared.Interval.{Interval}
+use Rattle.intervals.specs.Interval.{interval, Holds, Covers, covered, Ascending, Canonical}
 use Rattle.intervals.specs.Terms.Bounds.{EndsBelow}
 use Rattle.intervals.specs.Save.{save}
 use Rattle.intervals.specs.Merge.{nonempty}

@@ -9,7 +9,8 @@ use lib.Bits.{bit_or}
 use lib.ListN.{length, get_or, length-append, length-map}
 use Rattle.buffers.specs.Fill.{put, put_at}
 use Rattle.buffers.proofs.Put.{put_next}
-use Rattle.intervals.specs.Interval.{Interval, interval, entries, Wrote}
+use Rattle.intervals.specs.declared.Interval.{Interval}
+use Rattle.intervals.specs.Interval.{interval, Wrote}
 use Rattle.intervals.specs.Terms.Bounds.{EndsBelow}
 use Rattle.intervals.specs.Merge.{nonempty}
 use Rattle.intervals.proofs.Joining.{nonempty_some, nonempty_none}
@@ -30,7 +31,7 @@ use Rattle.tracks.proofs.Pieces.{Cut, cut}
 
 -- Up to where the sweep stands the list is some intervals that are written and one, [s, e) with the marks m, that may grow.
 pub record Sweeping (kind : Joined) (n : ℕ) (ours : List Interval) (ms : List ℕ) (theirs : List Interval)
-    (xs xs' : List (List ℕ)) (ys ys' : List ℕ) (w : Sweep) (s e m c : ℕ) : Type 0 where
+    (xs xs' : List Interval) (ys ys' : List ℕ) (w : Sweep) (s e m c : ℕ) : Type 0 where
   pub done : List Interval
   pub within : w.at ≤ n
   pub ours_ended : w.ours ≡ ended ours w.at
@@ -46,7 +47,7 @@ pub record Sweeping (kind : Joined) (n : ℕ) (ours : List Interval) (ms : List 
   pub wrote_marks : ys' ≡ put (map (marks_for ours ms) done) ys
 
 pub sweeping_start : {kind : Joined} {n : ℕ} {ours : List Interval} {ms : List ℕ} {theirs : List Interval}
-    {xs : List (List ℕ)} {ys : List ℕ} → Ready n ours ms theirs xs ys
+    {xs : List Interval} {ys : List ℕ} → Ready n ours ms theirs xs ys
     → Sweeping kind n ours ms theirs xs xs ys ys (sweep 0 0 0) 0 0 0 0
 unfolding stretches nonempty
 sweeping_start {kind} {n} {ours} {ms} {theirs} r =
@@ -75,7 +76,7 @@ map_nonempty : (f : Interval → ℕ) (m s e : ℕ) → m ≡ f (interval s e) �
 map_nonempty f m s e q =
     ⊎_elim (λ lt. rw (nonempty_some s e lt) (ap (λ (v : ℕ). v ∷ []) q)) (λ ge. rw (nonempty_none s e ge)) (lt_or_le s e)
 
-module _ {kind : Joined} {n : ℕ} {ours : List Interval} {ms : List ℕ} {theirs : List Interval} {xs xs' : List (List ℕ)} {ys ys' : List ℕ}
+module _ {kind : Joined} {n : ℕ} {ours : List Interval} {ms : List ℕ} {theirs : List Interval} {xs xs' : List Interval} {ys ys' : List ℕ}
     {w : Sweep} {s e m c : ℕ} (v : Sweeping kind n ours ms theirs xs xs' ys ys' w s e m c) (r : Ready n ours ms theirs xs ys) where
   abbrev f : ℕ → Bool
   f = wanted_at kind ours theirs
@@ -95,7 +96,7 @@ module _ {kind : Joined} {n : ℕ} {ours : List Interval} {ms : List ℕ} {their
   sweeping_marks_room = omega (arith, fits, r.marks_room, v.marks_long)
 
   -- It is written.
-  module _ {xs'' : List (List ℕ)} {ys'' : List ℕ} {c' : ℕ} (p : xs'' ≡ put_at c (entries (nonempty s e)) xs')
+  module _ {xs'' : List Interval} {ys'' : List ℕ} {c' : ℕ} (p : xs'' ≡ put_at c (nonempty s e) xs')
       (q : ys'' ≡ put_at c (map (λ (_ : Interval). m) (nonempty s e)) ys') (t : c' ≡ c + length (nonempty s e)) where
     written : Wrote (v.done ++ nonempty s e) xs xs'' c'
     written = wrote_next (nonempty s e) v.wrote p t
@@ -179,8 +180,8 @@ module _ {kind : Joined} {n : ℕ} {ours : List Interval} {ms : List ℕ} {their
           wrote_marks = v.wrote_marks;
         }
 
-    pub sweeping_gap : {m' c' : ℕ} {xs'' : List (List ℕ)} {ys'' : List ℕ} → wanted kind p.ours p.theirs ≡ true
-        → m' ≡ cond p.ours (get_or ms w.ours 0 % 4) 0 → e < w.at → xs'' ≡ put_at c (entries (nonempty s e)) xs'
+    pub sweeping_gap : {m' c' : ℕ} {xs'' : List Interval} {ys'' : List ℕ} → wanted kind p.ours p.theirs ≡ true
+        → m' ≡ cond p.ours (get_or ms w.ours 0 % 4) 0 → e < w.at → xs'' ≡ put_at c (nonempty s e) xs'
         → ys'' ≡ put_at c (map (λ (_ : Interval). m) (nonempty s e)) ys' → c' ≡ c + length (nonempty s e)
         → length xs'' ≡ length xs' → length ys'' ≡ length ys'
         → Sweeping kind n ours ms theirs xs xs'' ys ys'' p.next w.at p.next.at m' c'

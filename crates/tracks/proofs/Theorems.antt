@@ -5,7 +5,8 @@ use mathlib.Core.Bool.{Bool, true, false, ◌&&◌, ◌||◌, not, cond, or-fals
 use mathlib.Core.List.{List, [], map}
 use native.Mathlib.Omega.{arith}
 use lib.ListN.{length, take}
-use Rattle.intervals.specs.Interval.{Interval, covered, covered_in, Canonical}
+use Rattle.intervals.specs.declared.Interval.{Interval}
+use Rattle.intervals.specs.Interval.{covered, covered_in, Canonical}
 use Rattle.intervals.proofs.Counted.{covered_agrees, same_test, covered_empty, covered_more}
 use Rattle.tracks.specs.Stretches.{stretches}
 use Rattle.tracks.specs.Tracks.{wanted, wanted_at, joined, marks_for, joined_marks}

@@ -1,6 +1,7 @@
 -- The terms of the theorems about marks (proofs/Marks.antt).
 use Rattle.std.specs.Prelude.{ℕ, ◌<◌, ◌≡◌, Bool, true, List, length, get_or}
-use Rattle.intervals.specs.Interval.{Interval, interval, Holds}
+use Rattle.intervals.specs.declared.Interval.{Interval}
+use Rattle.intervals.specs.Interval.{interval, Holds}
 
 -- One of our intervals has the mark and a letter in common with j.
 abbrev pub Gives : (ℕ → Bool) → List Interval → List ℕ → Interval → Type 0

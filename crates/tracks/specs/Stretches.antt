@@ -1,6 +1,6 @@
 -- The letters that pass a test, as a list of intervals.
 use Rattle.std.specs.Prelude.{ℕ, zero, suc, ◌+◌, Bool, cond, List, []}
-use Rattle.intervals.specs.Interval.{Interval}
+use Rattle.intervals.specs.declared.Interval.{Interval}
 use Rattle.intervals.specs.Save.{save}
 
 -- Of n letters those that pass, saved one after another: their longest stretches.

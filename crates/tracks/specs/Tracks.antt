@@ -1,14 +1,13 @@
 -- Joining tracks: the letters of our list and of theirs, in either, in both, or in ours and outside theirs, with the marks of our intervals.
-use Rattle.std.specs.Prelude.{ℕ, ◌+◌, ◌/◌, ◌%◌, ◌<◌, min, max, ◌≡◌, Bool, false, not, ◌&&◌, ◌||◌, List, [], ◌∷◌, map, ltb, eqb, length, drop, get_or}
-use Rattle.buffers.specs.Fill.{put}
+use Rattle.std.specs.Prelude.{ℕ, ◌+◌, ◌/◌, ◌%◌, min, max, Bool, false, not, ◌&&◌, ◌||◌, List, [], ◌∷◌, map, ltb, eqb, length, drop, get_or}
 use Rattle.checks.specs.Checks.{Check, check, first}
 use Rattle.checks.specs.Tests.{too_many_letters}
-use Rattle.intervals.specs.Interval.{Interval, covered, usual, Wrote}
+use Rattle.intervals.specs.declared.Interval.{Interval}
+use Rattle.intervals.specs.Interval.{covered, usual}
 use Rattle.intervals.specs.Merge.{byte_of}
 use Rattle.tracks.specs.Stretches.{stretches}
 use Rattle.tracks.specs.declared.Joined.{Joined}
 use Rattle.tracks.specs.declared.Joined.TheVariants.{Either, Both, Outside}
-use Rattle.tracks.specs.declared.Joining.{Joining}
 
 -- Whether a letter is wanted, by whether ours covers it and whether theirs does.
 abbrev pub wanted : Joined → Bool → Bool → Bool
@@ -59,14 +58,5 @@ checks n ours ms theirs xs ys =
     ∷ check 11 (too_short_of (length ours) (length ms) (length theirs) xs ys)
     ∷ []
 
-unfoldable pub refusal : ℕ → List Interval → List ℕ → List Interval → ℕ → ℕ → ℕ
+abbrev pub refusal : ℕ → List Interval → List ℕ → List Interval → ℕ → ℕ → ℕ
 refusal n ours ms theirs xs ys = first (checks n ours ms theirs xs ys)
-
--- What the call answers, r, and what it leaves of the lent slices xs and ys in xs' and ys'.
--- Refused: no interval, and the slices as they were. Accepted: the wanted letters' list and its marks, each over its slice's front.
-pub record Joins (kind : Joined) (n : ℕ) (ours : List Interval) (ms : List ℕ) (theirs : List Interval)
-    (xs xs' : List (List ℕ)) (ys ys' : List ℕ) (r : Joining) : Type 0 where
-  pub number : r.refusal ≡ refusal n ours ms theirs (length xs) (length ys)
-  pub refused : 0 < r.refusal → (r.count ≡ 0) × (xs' ≡ xs) × (ys' ≡ ys)
-  pub accepted : r.refusal ≡ 0
-      → Wrote (joined kind n ours theirs) xs xs' r.count × (ys' ≡ put (joined_marks kind n ours ms theirs) ys)

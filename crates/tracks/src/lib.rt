@@ -2,15 +2,15 @@
 
 #![tactic(auto)]
 
-ghost use Rattle.std.specs.Prelude.{◌≡◌, true, cond, map, ◌+◌, ◌%◌, ◌≤◌, ◌<◌, length, drop, get_or};
-ghost use Rattle.buffers.specs.Fill.{put_at};
-ghost use Rattle.intervals.specs.Interval.{entries, list_of};
+ghost use Rattle.std.specs.Prelude.{◌≡◌, true, cond, map, ◌+◌, ◌%◌, ◌≤◌, ◌<◌, length, drop, get_or, OnOk, OnErr, IfOk};
+ghost use Rattle.buffers.specs.Fill.{put, put_at};
 ghost use Rattle.intervals.specs.Merge.{nonempty};
-ghost use Rattle.tracks.specs.Tracks.{wanted, too_short_of, refusal, Joins};
+ghost use Rattle.checks.specs.Refusal.{number_of};
+ghost use Rattle.tracks.specs.Tracks.{wanted, joined, joined_marks, too_short_of, refusal};
 ghost use Rattle.tracks.specs.Terms.Sweep.{side_of, ended_first, piece_at, Ready, Swept};
 
-use checks::{below_sum, next_check, too_many_letters};
-use intervals::{is_usual, min_u32};
+use checks::{Refusal, below_sum, too_many_letters};
+use intervals::{Interval, is_usual};
 
 // The letters that are wanted: in either list, in both, in ours and outside theirs.
 #[derive(Clone, Copy)]
@@ -18,13 +18,6 @@ pub enum Joined {
     Either,
     Both,
     Outside,
-}
-
-// The refusal number and 0, or 0 and the number of intervals.
-#[derive(Clone, Copy)]
-pub struct Joining {
-    pub refusal: u32,
-    pub count: usize,
 }
 
 fn wanted(kind: Joined, ours: bool, theirs: bool) -> bool
@@ -45,8 +38,8 @@ struct Side {
 }
 
 // Of n letters; the first i intervals end at `at` or before it.
-fn side_at(list: &[[u32; 2]], i: usize, at: u32, n: u32) -> Side
-    ensures { result ≡ side_of n (drop i (list_of list.now)) at }
+fn side_at(list: &[Interval], i: usize, at: u32, n: u32) -> Side
+    ensures { result ≡ side_of n (drop i list.now) at }
 {
     if list.len() <= i {
         return Side {
@@ -54,7 +47,7 @@ fn side_at(list: &[[u32; 2]], i: usize, at: u32, n: u32) -> Side
             until: n,
         };
     }
-    let start = list[i][0];
+    let start = list[i].start;
     if at < start {
         return Side {
             covers: false,
@@ -63,18 +56,18 @@ fn side_at(list: &[[u32; 2]], i: usize, at: u32, n: u32) -> Side
     }
     Side {
         covers: true,
-        until: list[i][1],
+        until: list[i].end,
     }
 }
 
 // How many intervals end at `at` or before it, where the first i do, and at most one more.
-fn ended(list: &[[u32; 2]], i: usize, at: u32) -> usize
-    ensures { result ≡ i + ended_first (drop i (list_of list.now)) at }
+fn ended(list: &[Interval], i: usize, at: u32) -> usize
+    ensures { result ≡ i + ended_first (drop i list.now) at }
 {
     if list.len() <= i {
         return i;
     }
-    if list[i][1] <= at {
+    if list[i].end <= at {
         return i + 1;
     }
     i
@@ -97,15 +90,15 @@ struct Piece {
 }
 
 #[tactic(auto, unfolding(crate::specs::Terms::Sweep::piece_at))]
-fn next_piece(ours: &[[u32; 2]], theirs: &[[u32; 2]], n: u32, sweep: Sweep) -> Piece
-    ensures { result ≡ piece_at n (list_of ours.now) (list_of theirs.now) sweep }
+fn next_piece(ours: &[Interval], theirs: &[Interval], n: u32, sweep: Sweep) -> Piece
+    ensures { result ≡ piece_at n ours.now theirs.now sweep }
 {
     let at = sweep.at;
     let i = sweep.ours;
     let j = sweep.theirs;
     let o = side_at(ours, i, at, n);
     let t = side_at(theirs, j, at, n);
-    let end = min_u32(o.until, t.until);
+    let end = o.until.min(t.until);
     let next = Sweep {
         at: end,
         ours: ended(ours, i, end),
@@ -131,7 +124,7 @@ fn marks_at(marks: &[u8], i: usize, covers: bool) -> u8
 
 // Puts [start, end) and its marks after the first `count` entries if it has a letter, and answers how many there are then.
 fn push(
-    list: &mut [[u32; 2]],
+    list: &mut [Interval],
     list_marks: &mut [u8],
     count: usize,
     start: u32,
@@ -140,12 +133,12 @@ fn push(
 ) -> usize
     requires end_in_bounds { count + length (nonempty start end) ≤ length list.old }
     requires end_in_bounds_2 { count + length (nonempty start end) ≤ length list_marks.old }
-    ensures { (list.new ≡ put_at count (entries (nonempty start end)) list.old)
+    ensures { (list.new ≡ put_at count (nonempty start end) list.old)
         × (list_marks.new ≡ put_at count (map (λ _. marks) (nonempty start end)) list_marks.old)
         × (result ≡ count + length (nonempty start end)) }
 {
     if start < end {
-        list[count] = [start, end];
+        list[count] = Interval { start, end };
         list_marks[count] = marks;
         return count + 1;
     }
@@ -156,14 +149,14 @@ fn push(
 fn join_lists(
     kind: Joined,
     n: u32,
-    ours: &[[u32; 2]],
+    ours: &[Interval],
     marks: &[u8],
-    theirs: &[[u32; 2]],
-    list: &mut [[u32; 2]],
+    theirs: &[Interval],
+    list: &mut [Interval],
     list_marks: &mut [u8],
 ) -> usize
-    requires { Ready n (list_of ours.now) marks.now (list_of theirs.now) list.old list_marks.old }
-    ensures { Swept kind n (list_of ours.now) marks.now (list_of theirs.now)
+    requires { Ready n ours.now marks.now theirs.now list.old list_marks.old }
+    ensures { Swept kind n ours.now marks.now theirs.now
         list.old list.new list_marks.old list_marks.new result }
 {
     let mut sweep = Sweep {
@@ -204,42 +197,50 @@ fn too_short(ours: usize, marks: usize, theirs: usize, list: usize, list_marks: 
     (marks < ours) | (below_sum(list, ours, theirs) | below_sum(list_marks, ours, theirs))
 }
 
-// The number of the first check that fails, 0 if none does.
+// The first check that fails.
 fn check(
     n: usize,
-    ours: &[[u32; 2]],
+    ours: &[Interval],
     marks: &[u8],
-    theirs: &[[u32; 2]],
+    theirs: &[Interval],
     list: usize,
     list_marks: usize,
-) -> u32
-    ensures { result ≡ refusal n (list_of ours.now) marks.now (list_of theirs.now) list list_marks }
+) -> Result<(), Refusal>
+    ensures { number_of result ≡ refusal n ours.now marks.now theirs.now list list_marks }
 {
-    let short = too_short(ours.len(), marks.len(), theirs.len(), list, list_marks);
-    let r = next_check(0, 10, too_many_letters(n));
-    let r = next_check(r, 16, !is_usual(ours, n));
-    let r = next_check(r, 16, !is_usual(theirs, n));
-    next_check(r, 11, short)
+    if too_many_letters(n) {
+        return Err(Refusal::TooManyLetters);
+    }
+    if !is_usual(ours, n) {
+        return Err(Refusal::UnusualList);
+    }
+    if !is_usual(theirs, n) {
+        return Err(Refusal::UnusualList);
+    }
+    if too_short(ours.len(), marks.len(), theirs.len(), list, list_marks) {
+        return Err(Refusal::ShortSlice);
+    }
+    Ok(())
 }
 
-// Joins our list, with a byte of marks for each interval, and theirs, both in n letters: the list of the wanted letters, and its marks beside it.
+/// Joins our list, with a byte of marks for each interval, and theirs, both in n letters: the list of the wanted letters, and its marks beside it.
+/// Returns the number of intervals.
 pub fn join_tracks(
     kind: Joined,
     n: usize,
-    ours: &[[u32; 2]],
+    ours: &[Interval],
     marks: &[u8],
-    theirs: &[[u32; 2]],
-    list: &mut [[u32; 2]],
+    theirs: &[Interval],
+    list: &mut [Interval],
     list_marks: &mut [u8],
-) -> Joining
-    ensures { Joins kind n (list_of ours.now) marks.now (list_of theirs.now)
-        list.old list.new list_marks.old list_marks.new result }
+) -> Result<usize, Refusal>
+    ensures count { IfOk result (λ count. count ≡ length (joined kind n ours.now theirs.now)) }
+    ensures room { IfOk result (λ count. count ≤ length list.old) }
+    ensures list { OnOk result (list.new ≡ put (joined kind n ours.now theirs.now) list.old) }
+    ensures marks { OnOk result (list_marks.new ≡ put (joined_marks kind n ours.now marks.now theirs.now) list_marks.old) }
+    ensures refusal { number_of result ≡ refusal n ours.now marks.now theirs.now (length list.old) (length list_marks.old) }
+    ensures err { OnErr result ((list.new ≡ list.old) × (list_marks.new ≡ list_marks.old)) }
 {
-    let refusal = check(n, ours, marks, theirs, list.len(), list_marks.len());
-    if refusal != 0 {
-        return Joining { refusal, count: 0 };
-    }
-    let letters = n as u32;
-    let count = join_lists(kind, letters, ours, marks, theirs, list, list_marks);
-    Joining { refusal: 0, count }
+    check(n, ours, marks, theirs, list.len(), list_marks.len())?;
+    Ok(join_lists(kind, n as u32, ours, marks, theirs, list, list_marks))
 }

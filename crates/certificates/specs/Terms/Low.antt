@@ -1,6 +1,6 @@
 -- Terms of contracts: starts that are low. Where a search has found nothing, most starts of the window score far below 0, and a few letters later they still do: what each newer place adds to their scores is at most what it adds to the second sum.
 -- An exact score is gain - loss, naturals in units of 2^-1074.
-use Rattle.std.specs.Prelude.{◌≡◌, true, false, List, reverse, ℕ, ◌+◌, ◌-◌, ◌≤◌, ◌<◌, length, take, drop, ltb, Float}
+use Rattle.std.specs.Prelude.{◌≡◌, true, List, reverse, ℕ, ◌+◌, ◌-◌, ◌≤◌, ◌<◌, Option, Some, None, IfSome, cond, length, take, drop, ltb, Float}
 use Rattle.floats.specs.Binary64.{zero64}
 use Rattle.letters.specs.Place.{Place}
 use Rattle.certificates.specs.declared.LowStarts.{LowStarts}
@@ -17,17 +17,13 @@ use Rattle.scans.specs.Terms.Units.{gain, loss}
 use Rattle.search.specs.Terms.Certified.{Kept}
 use Rattle.certificates.specs.Terms.Made.{AtLeast}
 
--- Nothing is known.
-abbrev pub no_low_starts : LowStarts
-no_low_starts = record { on = false; reach = 0; score = zero64 }
-
 -- The starts of this many newest places are judged anew at each search.
 abbrev pub near_starts : ℕ
 near_starts = 32
 
 -- The starts of up to `reach` places are low, if more than the near ones are read.
-abbrev pub low_starts_to : ℕ → Float → LowStarts
-low_starts_to reach score = record { on = ltb near_starts reach; reach = reach; score = score }
+abbrev pub low_starts_to : ℕ → Float → Option LowStarts
+low_starts_to reach score = cond (ltb near_starts reach) (Some (record { reach = reach; score = score })) None
 
 -- Of the window q: each start of more than these and at most `reach` places scores `score` or less, and so does the second sum over `reach` places, which the newest of them add to the places before.
 -- The place at index a is the l-th from the newest where a + l is the window's length.
@@ -37,15 +33,6 @@ pub record LowBounds (S : Setup) (q : List Place) (c : LowStarts) : Type 0 where
   pub reaches : near_starts < c.reach
   pub low : (a l : ℕ) → a + l ≡ length q → near_starts < l → l ≤ c.reach → AtLeast c.score (gain S (drop a q)) (loss S l)
   pub ends : (a : ℕ) → a + c.reach ≡ length q → AtLeast c.score (gain S q) (gain S (take a q) + loss S c.reach)
-
--- While they are known.
-pub record Low (S : Setup) (q : List Place) (c : LowStarts) : Type 0 where
-  pub bounds : c.on ≡ true → LowBounds S q c
-
--- What a search of its own tells of the window's low starts; the counts are cleared again.
-pub record FindsLow (S : Setup) (q : List Place) (c : LowStarts) (counts : List ℕ) : Type 0 where
-  pub low : Low S q c
-  pub clear : counts ≡ cleared S
 
 -- ---- Both sums of a backward scan over the l newest places of the window q.
 unfoldable pub newest_sum : Setup → List Place → ℕ → Float
@@ -65,7 +52,7 @@ pub record ReadsNewest (S : Setup) (q : List Place) (l : ℕ) (a : BackwardState
 pub record ReadsLow (S : Setup) (q : List Place) (r : LowRead) (counts : List ℕ) : Type 0 where
   pub inside : r.at ≤ length q
   pub counted : Counted (kmers S) counts (drop r.at q)
-  pub low : Low S q r.low
+  pub low : IfSome r.low (LowBounds S q)
 
 pub record ReadsNear (S : Setup) (q : List Place) (r : NearRead) (counts : List ℕ) : Type 0 where
   pub inside : r.at ≤ length q

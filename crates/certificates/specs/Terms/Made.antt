@@ -9,6 +9,8 @@ use Rattle.floats.proofs.Sums.{After, err}
 use Rattle.letters.specs.Place.{Place}
 use Rattle.search.specs.declared.Certificate.{Certificate}
 use Rattle.scans.specs.declared.Params.{Params}
+use Rattle.scans.specs.declared.run.Setup.{Setup as RunSetup}
+use Rattle.scans.specs.declared.run.Ring.{Ring}
 use Rattle.certificates.specs.declared.certify.Reading.{Reading}
 use Rattle.certificates.specs.declared.certify.Middle.{Middle}
 use Rattle.certificates.specs.declared.certify.Newer.{Newer}
@@ -47,6 +49,9 @@ pub record Making (p : Params) (ring : List ℕ) (head len : ℕ) (ln f : List F
   pub counts_are : counts_length ≡ 4 ^ p.kmer
   pub able : Certifiable (setup_of p ln f)
   pub drop_ranged : Ranged 1048576 p.drop_limit
+
+abbrev pub Makes : RunSetup → Ring → ℕ → Type 0
+Makes s r counts_length = Making s.params r.queue.now r.head r.len s.ln.now s.f.now counts_length
 
 -- Whether certificates are kept for the numbers and tables.
 abbrev pub is_able : Params → List Float → Bool

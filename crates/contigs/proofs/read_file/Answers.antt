@@ -13,13 +13,13 @@ take_read a k n xs ys within fits =
     ap₂ (λ (l m : List ℕ). l ++ m) (sym (take_at (take a xs) (ys ++ after) a front)) (sym (ap (λ (l : List ℕ). take n l) (drop_at (take a xs) (ys ++ after) a front) ∙ take-append-le n ys after fits))
     ∙ sym (take-add a n (put_mid a k xs ys))
 
-pub loop-reads-preserved-in-Ok : goal.loop-reads-preserved-in-Ok
-loop-reads-preserved-in-Ok g c =
-    let I = c.loop-reads.invariant in
+pub loop-preserved : goal.loop-preserved
+loop-preserved g c =
+    let I = c.loop.invariant in
     record {
       read =
           subst (Consumes _ _)
-          (take_read c.loop-reads.count (length c.loop-reads.file - c.loop-reads.count) c.in-Ok.n c.loop-reads.file c.read.new.buf I.within c.in-Ok.ensures.bound.0)
+          (take_read c.loop.count (length c.loop.file - c.loop.count) c.in-Ok.n c.loop.file c.read.new.buf I.within c.in-Ok.ensures.bound.0)
           (Consumes-trans _ _ _ _ _ I.read c.in-Ok.ensures.bytes.0);
       within = search rules;
     }

@@ -1,8 +1,8 @@
 use native.Mathlib.Omega.{arith}
-use mathlib.Core.Path.{refl}
+use mathlib.Core.Path.{refl, ◌∙◌}
 use borrow.Author.Rules.{rules}
 use Rattle.contigs_text.proofs.Opening.{part_none, part_as, part_all}
-use Rattle.contigs_text.proofs.Starting.{refusal_fits, size_fits, too_many, faulty, faultless}
+use Rattle.contigs_text.proofs.Starting.{refusal_fits, size_fits, too_many, faulty, faultless, fault_positive}
 use Rattle.contigs_text.proofs.first_part.Goals as goal
 
 -- `first_part` meets its contract: the file is too large, has a fault, or all of its text is left.
@@ -12,8 +12,9 @@ returns-then-file-gt-MOST_BYTES-clause-part c = (λ list. part_all (size_fits _ 
 pub write_refusal-end-requires : goal.write_refusal-end-requires
 write_refusal-end-requires c = refusal_fits _ _ (search rules) c.requires
 
-pub returns-then-fault-gt0-clause-part : goal.returns-then-fault-gt0-clause-part
-returns-then-fault-gt0-clause-part c = (λ list. part_all (refusal_fits _ _ (search rules) c.requires) c.write_refusal-end.ensures (faulty _ (omega arith) _ c.first_fault-fault.ensures c.if-fault-gt0.true) refl)
+pub returns-in-Some-clause-part : goal.returns-in-Some-clause-part
+returns-in-Some-clause-part c =
+    (λ list. part_all (refusal_fits _ _ (search rules) c.requires) c.write_refusal-end.ensures (faulty _ (omega arith) _ (c.number.ensures ∙ c.in-Some.ensures) (rw c.number.ensures (fault_positive c.in-Some.fault))) refl)
 
-pub returns-clause-part : goal.returns-clause-part
-returns-clause-part c = (λ list. part_as (faultless _ (omega arith) _ c.first_fault-fault.ensures (omega (arith, c.if-fault-gt0.false)) list) (part_none _ _ 0 (omega arith)))
+pub returns-in-None-clause-part : goal.returns-in-None-clause-part
+returns-in-None-clause-part c = (λ list. part_as (faultless _ (omega arith) 0 c.in-None.ensures refl list) (part_none _ _ 0 (omega arith)))

@@ -1,12 +1,7 @@
-use Prim.Native.Nat.{◌-◌, ◌+◌}
-use mathlib.Core.Bool.{true}
-use lib.ListN.{length, drop}
+-- the index, and what is still counted
+use Rattle.std.proofs.Common.{◌≡◌, ◌+◌, true, drop}
 use Rattle.fasta.specs.Terms.Lengths.{lines_length}
-use Rattle.fasta.proofs.Scanning.{Scans}
 use Rattle.fasta.proofs.lines_end.Given as goal
 
 abbrev pub invariant-loop-i : goal.invariant-loop-i
-invariant-loop-i l = Scans (l.from + lines_length true (drop l.from l.file)) (lines_length l.fresh) l.file l.i
-
-abbrev pub decreases-loop-i : goal.decreases-loop-i
-decreases-loop-i l = length l.file - l.i
+invariant-loop-i l = l.i + lines_length l.fresh (drop l.i l.file) ≡ l.from + lines_length true (drop l.from l.file)

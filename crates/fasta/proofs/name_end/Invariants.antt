@@ -1,11 +1,7 @@
-use Prim.Native.Nat.{◌-◌, ◌+◌}
-use lib.ListN.{length, drop}
+-- the index, and what is still counted
+use Rattle.std.proofs.Common.{◌≡◌, ◌+◌, drop}
 use Rattle.fasta.specs.Terms.Lengths.{name_length}
-use Rattle.fasta.proofs.Scanning.{Scans}
 use Rattle.fasta.proofs.name_end.Given as goal
 
 abbrev pub invariant-loop-i : goal.invariant-loop-i
-invariant-loop-i l = Scans (l.from + name_length (drop l.from l.file)) name_length l.file l.i
-
-abbrev pub decreases-loop-i : goal.decreases-loop-i
-decreases-loop-i l = length l.file - l.i
+invariant-loop-i l = l.i + name_length (drop l.i l.file) ≡ l.from + name_length (drop l.from l.file)

@@ -1,11 +1,7 @@
-use Prim.Native.Nat.{◌-◌, ◌+◌}
-use lib.ListN.{length, drop}
+-- the index, and what is still counted
+use Rattle.std.proofs.Common.{◌≡◌, ◌+◌, drop}
 use Rattle.fasta.specs.Terms.Lengths.{empty_lines}
-use Rattle.fasta.proofs.Scanning.{Scans}
 use Rattle.fasta.proofs.skip_empty.Given as goal
 
 abbrev pub invariant-loop-i : goal.invariant-loop-i
-invariant-loop-i l = Scans (l.from + empty_lines (drop l.from l.file)) empty_lines l.file l.i
-
-abbrev pub decreases-loop-i : goal.decreases-loop-i
-decreases-loop-i l = length l.file - l.i
+invariant-loop-i l = l.i + empty_lines (drop l.i l.file) ≡ l.from + empty_lines (drop l.from l.file)

@@ -1,6 +1,6 @@
 -- Terms of contracts: where the intervals of a list may lie.
 use Rattle.std.specs.Prelude.{ℕ, ◌≤◌, ◌<◌, List, [], ◌∷◌}
-use Rattle.intervals.specs.Interval.{Interval}
+use Rattle.intervals.specs.declared.Interval.{Interval}
 
 -- Every end lies below e.
 abbrev pub EndsBelow : ℕ → List Interval → Type 0

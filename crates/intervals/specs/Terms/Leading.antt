@@ -1,6 +1,6 @@
 -- Terms of contracts: how many intervals at the front of a list pass a test, as those that end at letter x or before it.
 use Rattle.std.specs.Prelude.{ℕ, suc, Bool, cond, List, [], ◌∷◌, leb}
-use Rattle.intervals.specs.Interval.{Interval}
+use Rattle.intervals.specs.declared.Interval.{Interval}
 
 unfoldable pub leading : (Interval → Bool) → List Interval → ℕ
 leading p [] = 0

@@ -1,6 +1,6 @@
 -- Terms of contracts: what `merge_intervals` has still to join when it stands within its two lists, fs and rs.
 use Rattle.std.specs.Prelude.{ℕ, ◌+◌, ◌-◌, ◌≤◌, ◌≡◌, List, ◌∷◌, map, length, take, drop}
-use Rattle.intervals.specs.Interval.{Interval}
+use Rattle.intervals.specs.declared.Interval.{Interval}
 use Rattle.intervals.specs.declared.Marked.{Marked}
 use Rattle.intervals.specs.Merge.{from_forward, from_reverse, interleave_marked, backwards}
 use Rattle.intervals.specs.declared.Picked.{Picked}

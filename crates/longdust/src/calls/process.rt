@@ -6,6 +6,7 @@ ghost use Rattle.longdust.specs.Call.{Answered, Filled};
 use crate::calls::process_tables::process_tables;
 use crate::refusals::{check, refused};
 use crate::{Answer, Lent, LongdustOptions};
+use intervals::Interval;
 
 // Fills `ln` and `f` for the options and the sequence, and masks by them as `process_tables` does.
 pub fn process(
@@ -19,9 +20,9 @@ pub fn process(
     candidates: &mut [scans::ForwardPosition],
     codes: &mut [u8],
     reverse_codes: &mut [u8],
-    forward_list: &mut [[u32; 2]],
-    reverse_list: &mut [[u32; 2]],
-    list: &mut [[u32; 2]],
+    forward_list: &mut [Interval],
+    reverse_list: &mut [Interval],
+    list: &mut [Interval],
     marks: &mut [u8],
 ) -> Answer
     ensures { Answered Filled options sequence.now

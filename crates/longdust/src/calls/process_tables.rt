@@ -6,6 +6,7 @@ ghost use Rattle.longdust.specs.Call.{Answered, Kept};
 use crate::refusals::{check, refused};
 use crate::run::mask_encoded;
 use crate::{Answer, Lent, LongdustOptions};
+use intervals::Interval;
 
 // Masks `sequence` by the tables `ln` and `f`. The intervals go to the front of `list`, their marks to that of `marks`; the answer has their count, or the refusal.
 #[tactic(auto, using(crate::proofs::PublicCalls::called))]
@@ -20,9 +21,9 @@ pub fn process_tables(
     candidates: &mut [scans::ForwardPosition],
     codes: &mut [u8],
     reverse_codes: &mut [u8],
-    forward_list: &mut [[u32; 2]],
-    reverse_list: &mut [[u32; 2]],
-    list: &mut [[u32; 2]],
+    forward_list: &mut [Interval],
+    reverse_list: &mut [Interval],
+    list: &mut [Interval],
     marks: &mut [u8],
 ) -> Answer
     ensures { Answered Kept options sequence.now

@@ -1,19 +1,22 @@
-use Rattle.scans.specs.Setup.{Setup}
-use Rattle.scans.specs.Terms.Numbers.{setup_of}
+use mathlib.Core.Path.{sym, subst}
+use mathlib.Core.List.{List}
+use Prim.Native.Nat.{ℕ}
+use Rattle.intervals.specs.declared.Interval.{Interval}
+use Rattle.scans.specs.Terms.Run.{as_setup}
 use Rattle.step.specs.Step.{intervals_of}
 use Rattle.mask.specs.Terms.Both.{Held}
-use Rattle.mask.proofs.Strands.{scanned, mergeable, merged_wrote}
+use Rattle.mask.proofs.Strands.{mergeable, merged_wrote}
 use Rattle.mask.proofs.both_strands.Goals as goal
-use Rattle.mask.proofs.both_strands.Goals.{After-inner_process-forward_count, Start}
+use Rattle.mask.proofs.both_strands.Goals.{After-reverse_strand-reverse_count}
 
-abbrev by : (c : Start) → Setup
-by c = setup_of c.args.p c.args.ln.now c.args.f.now
-
-held : (c : After-inner_process-forward_count) → Held (intervals_of (by (goal.at.After-inner_process-forward_count c).Start) c.args.codes.now) c.inner_process-forward_count.new.list c.inner_process-forward_count.result
-held c = scanned (by (goal.at.After-inner_process-forward_count c).Start) c.args.codes.now c.args.forward_list.now _ _ c.requires.both_lent.forward.part.list_long c.inner_process-forward_count.auto.list c.inner_process-forward_count.ensures
+-- The other strand leaves the sequence's own list.
+held : (c : After-reverse_strand-reverse_count) → Held (intervals_of (as_setup c.args.setup.now) c.args.codes.now) c.reverse_strand-reverse_count.new.work.forward_list.now c.forward_strand-forward_count.result
+held c = subst (λ (l : List Interval). Held (intervals_of (as_setup c.args.setup.now) c.args.codes.now) l c.forward_strand-forward_count.result) (sym c.reverse_strand-reverse_count.ensures.forward) c.forward_strand-forward_count.ensures.list
 
 pub merge_strands-requires : goal.merge_strands-requires
-merge_strands-requires c = mergeable (by (goal.at.merge_strands-requires c).Start) c.args.forward_only c.args.codes.now c.requires.both_lent.forward.part.kmer_some (held (goal.at.merge_strands-requires c).After-inner_process-forward_count) c.reverse_strand-reverse_count.ensures c.args.list.now c.args.marks.now c.requires.both_lent.list c.requires.both_lent.marks
+merge_strands-requires c =
+    mergeable (as_setup c.args.setup.now) c.args.forward_only c.args.codes.now c.requires.forward.part.kmer_some (held (goal.at.merge_strands-requires c).After-reverse_strand-reverse_count) c.reverse_strand-reverse_count.ensures.list c.args.list.now c.args.marks.now c.requires.list c.requires.marks
 
-pub returns : goal.returns
-returns c = merged_wrote (by (goal.at.returns c).Start) c.args.forward_only c.args.codes.now c.requires.both_lent.forward.part.kmer_some (held (goal.at.returns c).After-inner_process-forward_count) c.reverse_strand-reverse_count.ensures c.merge_strands.ensures
+pub returns-clause-mask : goal.returns-clause-mask
+returns-clause-mask c =
+    merged_wrote (as_setup c.args.setup.now) c.args.forward_only c.args.codes.now c.requires.forward.part.kmer_some (held (goal.at.returns-clause-mask c).After-reverse_strand-reverse_count) c.reverse_strand-reverse_count.ensures.list c.merge_strands.ensures

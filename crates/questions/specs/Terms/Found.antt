@@ -1,8 +1,9 @@
 -- Terms of contracts: where a search stands in a list; a summary of its letters up to b.
-use Rattle.std.specs.Prelude.{ℕ, ◌/◌, ◌≤◌, ◌<◌, ◌≡◌, Bool, List, [], ltb, length, get_or}
-use Rattle.intervals.specs.Interval.{Interval}
+use Rattle.std.specs.Prelude.{ℕ, ◌/◌, ◌≤◌, ◌<◌, ◌≡◌, Bool, List, ltb, length, get_or}
+use Rattle.intervals.specs.declared.Interval.{Interval}
 use Rattle.intervals.specs.Terms.Leading.{leading, ended}
-use Rattle.questions.specs.Batch.{block, kind_of, from_of, to_of}
+use Rattle.questions.specs.declared.Question.{Question}
+use Rattle.questions.specs.Batch.{block, no_question}
 
 abbrev pub begins_before : ℕ → Interval → Bool
 begins_before x i = ltb i.start x
@@ -14,10 +15,10 @@ first_past is x = ended is x
 abbrev pub first_from : List Interval → ℕ → ℕ
 first_from is x = leading (begins_before x) is
 
--- r is that index, of a list in a slice of so many entries, and small enough for 32 bits.
-pub record IsFirstPast (is : List Interval) (x entries r : ℕ) : Type 0 where
+-- r is that index, and small enough for 32 bits.
+pub record IsFirstPast (is : List Interval) (x r : ℕ) : Type 0 where
   pub index : r ≡ first_past is x
-  pub inside : r ≤ entries
+  pub inside : r ≤ length is
   pub small : r ≤ 1073741824
 
 -- The summary s has the whole blocks of the first b letters.
@@ -35,5 +36,5 @@ pub record Ranged (is : List Interval) (s : List ℕ) (a b : ℕ) : Type 0 where
 abbrev pub Askable : List Interval → List ℕ → ℕ → ℕ → ℕ → Type 0
 Askable is s kind a b = (kind ≡ 0 → ⊥) → Ranged is s a b
 
-abbrev pub AllAskable : List Interval → List ℕ → List (List ℕ) → Type 0
-AllAskable is s qs = (i : ℕ) → i < length qs → Askable is s (kind_of (get_or qs i [])) (from_of (get_or qs i [])) (to_of (get_or qs i []))
+abbrev pub AllAskable : List Interval → List ℕ → List Question → Type 0
+AllAskable is s qs = (i : ℕ) → i < length qs → let q : Question = get_or qs i no_question in Askable is s q.kind q.from q.to

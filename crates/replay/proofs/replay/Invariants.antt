@@ -1,8 +1,5 @@
-use Prim.Native.Nat.{◌-◌, ◌≤◌}
+use Rattle.std.proofs.Common.{◌≤◌}
 use Rattle.replay.proofs.replay.Given as goal
 
-abbrev pub invariant-loop-answered : goal.invariant-loop-answered
-invariant-loop-answered g l = (l.same ≤ l.answered) × (l.answered ≤ l.records)
-
-abbrev pub decreases-loop-answered : goal.decreases-loop-answered
-decreases-loop-answered g l = l.records - l.answered
+abbrev pub invariant-loop-i : goal.invariant-loop-i
+invariant-loop-i g l = l.same ≤ l.i

@@ -6,13 +6,11 @@ use Rattle.scans.specs.declared.ForwardPosition.{ForwardPosition}
 use Rattle.scans.specs.declared.backward.BackwardState.{BackwardState}
 use Rattle.search.specs.declared.candidates.Search.{Search}
 use Rattle.search.specs.declared.candidates.Searched.{Searched}
-use Rattle.search.specs.declared.candidates.Trial.{Trial}
 use Rattle.scans.specs.Setup.{Setup, kmers}
 use Rattle.scans.specs.Counts.{cleared}
 use Rattle.scans.specs.Terms.Counted.{Counted}
-use Rattle.scans.specs.Scans.{Outcome, Candidate, candidate, no_candidate, backward_start, Backward, backward_from, with_best, try_from}
+use Rattle.scans.specs.Scans.{Candidate, candidate, no_candidate, backward_start, Backward, backward_from, with_best}
 use Rattle.scans.specs.Terms.Parts.{backward_of, Fresh, rest_of, Backs}
-use Rattle.search.specs.Terms.Carry.{Answers}
 
 abbrev pub candidate_of : ForwardPosition → Candidate
 candidate_of c = candidate c.pos c.max_score
@@ -124,20 +122,3 @@ pub record ScansBackward (S : Setup) (q : List Place) (r : Searched) (counts : L
 pub record HoldsCandidates (len n : ℕ) (records : List ForwardPosition) : Type 0 where
   pub room : n ≤ length records
   pub inside : (j : ℕ) → j < n → (get_or records j no_position).pos < len
-
-pub record FreshTrial (n : ℕ) (a : Trial) : Type 0 where
-  pub left_is : a.left ≡ n
-  pub furthest_is : a.furthest ≡ 0
-  pub none : (a.scanned.found ≡ 0) × (a.scanned.carry.on ≡ false)
-
--- A trial of the candidates cs leads to the outcome o.
-pub record Leads (S : Setup) (q : List Place) (cs : List Candidate) (o : Outcome) (a : Trial) (counts : List ℕ) : Type 0 where
-  pub clear : 0 < a.left → counts ≡ cleared S
-  pub none : 0 < a.left → (a.scanned.found ≡ 0) × (a.scanned.carry.on ≡ false)
-  pub rest : 0 < a.left → (before : List ℕ) × (o ≡ try_from S q cs a.left a.furthest before)
-  pub ended : a.left ≡ 0 → Answers S q o a.scanned counts
-
--- A trial goes on from a to b with the candidate c.
-pub record NextTrial (S : Setup) (q : List Place) (c : ForwardPosition) (a b : Trial) (counts counts' : List ℕ) : Type 0 where
-  pub less : b.left < a.left
-  pub leads : (cs : List Candidate) (o : Outcome) → get_or cs (a.left - 1) no_candidate ≡ candidate_of c → Leads S q cs o a counts → Leads S q cs o b counts'

@@ -1,10 +1,5 @@
-use Prim.Native.Nat.{◌-◌}
-use lib.ListN.{length}
 use Rattle.short_sequences.proofs.Letters.{Counting}
 use Rattle.short_sequences.proofs.count_letters.Given as goal
 
-abbrev pub invariant-loop-i : goal.invariant-loop-i
-invariant-loop-i l = Counting l.n l.list l.i l.letters
-
-abbrev pub decreases-loop-i : goal.decreases-loop-i
-decreases-loop-i l = length l.list - l.i
+abbrev pub invariant-loop-interval : goal.invariant-loop-interval
+invariant-loop-interval l = Counting l.n l.list l.interval-index l.letters

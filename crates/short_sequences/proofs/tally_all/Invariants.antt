@@ -1,11 +1,7 @@
 use mathlib.Core.Path.{◌≡◌}
-use Prim.Native.Nat.{◌-◌}
 use lib.ListN.{length}
 use Rattle.short_sequences.proofs.Tallying.{Tallying}
 use Rattle.short_sequences.proofs.tally_all.Given as goal
 
 abbrev pub invariant-loop-index : goal.invariant-loop-index
 invariant-loop-index l = Tallying (length l.initial.letters) l.index l.refused l.tallies × (length l.letters ≡ length l.initial.letters)
-
-abbrev pub decreases-loop-index : goal.decreases-loop-index
-decreases-loop-index l = l.sequences - l.index

@@ -3,7 +3,8 @@ use Rattle.std.specs.Prelude.{ℕ, zero, suc, ◌+◌, ◌≤◌, ◌≡◌, con
 use Prim.Native.Char.{code}
 use Rattle.tables.specs.Density.{uniform}
 use Rattle.tables.specs.Tables.{ln_table, f_table}
-use Rattle.intervals.specs.Interval.{Interval, Canonical, Wrote}
+use Rattle.intervals.specs.declared.Interval.{Interval}
+use Rattle.intervals.specs.Interval.{Canonical, Wrote}
 use Rattle.short_sequences.specs.declared.Masked.{Masked}
 use Rattle.short_sequences.specs.declared.Outcome.{Outcome}
 use Rattle.short_sequences.specs.Sequences.{five_letters}
@@ -19,7 +20,7 @@ pub record Filled (ln f : List Float) : Type 0 where
   pub f_is : f ≡ f_table 1 8 (uniform 1)
 
 -- A run on up to 8 letters, with room for its list.
-pub record Short (s : List ℕ) (ln f : List Float) (xs : List (List ℕ)) : Type 0 where
+pub record Short (s : List ℕ) (ln f : List Float) (xs : List Interval) : Type 0 where
   pub letters : length s ≤ 8
   pub tables : Filled ln f
   pub room : length xs ≡ 4
@@ -30,7 +31,7 @@ unless zero is = is
 unless (suc number) is = []
 
 -- The run on the letters s left its list in xs', which was xs.
-pub record Ran (s : List ℕ) (xs xs' : List (List ℕ)) (r : Masked) : Type 0 where
+pub record Ran (s : List ℕ) (xs xs' : List Interval) (r : Masked) : Type 0 where
   pub number : r.refusal ≡ refusal_of s
   pub list : Wrote (unless (refusal_of s) (mask_of s)) xs xs' r.count
   pub shape : Canonical (length s) 1 (unless (refusal_of s) (mask_of s))

@@ -1,6 +1,7 @@
 -- The terms of the run in the profile's own work space.
 use Rattle.std.specs.Prelude.{ℕ, ◌+◌, ◌≡◌, false, List, length, take, Float}
 use Rattle.buffers.specs.Fill.{put}
+use Rattle.intervals.specs.declared.Interval.{Interval}
 use Rattle.intervals.specs.Interval.{Canonical, Wrote}
 use Rattle.tables.specs.Density.{uniform}
 use Rattle.tables.specs.Tables.{ln_table, f_table}
@@ -44,6 +45,6 @@ pub record Serve (o : LongdustOptions) (s : List ℕ) (ln f : List Float) : Type
   pub same_mask : mask o s (take (o.window_size + 1) ln) (take (o.window_size + 2) f) ≡ filled_mask o s
 
 -- The run left its list in xs', which was xs.
-pub record Ran (o : LongdustOptions) (s : List ℕ) (xs xs' : List (List ℕ)) (count : ℕ) : Type 0 where
+pub record Ran (o : LongdustOptions) (s : List ℕ) (xs xs' : List Interval) (count : ℕ) : Type 0 where
   pub list : Wrote (filled_mask o s) xs xs' count
   pub shape : Canonical (length s) o.kmer (filled_mask o s)

@@ -1,6 +1,7 @@
 -- Terms of contracts: what a find makes of last_q, of the interval in hand and of what is saved.
 use Rattle.std.specs.Prelude.{◌≡◌, ℕ, ◌+◌, ◌<◌, ◌≤◌, List, length, take, ℤ, pos, negsuc, Float}
-use Rattle.intervals.specs.Interval.{Interval, list_of, Canonical}
+use Rattle.intervals.specs.declared.Interval.{Interval}
+use Rattle.intervals.specs.Interval.{Canonical}
 use Rattle.intervals.specs.Terms.Bounds.{EndsBelow}
 use Rattle.scans.specs.declared.Params.{Params}
 use Rattle.scans.specs.Terms.Numbers.{setup_of}
@@ -41,11 +42,11 @@ Closing (pos s) (negsuc e) = ⊥
 Closing (negsuc s) end = Unit {0}
 
 -- The list in the first entries of a slice.
-abbrev pub saved_in : ℕ → List (List ℕ) → List Interval
-saved_in count list = list_of (take count list)
+abbrev pub saved_in : ℕ → List Interval → List Interval
+saved_in count list = take count list
 
 -- The interval in hand can be saved.
-pub record Saving (o : Open) (list : List (List ℕ)) : Type 0 where
+pub record Saving (o : Open) (list : List Interval) : Type 0 where
   pub closing : Closing o.start o.end
   pub room : o.count ≤ length list
   pub room_after : length (save_from (saved_in o.count list) o.start o.end) ≤ length list

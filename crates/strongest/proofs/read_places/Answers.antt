@@ -9,13 +9,13 @@ pub returns : goal.returns
 returns c =
     let a = c.args in
     let p = c.requires.kmer_nonzero in
-    let m = c.smaller-m in
+    let m = c.min-m in
     let e = c.encode_sequence in
     let r = c.search_back in
     record {
-      reads = subst (λ (l : List ℕ). Reads a.kmer a.threshold a.ln.now a.f.now l a.steps r.result)
-          (front_codes a.sequence.now a.codes.now e.new.encoded a.kmer a.end a.steps m.result m.ensures p.5 p.6 e.ensures) r.ensures;
-      codes = front_free a.sequence.now a.codes.now e.new.encoded a.kmer a.end a.steps m.result m.ensures p.5 p.6 e.ensures;
+      reads = subst (λ (l : List ℕ). Reads a.request.now.kmer a.request.now.scoring.threshold a.request.now.scoring.ln.now a.request.now.scoring.f.now l a.steps r.result)
+          (front_codes a.request.now.sequence.now a.codes.now e.new.encoded a.request.now.kmer a.end a.steps m.result m.ensures p.5 p.6 e.ensures) r.ensures;
+      codes = front_free a.request.now.sequence.now a.codes.now e.new.encoded a.request.now.kmer a.end a.steps m.result m.ensures p.5 p.6 e.ensures;
       scan_counts = free_at _ _ _ _ c.n_kmers-size.ensures
           (part_free c.n_kmers-size.result a.scan_counts.now r.new.counts (omega (arith, c.n_kmers-size.ensures, p.7)) r.auto.counts);
     }

@@ -3,5 +3,5 @@ use Rattle.std.proofs.KnownBytes.{Consumes-nil}
 use Rattle.report.proofs.Letters.{held_nothing}
 use Rattle.track.proofs.read_letters.Goals as goal
 
-pub loop-reads-init : goal.loop-reads-init
-loop-reads-init g c = record { read = ([], Consumes-nil _, held_nothing _); within = omega arith }
+pub loop-init : goal.loop-init
+loop-init g c = record { read = ([], Consumes-nil _, held_nothing _); within = omega arith }

@@ -5,11 +5,8 @@ use Rattle.report.specs.Terms.Held.{Held}
 use Rattle.contig.specs.Run.{letters_room}
 use Rattle.track.proofs.read_letters.Given as goal
 
-abbrev pub invariant-loop-reads : goal.invariant-loop-reads
-invariant-loop-reads g l = record {
+abbrev pub invariant-loop : goal.invariant-loop
+invariant-loop g l = record {
   read : (bytes : List ℕ) × Consumes (g.R.Read.remaining l.initial.reader) (g.R.Read.remaining l.reader) bytes × Held bytes l.letters l.count;
   within : l.count ≤ letters_room;
 }
-
-abbrev pub decreases-loop-reads : goal.decreases-loop-reads
-decreases-loop-reads g l = l.reads

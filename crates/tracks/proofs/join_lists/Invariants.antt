@@ -1,11 +1,10 @@
 use Rattle.std.proofs.Common.{◌-◌}
-use Rattle.intervals.specs.Interval.{list_of}
 use Rattle.tracks.proofs.SweepSteps.{Sweeping}
 use Rattle.tracks.proofs.join_lists.Given as goal
 
 abbrev pub invariant-loop-sweep : goal.invariant-loop-sweep
 invariant-loop-sweep l =
-    Sweeping l.kind l.n (list_of l.ours) l.marks (list_of l.theirs) l.initial.list l.list l.initial.list_marks l.list_marks l.sweep l.start l.end l.seen l.count
+    Sweeping l.kind l.n l.ours l.marks l.theirs l.initial.list l.list l.initial.list_marks l.list_marks l.sweep l.start l.end l.seen l.count
 
 abbrev pub decreases-loop-sweep : goal.decreases-loop-sweep
 decreases-loop-sweep l = l.n - l.sweep.at

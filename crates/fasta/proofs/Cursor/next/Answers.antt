@@ -3,11 +3,14 @@ use mathlib.Core.Path.{refl}
 use Prim.Native.Nat.{◌≤◌}
 use lib.ListN.{length}
 use Rattle.fasta.proofs.Lengths.{name_within, line_within, stays}
-use Rattle.fasta.proofs.Stepping.{ended, unnamed_letters, empty_name, found}
+use Rattle.fasta.proofs.Stepping.{past_end, ended, unnamed_letters, empty_name, found}
 use Rattle.fasta.proofs.Cursor.next.Goals as goal
 use Rattle.fasta.proofs.Cursor.next.Goals.{After-name_end-name_end}
 
 -- `Cursor::next` meets its contract: each return is a law of what its inner functions found.
+pub returns-then-file-self : goal.returns-then-file-self
+returns-then-file-self c = past_end _ _ c.if-file-self.true
+
 pub returns-then-file-at : goal.returns-then-file-at
 returns-then-file-at c = ended _ _ _ c.skip_empty-at.ensures c.if-file-at.true
 

@@ -1,9 +1,8 @@
-use Rattle.scans.specs.Terms.Window.{window}
-use Rattle.scans.proofs.BackCheck.{Checking}
+use mathlib.Core.Path.{◌≡◌}
+use Prim.Native.Nat.{◌-◌}
+use Rattle.scans.specs.Scans.{if_backward_from, if_backward}
+use Rattle.scans.specs.Terms.Run.{as_setup, entries_of}
 use Rattle.scans.proofs.letter.if_backward.Given as goal
 
-abbrev pub invariant-loop-left : goal.invariant-loop-left
-invariant-loop-left l = Checking l.p l.ln (window l.queue l.head l.len) l.left l.i l.s
-
-abbrev pub decreases-loop-left : goal.decreases-loop-left
-decreases-loop-left l = l.left
+abbrev pub invariant-loop-i : goal.invariant-loop-i
+invariant-loop-i l = if_backward (as_setup l.setup) (entries_of l.ring) ≡ if_backward_from (as_setup l.setup) (entries_of l.ring) (l.i - (l.ring.len - l.steps)) l.i l.s

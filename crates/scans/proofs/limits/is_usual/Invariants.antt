@@ -1,10 +1,7 @@
 use mathlib.Core.Path.{◌≡◌}
-use Prim.Native.Nat.{◌+◌, ◌-◌, ◌≤◌}
+use Prim.Native.Nat.{◌-◌}
 use Rattle.scans.specs.Terms.Shape.{f_step, usual_to}
 use Rattle.scans.proofs.limits.is_usual.Given as goal
 
 abbrev pub invariant-loop-m : goal.invariant-loop-m
-invariant-loop-m l = (l.m + 1 ≤ l.w) × (l.ok ≡ usual_to l.ln l.f l.m) × (l.step ≡ f_step l.f l.m)
-
-abbrev pub decreases-loop-m : goal.decreases-loop-m
-decreases-loop-m l = l.w - l.m
+invariant-loop-m l = (l.ok ≡ usual_to l.ln l.f (l.m - 1)) × (l.step ≡ f_step l.f (l.m - 1))

@@ -1,9 +1,7 @@
+use mathlib.Core.Path.{◌≡◌}
 use Prim.Native.Nat.{◌+◌, ◌-◌}
-use Rattle.scans.proofs.MaxTest.{Testing}
+use Rattle.scans.specs.Setup.{max_test, max_test_from}
 use Rattle.scans.proofs.limits.max_test.Given as goal
 
 abbrev pub invariant-loop-i : goal.invariant-loop-i
-invariant-loop-i l = Testing l.ln l.f l.window l.threshold l.s l.i
-
-abbrev pub decreases-loop-i : goal.decreases-loop-i
-decreases-loop-i l = l.window + 1 - l.i
+invariant-loop-i l = max_test l.window l.threshold l.ln l.f ≡ max_test_from l.threshold l.ln l.f (l.window + 1 - l.i) l.i l.s

@@ -1,11 +1,6 @@
-use Prim.Native.Nat.{◌-◌}
-use lib.ListN.{length}
 use Rattle.scans.specs.Terms.Counted.{Touched}
 use Rattle.scans.proofs.Walk.{Walking}
 use Rattle.scans.proofs.queue.clear_part.Given as goal
 
-abbrev pub invariant-loop-i : goal.invariant-loop-i
-invariant-loop-i l = Walking Touched l.part l.initial.scan_counts l.i l.scan_counts
-
-abbrev pub decreases-loop-i : goal.decreases-loop-i
-decreases-loop-i l = length l.part - l.i
+abbrev pub invariant-loop-entry : goal.invariant-loop-entry
+invariant-loop-entry l = Walking Touched l.part l.initial.scan_counts l.entry-index l.scan_counts

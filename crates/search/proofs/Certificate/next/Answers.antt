@@ -1,22 +1,24 @@
+use mathlib.Core.Path.{refl}
+use native.Mathlib.Omega.{arith}
 use Rattle.search.proofs.CertificateRing.{window_asks, next_still, next_fresh, next_repeated}
 use Rattle.search.proofs.Certificate.next.Goals as goal
 
 pub window_value-w-requires : goal.window_value-w-requires
 window_value-w-requires c =
     let a = c.args in
-    window_asks a.p a.queue.now a.head a.len a.window_counts.now a.ln.now a.scan_counts.now c.requires _ c.newest_entry-entry.ensures
+    window_asks a.setup.now.params a.ring.now.queue.now a.ring.now.head a.ring.now.len a.window_counts.now a.setup.now.ln.now a.scan_counts.now c.requires _ c.newest-entry.ensures
 
 pub returns-then-v : goal.returns-then-v
 returns-then-v c =
     let a = c.args in
-    next_still a.p a.queue.now a.head a.len a.window_counts.now a.ln.now a.scan_counts.now c.requires a.self c.if-not-self-len.false _ c.newest_entry-entry.ensures _ _ c.raised_value-v.ensures c.window_value-w.ensures c.if-v.true c.stepped.ensures
+    next_still a.setup.now.params a.ring.now.queue.now a.ring.now.head a.ring.now.len a.window_counts.now a.setup.now.ln.now a.scan_counts.now c.requires a.self c.if-not-self-ring.false _ c.newest-entry.ensures _ _ c.raised_value-v.ensures c.window_value-w.ensures c.if-v.true c.stepped.ensures a.setup.now.f.now
 
-pub returns-then-l-eq0 : goal.returns-then-l-eq0
-returns-then-l-eq0 c =
+pub returns-in-None : goal.returns-in-None
+returns-in-None c =
     let a = c.args in
-    next_fresh a.p a.queue.now a.head a.len a.window_counts.now a.ln.now a.scan_counts.now c.requires a.self c.if-not-self-len.false _ c.newest_entry-entry.ensures _ _ c.raised_value-v.ensures c.window_value-w.ensures _ c.entries_since-l.ensures c.if-l-eq0.true c.stepped-then-l-eq0.ensures
+    next_fresh a.setup.now.params a.ring.now.queue.now a.ring.now.head a.ring.now.len a.window_counts.now a.setup.now.ln.now a.scan_counts.now c.requires a.self c.if-not-self-ring.false _ c.newest-entry.ensures _ _ c.raised_value-v.ensures c.window_value-w.ensures _ c.in-None.ensures.since refl c.stepped-in-None.ensures a.setup.now.f.now
 
 pub returns-then-h-n : goal.returns-then-h-n
 returns-then-h-n c =
     let a = c.args in
-    next_repeated a.p a.queue.now a.head a.len a.window_counts.now a.ln.now a.scan_counts.now c.requires a.self c.if-not-self-len.false _ c.newest_entry-entry.ensures _ _ c.raised_value-v.ensures c.window_value-w.ensures _ c.entries_since-l.ensures c.if-l-eq0.false c.if-h-n.true c.stepped-then-h-n.ensures
+    next_repeated a.setup.now.params a.ring.now.queue.now a.ring.now.head a.ring.now.len a.window_counts.now a.setup.now.ln.now a.scan_counts.now c.requires a.self c.if-not-self-ring.false _ c.newest-entry.ensures _ _ c.raised_value-v.ensures c.window_value-w.ensures _ c.in-Some.ensures.since (λ z. let some = c.in-Some.ensures.some in omega arith) c.if-h-n.true c.stepped-then-h-n.ensures a.setup.now.f.now

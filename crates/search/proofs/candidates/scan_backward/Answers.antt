@@ -22,14 +22,17 @@ room c =
     let r = fresh_room _ _ _ _ _ _ _ c.loop-seek.invariant _ _ c.next-seek.ensures c.next-seek.auto.scan_counts c.if-seek.true (omega (arith, s.len_nonzero.0, long s.windowed)) in
     omega (arith, g, r, long s.windowed, s.windowed.len_in, s.roomy.candidates_long, c.loop-seek.invariant.same_records)
 
-pub set_candidate-requires : goal.set_candidate-requires
-set_candidate-requires c = room (goal.at.set_candidate-requires c).Then-seek
+pub offset_bounds-candidates-seek : goal.offset_bounds-candidates-seek
+offset_bounds-candidates-seek c = omega (arith, room (goal.at.offset_bounds-candidates-seek c).Then-seek)
+
+pub bounds-candidates-seek : goal.bounds-candidates-seek
+bounds-candidates-seek c = room (goal.at.bounds-candidates-seek c).Then-seek
 
 pub loop-seek-preserved-then-seek : goal.loop-seek-preserved-then-seek
-loop-seek-preserved-then-seek c = seeking_put _ _ _ _ _ _ _ c.loop-seek.invariant _ _ c.next-seek.ensures c.next-seek.auto.scan_counts c.if-seek.true _ c.set_candidate.auto.candidates (room (goal.at.loop-seek-preserved-then-seek c).Then-seek) c.set_candidate.ensures
+loop-seek-preserved-then-seek c = seeking_put _ _ _ _ _ _ _ c.loop-seek.invariant _ _ c.next-seek.ensures c.next-seek.auto.scan_counts c.if-seek.true (room (goal.at.loop-seek-preserved-then-seek c).Then-seek)
 
 pub loop-seek-preserved : goal.loop-seek-preserved
 loop-seek-preserved c = seeking_kept _ _ _ _ _ _ _ c.loop-seek.invariant _ _ c.next-seek.ensures c.next-seek.auto.scan_counts c.if-seek.false
 
 pub returns : goal.returns
-returns c = seeking_end _ _ _ _ _ _ _ c.loop-seek.invariant c.loop-seek-test.false _ c.candidate_at-newest.ensures
+returns c = seeking_end _ _ _ _ _ _ _ c.loop-seek.invariant c.loop-seek-test.false

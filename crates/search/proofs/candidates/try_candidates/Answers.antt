@@ -1,35 +1,34 @@
 use mathlib.Core.Path.{◌≡◌, sym, ap, ◌∙◌}
-use mathlib.Core.List.{[]}
-use Prim.Native.Nat.{◌-◌, ◌<◌}
+use Prim.Native.Nat.{ℕ, ◌-◌, ◌^◌}
 use native.Mathlib.Omega.{arith}
-use lib.ListN.{get_or}
-use Rattle.scans.specs.declared.ForwardPosition.{ForwardPosition}
-use Rattle.scans.specs.Scans.{no_candidate}
-use Rattle.search.specs.Terms.Search.{candidate_of, candidates_in}
+use lib.ListN.{length, replicate, length-replicate}
+use Rattle.scans.proofs.Rings.{entries_long}
 use Rattle.search.proofs.Slices.{candidates_at}
-use Rattle.search.proofs.Trying.{trying_start, trying_next}
+use Rattle.search.proofs.Trying.{tried_touched, trying_start, trying_end, trying_skip, trying_found, trying_approx, trying_on}
 use Rattle.search.proofs.candidates.try_candidates.Goals as goal
-use Rattle.search.proofs.candidates.try_candidates.Goals.{After-candidate_at-c, After-struct_known-in-loop-trial-1}
+use Rattle.search.proofs.candidates.try_candidates.Goals.{After-clear_from}
 
--- the candidate is one of those noted
-among : (c : After-struct_known-in-loop-trial-1) → c.loop-trial.trial.left - 1 < c.args.noted
-among c = omega (arith, c.loop-trial-test.true, c.loop-trial.invariant.inside)
+-- the counts are cleared again
+cleared : (c : After-clear_from) → c.clear_from.new.scan_counts ≡ replicate (4 ^ c.args.setup.now.params.kmer) 0
+cleared c = c.clear_from.ensures ∙ ap (λ (n : ℕ). replicate n 0) (c.dust_forward-st.auto.scan_counts ∙ ap length c.loop-i.invariant.clear ∙ length-replicate (4 ^ c.args.setup.now.params.kmer) 0)
 
-here : (c : After-candidate_at-c) → candidate_of c.candidate_at-c.result ≡ get_or (candidates_in c.args.noted c.args.candidates.now) (c.loop-trial.trial.left - 1) no_candidate
-here c = ap candidate_of c.candidate_at-c.ensures ∙ sym (candidates_at _ _ _ (among (goal.at.After-candidate_at-c c).After-struct_known-in-loop-trial-1))
+pub loop-i-init : goal.loop-i-init
+loop-i-init c = trying_start _ _ _ _ _ c.requires.scan_counts_value
 
-inside : (c : After-candidate_at-c) → c.candidate_at-c.result.pos < c.args.len
-inside c =
-    let e = ap (λ (z : ForwardPosition). z.pos) c.candidate_at-c.ensures in
-    omega (arith, e, c.requires.holds_candidates.inside (c.loop-trial.trial.left - 1) (among (goal.at.After-candidate_at-c c).After-struct_known-in-loop-trial-1))
+pub loop-i-preserved-then-place-furthest : goal.loop-i-preserved-then-place-furthest
+loop-i-preserved-then-place-furthest c = trying_skip _ _ _ _ _ _ _ _ c.loop-i.invariant (omega (arith, c.loop-i-test.true)) _ (candidates_at _ _ _ (omega (arith, c.loop-i-test.true, c.loop-i.auto.i))) c.if-place-furthest.true
 
-pub loop-trial-init : goal.loop-trial-init
-loop-trial-init c = trying_start _ _ _ _ _ _ c.new-trial.ensures c.requires.scan_counts_value
+pub clear_from-requires-clause-from_le_len : goal.clear_from-requires-clause-from_le_len
+clear_from-requires-clause-from_le_len c = (omega (arith, c.requires.holds_candidates.inside (c.loop-i.i - 1) (omega (arith, c.loop-i-test.true, c.loop-i.auto.i))), tried_touched _ _ _ _ _ _ c.dust_forward-st.ensures)
 
-pub next-trial-requires-clause-left_nonzero : goal.next-trial-requires-clause-left_nonzero
-next-trial-requires-clause-left_nonzero c =
-    let s = c.requires in
-    (c.loop-trial-test.true, inside (goal.at.next-trial-requires-clause-left_nonzero c).After-candidate_at-c, (c.loop-trial.invariant.leads []).clear c.loop-trial-test.true)
+pub returns-then-st-ring : goal.returns-then-st-ring
+returns-then-st-ring c = trying_found _ _ _ _ _ _ _ _ c.loop-i.invariant (omega (arith, c.loop-i-test.true)) _ (candidates_at _ _ _ (omega (arith, c.loop-i-test.true, c.loop-i.auto.i))) c.if-place-furthest.false _ _ c.dust_forward-st.ensures (omega (arith, c.requires.holds_candidates.inside (c.loop-i.i - 1) (omega (arith, c.loop-i-test.true, c.loop-i.auto.i)), entries_long c.args.ring.now)) (c.if-st-ring.true ∙ sym (entries_long c.args.ring.now)) _ c.begun.ensures
 
-pub loop-trial-preserved : goal.loop-trial-preserved
-loop-trial-preserved c = trying_next _ _ _ _ _ _ _ c.loop-trial.invariant _ (here (goal.at.loop-trial-preserved c).After-candidate_at-c) _ _ c.next-trial.ensures c.next-trial.auto.scan_counts
+pub returns-then-setup : goal.returns-then-setup
+returns-then-setup c = trying_approx _ _ _ _ _ _ _ _ c.loop-i.invariant (omega (arith, c.loop-i-test.true)) _ (candidates_at _ _ _ (omega (arith, c.loop-i-test.true, c.loop-i.auto.i))) c.if-place-furthest.false _ _ c.dust_forward-st.ensures (λ e. c.if-st-ring.false (e ∙ entries_long c.args.ring.now)) _ (cleared (goal.at.returns-then-setup c).After-clear_from) c.if-setup.true _ c.nothing.ensures
+
+pub loop-i-preserved : goal.loop-i-preserved
+loop-i-preserved c = trying_on _ _ _ _ _ _ _ _ c.loop-i.invariant (omega (arith, c.loop-i-test.true)) _ (candidates_at _ _ _ (omega (arith, c.loop-i-test.true, c.loop-i.auto.i))) c.if-place-furthest.false _ _ c.dust_forward-st.ensures (λ e. c.if-st-ring.false (e ∙ entries_long c.args.ring.now)) _ (cleared (goal.at.loop-i-preserved c).After-clear_from) c.if-setup.false _ c.max-furthest.ensures
+
+pub returns : goal.returns
+returns c = trying_end _ _ _ _ _ _ _ c.loop-i.invariant (omega (arith, c.loop-i-test.false)) _ c.nothing-2.ensures

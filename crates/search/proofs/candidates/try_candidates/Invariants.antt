@@ -1,12 +1,7 @@
-use lib.ListN.{length}
-use Rattle.scans.specs.Terms.Numbers.{setup_of}
-use Rattle.scans.specs.Terms.Window.{window}
+use Rattle.scans.specs.Terms.Run.{as_setup, entries_of}
 use Rattle.search.specs.Terms.Search.{candidates_in}
 use Rattle.search.proofs.Trying.{Trying}
 use Rattle.search.proofs.candidates.try_candidates.Given as goal
 
-abbrev pub invariant-loop-trial : goal.invariant-loop-trial
-invariant-loop-trial l = Trying (setup_of l.p l.ln l.f) (window l.queue l.head l.len) (candidates_in l.noted l.candidates) l.noted (length l.initial.scan_counts) l.trial l.scan_counts
-
-abbrev pub decreases-loop-trial : goal.decreases-loop-trial
-decreases-loop-trial l = l.trial.left
+abbrev pub invariant-loop-i : goal.invariant-loop-i
+invariant-loop-i l = Trying (as_setup l.setup) (entries_of l.ring) (candidates_in l.noted l.candidates) l.noted l.i l.furthest l.scan_counts

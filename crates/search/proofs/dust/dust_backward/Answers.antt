@@ -1,15 +1,8 @@
-use mathlib.Core.Path.{◌≡◌, ◌∙◌}
 use native.Mathlib.Omega.{arith}
-use lib.ListN.{length}
 use Rattle.scans.proofs.Windows.{long}
 use Rattle.search.proofs.Slices.{candidates_length}
 use Rattle.search.proofs.BackwardOutcome.{all_held, answers_tried}
 use Rattle.search.proofs.dust.dust_backward.Goals as goal
-use Rattle.search.proofs.dust.dust_backward.Goals.{After-scan_backward-searched}
-
--- after the search: as many counts as at first
-same : (c : After-scan_backward-searched) → length c.scan_backward-searched.new.scan_counts ≡ length c.args.scan_counts.now
-same c = c.scan_backward-searched.auto.scan_counts ∙ c.find_quickly-quick.auto.scan_counts
 
 pub try_candidates-tried-requires-clause-holds_candidates : goal.try_candidates-tried-requires-clause-holds_candidates
 try_candidates-tried-requires-clause-holds_candidates c =

@@ -1,11 +1,7 @@
 use Prim.Native.Nat.{◌-◌}
-use Rattle.scans.specs.Terms.Numbers.{setup_of}
-use Rattle.scans.specs.Terms.Window.{window}
+use Rattle.scans.specs.Terms.Run.{as_setup, entries_of}
 use Rattle.search.proofs.FallShort.{Back}
 use Rattle.search.proofs.fails.newest_fall_short.Given as goal
 
-abbrev pub invariant-loop-l : goal.invariant-loop-l
-invariant-loop-l l = Back (setup_of l.p l.ln l.f) (window l.queue l.head l.len) l.oldest l.newest l.l l.sum l.scan_counts
-
-abbrev pub decreases-loop-l : goal.decreases-loop-l
-decreases-loop-l l = l.size - l.l
+abbrev pub invariant-loop-i : goal.invariant-loop-i
+invariant-loop-i l = Back (as_setup l.setup) (entries_of l.ring) l.oldest l.newest (l.ring.len - l.i) l.sum l.scan_counts

@@ -3,20 +3,20 @@ use Rattle.letters.proofs.Rolling.{run_few}
 use Rattle.small.proofs.Repeating.{counting_start, counting_end, next_small, next_counted, counting_turn}
 use Rattle.small.proofs.quiet.repeats.Goals as goal
 
-pub loop-i-init : goal.loop-i-init
-loop-i-init c = rw c.new-newest.ensures (counting_start _ _ _ c.requires.3)
+pub loop-code-init : goal.loop-code-init
+loop-code-init c = rw c.new-newest.ensures (counting_start _ _ _ c.requires.3)
 
 pub next-newest-requires : goal.next-newest-requires
-next-newest-requires c = (c.requires.0, omega (arith, run_few _ _ _ _ c.loop-i.invariant.kmer_is, c.loop-i.invariant.inside, c.requires.2))
+next-newest-requires c = (c.requires.0, omega (arith, run_few _ _ _ _ c.loop-code.invariant.kmer_is, c.loop-code.invariant.inside, c.requires.2))
 
 pub entry-requires : goal.entry-requires
-entry-requires c = next_small _ _ _ c.loop-i.invariant c.loop-i-test.true _ c.next-newest.ensures c.requires.0
+entry-requires c = next_small _ _ _ c.loop-code.invariant c.loop-code-test.true _ c.next-newest.ensures c.requires.0
 
 pub raise_count-requires : goal.raise_count-requires
-raise_count-requires c = next_counted _ _ _ c.loop-i.invariant c.loop-i-test.true _ c.next-newest.ensures c.requires.1 _ c.entry.ensures c.requires.2
+raise_count-requires c = next_counted _ _ _ c.loop-code.invariant c.loop-code-test.true _ c.next-newest.ensures c.requires.1 _ c.entry.ensures c.requires.2
 
-pub loop-i-preserved : goal.loop-i-preserved
-loop-i-preserved c = counting_turn _ _ _ c.loop-i.invariant c.loop-i-test.true _ c.next-newest.ensures c.requires.1 _ c.entry.ensures _ _ c.raise_count.ensures (omega (arith, c.if-least-raise_count.false))
+pub loop-code-preserved : goal.loop-code-preserved
+loop-code-preserved c = counting_turn _ _ _ c.loop-code.invariant c.loop-code-test.true _ c.next-newest.ensures c.requires.1 _ c.entry.ensures _ _ c.raise_count.ensures (omega (arith, c.if-least-raise_count.false))
 
 pub returns : goal.returns
-returns c = λ e. counting_end _ _ _ c.loop-i.invariant (omega (arith, c.loop-i-test.false))
+returns c = λ e. counting_end _ _ _ c.loop-code.invariant (omega (arith, c.loop-code-test.false))

@@ -1,6 +1,5 @@
-use Rattle.std.proofs.Common.{arith}
 use Rattle.strongest.proofs.Counting.{cleared_known}
 use Rattle.strongest.proofs.places.clear_counts.Goals as goal
 
 pub returns : goal.returns
-returns c = let g = c.loop-i in cleared_known _ _ _ g.i g.counts g.invariant.2 (omega arith)
+returns c = let g = c.loop-i in cleared_known _ _ _ g.i g.counts g.invariant c.loop-i-test.false

@@ -1,10 +1,6 @@
 -- `clear_counts` meets its contract: after i turns the counts of the first i places read are 0.
 use Rattle.strongest.proofs.Counting.{Cleared}
-use Rattle.std.proofs.Common.{◌≡◌, ◌-◌, ◌≤◌, length}
 use Rattle.strongest.proofs.places.clear_counts.Given as goal
 
 abbrev pub invariant-loop-i : goal.invariant-loop-i
-invariant-loop-i l = (l.i ≤ l.steps) × (length l.counts ≡ length l.initial.counts) × Cleared l.kmer l.letters l.i l.counts
-
-abbrev pub decreases-loop-i : goal.decreases-loop-i
-decreases-loop-i l = l.steps - l.i
+invariant-loop-i l = Cleared l.kmer l.letters l.i l.counts

@@ -5,5 +5,5 @@ use Rattle.strongest.proofs.places.last_entry.Goals as goal
 
 pub returns : goal.returns
 returns c =
-    let g = c.loop-i in
-    rw c.entry.ensures (last_place c.args.kmer c.args.letters.now g.i g.state g.invariant.0 (omega arith) (omega arith) g.invariant.1)
+    let g = c.loop-letter in
+    rw c.entry.ensures (last_place c.args.kmer c.args.letters.now g.letter-index g.state g.auto.letter-index-end c.loop-letter-test.false (omega arith) g.invariant)

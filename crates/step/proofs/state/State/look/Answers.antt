@@ -7,7 +7,7 @@ use lib.ListN.{length}
 use Rattle.letters.specs.Place.{plain}
 use Rattle.letters.specs.Terms.Entry.{decode}
 use Rattle.letters.specs.Terms.Rolling.{entry_of}
-use Rattle.intervals.specs.Interval.{Interval}
+use Rattle.intervals.specs.declared.Interval.{Interval}
 use Rattle.scans.specs.Setup.{Setup}
 use Rattle.scans.specs.Terms.Numbers.{setup_of}
 use Rattle.scans.specs.Counts.{count}
@@ -20,27 +20,27 @@ use Rattle.step.proofs.state.State.look.Goals as goal
 use Rattle.step.proofs.state.State.look.Goals.{After-extends}
 
 abbrev S : After-extends → Setup
-S b = setup_of b.args.p b.args.ln.now b.args.f.now
+S b = setup_of b.args.setup.now.params b.args.setup.now.ln.now b.args.setup.now.f.now
 
 abbrev A : After-extends → List Interval → Run
 A b saved = held b.args.self b.args.queue.now b.args.scan_counts.now saved
 
 abbrev entry : After-extends → ℕ
-entry b = entry_of b.args.p.kmer b.args.self.kmer
+entry b = entry_of b.args.setup.now.params.kmer b.args.self.kmer
 
 -- The entry is plain, and stands often enough to be searched from.
 is_plain : (b : After-extends) → decode (entry b) ≡ plain (entry b / 2)
-is_plain b = searched_plain b.args.p.min_start_cnt (entry b) b.args.window_counts.now b.requires.self_value
+is_plain b = searched_plain b.args.setup.now.params.min_start_cnt (entry b) b.args.window_counts.now b.requires.self_value
 
-stands : (b : After-extends) (saved : List Interval) → b.args.p.min_start_cnt ≤ count (entry b / 2) (A b saved).window
+stands : (b : After-extends) (saved : List Interval) → b.args.setup.now.params.min_start_cnt ≤ count (entry b / 2) (A b saved).window
 stands b saved =
-    omega (arith, searched_often b.args.p.min_start_cnt (entry b) b.args.window_counts.now b.requires.self_value, b.requires.windowed.counted (entry b / 2))
+    omega (arith, searched_often b.args.setup.now.params.min_start_cnt (entry b) b.args.window_counts.now b.requires.self_value, b.requires.windowed.counted (entry b / 2))
 
 -- What the extension answers, of the entry's k-mer.
 extension : (b : After-extends) →
-    Extended b.args.p b.args.ln.now b.args.f.now b.args.self (entry b / 2) b.args.scan_counts.now b.extends.result b.extends.new.scan_counts
+    Extended b.args.setup.now.params b.args.setup.now.ln.now b.args.setup.now.f.now b.args.self (entry b / 2) b.args.scan_counts.now b.extends.result b.extends.new.scan_counts
 extension b =
-    subst (λ (e : ℕ). Extended b.args.p b.args.ln.now b.args.f.now b.args.self (e / 2) b.args.scan_counts.now b.extends.result b.extends.new.scan_counts)
+    subst (λ (e : ℕ). Extended b.args.setup.now.params b.args.setup.now.ln.now b.args.setup.now.f.now b.args.self (e / 2) b.args.scan_counts.now b.extends.result b.extends.new.scan_counts)
     b.entry-kmer.ensures b.extends.ensures
 
 answer : (b : After-extends) (saved : List Interval) →
@@ -57,10 +57,10 @@ pub returns-then-if_backward : goal.returns-then-if_backward
 returns-then-if_backward c saved =
     let b = (goal.at.returns-then-if_backward c).After-extends in
     look_back (S b) b.args.self.i (A b saved) (entry b) (is_plain b) (stands b saved) (answer b saved) (extension b).counts_are
-    c.if-extends.false (c.if_backward.ensures b.args.f.now) c.if-if_backward.true
+    c.if-extends.false c.if_backward.ensures c.if-if_backward.true
 
 pub returns : goal.returns
 returns c saved =
     let b = (goal.at.returns c).After-extends in
     look_none (S b) b.args.self.i (A b saved) (entry b) (is_plain b) (stands b saved) (answer b saved) (extension b).counts_are
-    c.if-extends.false (c.if_backward.ensures b.args.f.now) c.if-if_backward.false
+    c.if-extends.false c.if_backward.ensures c.if-if_backward.false

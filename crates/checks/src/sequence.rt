@@ -1,0 +1,34 @@
+// The checks of a sequence and its sizes, which the calls begin with.
+
+ghost use Rattle.std.specs.Prelude.{◌≡◌};
+ghost use Rattle.checks.specs.Checks.{first};
+ghost use Rattle.checks.specs.Refusal.{number_of};
+ghost use Rattle.checks.specs.Sequence.{sequence_checks};
+
+use crate::refusal::Refusal;
+
+/// The first refusal of a sequence, k-mer length k and window size w.
+pub fn check_sequence(sequence: &[u8], k: usize, w: usize) -> Result<(), Refusal>
+    ensures { number_of result ≡ first (sequence_checks sequence.now k w) }
+{
+    if crate::kmer_outside(k) {
+        return Err(Refusal::KmerOutside);
+    }
+    let bytes = crate::find_bytes(sequence);
+    if bytes.high {
+        return Err(Refusal::HighByte);
+    }
+    if bytes.other {
+        return Err(Refusal::OtherByte);
+    }
+    if crate::too_few_letters(sequence.len(), k) {
+        return Err(Refusal::TooFewLetters);
+    }
+    if crate::window_below(w, k) {
+        return Err(Refusal::WindowBelow);
+    }
+    if crate::window_above(w) {
+        return Err(Refusal::WindowAbove);
+    }
+    Ok(())
+}

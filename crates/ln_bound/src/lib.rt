@@ -1,3 +1,0 @@
-// The ln table against the true logarithm. There is no code: definitions stand in specs/, theorems in proofs/.
-
-#![tactic(auto)]

@@ -1,0 +1,6 @@
+-- the blocks before the index are written, and the walk stands where the next begins
+use Rattle.questions.proofs.Blocks.{Summing}
+use Rattle.questions.proofs.UsualList.fill_summary.Given as goal
+
+abbrev pub invariant-loop-entry : goal.invariant-loop-entry
+invariant-loop-entry l = Summing l.self.list.now l.initial.summary l.next l.from l.entry-index l.summary

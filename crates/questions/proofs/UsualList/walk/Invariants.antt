@@ -1,0 +1,6 @@
+-- the letters of the intervals before k are counted
+use Rattle.questions.proofs.Walking.{Walking}
+use Rattle.questions.proofs.UsualList.walk.Given as goal
+
+abbrev pub invariant-loop-k : goal.invariant-loop-k
+invariant-loop-k l = Walking l.self.list.now l.a l.b l.k l.letters
