@@ -17,7 +17,7 @@ use Rattle.scans.specs.declared.Params.{Params}
 use Rattle.search.specs.declared.Certificate.{Certificate}
 use Rattle.search.specs.declared.Carry.{Carry}
 use Rattle.scans.specs.Setup.{Setup, kmers}
-use Rattle.scans.specs.Counts.{raise, cleared}
+use Rattle.scans.specs.Counts.{raise}
 use Rattle.scans.specs.Scans.{at, dust_backward}
 use Rattle.scans.specs.Terms.Counted.{Counted, Touched}
 use Rattle.scans.specs.Terms.Numbers.{setup_of}
@@ -27,7 +27,7 @@ use Rattle.search.specs.Terms.Certified.{Bounds, Certified}
 use Rattle.search.specs.Terms.Carry.{Answers, Carried, newest_score, CarriesOn}
 use Rattle.scans.proofs.Counting.{count_le, below_right, raise_counted}
 use Rattle.scans.proofs.Rings.{window_length, window_newest}
-use Rattle.scans.proofs.Touched.{touched_cleared, counted_touched, touched_more}
+use Rattle.scans.proofs.Touched.{counted_touched, touched_more}
 use Rattle.scans.proofs.Shape.{usual_range}
 use Rattle.search.proofs.CarriedScan.{counted_unique}
 use Rattle.certificates.proofs.CertificateCarried.{start_find}

@@ -23,7 +23,7 @@ use Rattle.certificates.specs.declared.certify.Newer.{Newer}
 use Rattle.certificates.specs.declared.certify.Older.{Older}
 use Rattle.certificates.specs.declared.certify.Attempt.{Attempt}
 use Rattle.scans.specs.Setup.{Setup, f_at, kmers}
-use Rattle.scans.specs.Counts.{count, cleared}
+use Rattle.scans.specs.Counts.{count}
 use Rattle.scans.specs.Terms.Numbers.{setup_of}
 use Rattle.scans.specs.Terms.Counted.{Counted, Touched}
 use Rattle.scans.specs.Terms.Window.{At, ring_index, window, CountsEntry}
@@ -31,7 +31,7 @@ use Rattle.scans.specs.Terms.Shape.{Shaped}
 use Rattle.scans.specs.Terms.Parts.{Queued, Ringed}
 use Rattle.scans.specs.Terms.Units.{distance}
 use Rattle.search.specs.Terms.Certified.{no_certificate, StartUnits, Bounds}
-use Rattle.certificates.specs.Terms.Made.{Making, Summed, none_read, read_of, near_most, Reads, no_middle, middle_of, Steady, ReadsNewer, older_of, OlderUnits, ReadsOlder, Able, certificate_of, Attempts, Certifies}
+use Rattle.certificates.specs.Terms.Made.{Making, Summed, none_read, read_of, near_most, Reads, no_middle, middle_of, Steady, ReadsNewer, older_of, OlderUnits, ReadsOlder, Able, certificate_of, Attempts}
 use Rattle.scans.proofs.Counting.{count_le, count_snoc, below_drop, raise_counted, cleared_counted}
 use Rattle.scans.proofs.Rings.{ring_index_at, queue_at, window_at, window_length}
 use Rattle.scans.proofs.Values.{raised_value}
@@ -48,9 +48,6 @@ use Rattle.certificates.proofs.Making.{added_at, reads_none, reads_next, steady_
 module _ (ring : List ℕ) (head len m : ℕ) (r : Queued ring head len m) (i : ℕ) (h : i < len) (at : ℕ) (a : at ≡ ring_index (length ring) head i) where
   entry_at : At (length ring) head i at
   entry_at = rw a (ring_index_at (length ring) head i r.head_in (omega (arith, r.len_in)))
-
-  pub entry_in : at < length ring
-  entry_in = entry_at.0
 
   pub entry_below : get_or ring at 0 / 2 < m
   entry_below = subst (λ (z : ℕ). z / 2 < m) (queue_at ring head len i at r.head_in r.len_in h entry_at) (r.below i h)
@@ -146,18 +143,6 @@ module _ (p : Params) (ring : List ℕ) (head len : ℕ) (ln f : List Float) (c�
   in_window : length q ≤ S.window_size
   in_window = omega (arith, long, w.ringed.queued.len_in, w.ring_is)
 
-  pub len_fits : (len ≤ 65535) × (len < length f)
-  len_fits = (omega (arith, w.ringed.queued.small, w.ringed.queued.len_in), omega (arith, w.ringed.f_long, w.ringed.queued.len_in))
-
-  asks : (at i : ℕ) → at ≡ suc i → i < len → (counts : List ℕ) → Counted (kmers S) counts (drop at q)
-      → (Queued ring head len (length counts) × (length ring < length ln) × (i < len)) × Counted (length counts) counts (drop (i + 1) q)
-  asks at i here inside counts c =
-      let e : at ≡ i + 1 = omega arith in
-      let many : kmers S ≡ length counts = sym c.long in (
-        (queued_as (length counts) (c.long ∙ sym w.counts_are) w.ringed.queued, w.ringed.ln_long, inside),
-        subst (λ (z : ℕ). Counted (length counts) counts (drop z q)) e (subst (λ (z : ℕ). Counted z counts (drop at q)) many c),
-      )
-
   module _ (start m : ℕ) (start_in : start < len) (room : len + m ≤ start + p.window_size) where
     pub newer_start : (counts : List ℕ) → length counts ≡ c₀ → counts ≡ replicate (length counts) 0 → (a : Reading) → a ≡ none_read len → (b : Middle) → b ≡ no_middle len
         → NewerRead p q ln f start m (p.drop_limit ⊖ distance) len a b counts
@@ -201,18 +186,6 @@ module _ (p : Params) (ring : List ℕ) (head len : ℕ) (ln f : List Float) (c�
 
         at_end : i + l ≡ length q
         at_end = omega (arith, i_in, long)
-
-        pub newer_fits : (len ≤ 65535) × (len < length f) × (l + m ≤ 65535) × (l + m < length f)
-        newer_fits =
-            let u = w.ringed.queued.small in
-            let v = w.ringed.queued.len_in in
-            let x = w.ringed.f_long in
-            let y = w.ring_is in
-            let z = i_in in
-            (omega arith, omega arith, omega arith, omega arith)
-
-        pub newer_asks : (Queued ring head len (length counts) × (length ring < length ln) × (i < len)) × Counted (length counts) counts (drop (i + 1) q)
-        newer_asks = asks a.at i here i_in counts k.counted
 
         module _ (v : Float) (counts' : List ℕ) (taken : CountsEntry ln counts (get_or q i ambiguous) v counts')
             (a' : Reading) (ea : a' ≡ read_of a i v (a.s ⊕ (v ⊖ p.score_threshold)) (a.s ⊕ (v ⊖ p.score_threshold) ⊖ get_or f l nan) (leb l near_most))

@@ -7,7 +7,7 @@ use Prim.Native.Nat.{ℕ, suc, ◌+◌, ◌*◌, ◌-◌, ◌/◌, ◌%◌, ◌^
 use native.Mathlib.Nat.{mul-le-mul_left, mul-le-mul_right}
 use native.Mathlib.Omega.{arith}
 use Rattle.std.specs.Prelude.{Option, Some, None, IfSome}
-use lib.ListN.{length, get_or, take, drop, replicate, length-take, length-drop, length-replicate}
+use lib.ListN.{length, get_or, take, drop, replicate, length-take, length-drop}
 use lib.Seq.{drop-cons}
 use lib.Dec.{T, not_T}
 use Rattle.std.proofs.Common.{ltb, ltb→lt}
@@ -23,7 +23,6 @@ use Rattle.letters.specs.Terms.Entry.{decode}
 use Rattle.letters.proofs.Entries.{decode_plain}
 use Rattle.certificates.specs.declared.LowStarts.{LowStarts}
 use Rattle.scans.specs.declared.Params.{Params}
-use Rattle.certificates.specs.declared.low.NearRead.{NearRead}
 use Rattle.scans.specs.declared.backward.BackwardState.{BackwardState}
 use Rattle.scans.specs.Setup.{Setup, f_at, kmers}
 use Rattle.scans.specs.Counts.{hit, count}
@@ -35,7 +34,6 @@ use Rattle.scans.specs.Terms.Parts.{AddsEntry, Fresh, Queued}
 use Rattle.scans.specs.Terms.Units.{distance, gain, loss}
 use Rattle.search.specs.Terms.Certified.{Kept}
 use Rattle.certificates.specs.Terms.Made.{larger}
-use Rattle.search.specs.Terms.Fails.{TellsNone}
 use Rattle.certificates.specs.Terms.Low.{near_starts, low_starts_to, LowBounds, ReadsNewest, ReadsLow, ReadsNear}
 use Rattle.scans.proofs.Test.{by_test}
 use Rattle.scans.proofs.Counting.{hit_self, count_le, below_drop, below_take}
@@ -168,9 +166,6 @@ module _ (p : Params) (ring : List ℕ) (head len : ℕ) (window_counts : List �
 
       here : At (length ring) head e at
       here = rw i (ring_index_at (length ring) head e (len_fits w).2 (omega (arith, (len_fits w).3)))
-
-      pub read_at : at < length ring
-      read_at = here.0
 
       place : get_or q e ambiguous ≡ decode entry
       place = entry_place w e at (omega arith) here

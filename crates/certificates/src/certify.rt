@@ -25,6 +25,7 @@ pub const HIGHEST: f64 = 1048576.0;
 // At most this many of the newest entries are near.
 const NEAR: usize = 48;
 
+// Not `max` and `min` of f64, which test for a NaN and may answer either of 0 and -0.
 pub fn larger(a: f64, b: f64) -> f64
     ensures { result ≡ larger a b }
 {
@@ -98,7 +99,8 @@ impl Reading {
 }
 
 // The low entries, each below 0: where the near ones begin, the sum of their ln entries, and a bound of the other ones' scores;
-// and a bound of the scores, with the f entries of m places more, of the entries older than these. Off where a certificate cannot be made.
+// and a bound of the scores, with the f entries of m places more, of the entries older than these. Off where a certificate cannot be made:
+// a flag, since these are set field by field at each entry read.
 #[derive(Clone, Copy)]
 struct Middle {
     on: bool,
@@ -301,7 +303,7 @@ fn is_able(setup: &Setup) -> bool
     p.usual & ((setup.ln[1] <= 0.0) & ((DISTANCE <= p.score_threshold) & drops))
 }
 
-// The certificate of `start`, from cleared counts, which are then those of the entries from `start` on; where there is none, they are cleared again.
+// The certificate of `start`, from cleared counts, which are then those of the entries from `start` on; where there is none, it is off, and they are cleared again.
 #[inline(never)]
 pub fn certify(setup: &Setup, start: usize, ring: &Ring, scan_counts: &mut [u16]) -> Certificate
     requires tables_reach { TablesReach setup.now ring.now (length scan_counts.old) }

@@ -8,6 +8,7 @@ use lib.ListN.{length, take, length-append}
 use lib.Seq.{length-take-le, take_all}
 use borrow.Author.Tests.{lt-ltb, le-ltb}
 use Rattle.intervals.specs.declared.Interval.{Interval}
+use Rattle.intervals.specs.Interval.{Canonical, Wrote}
 use Rattle.intervals.proofs.Slice.{wrote_list}
 use Rattle.intervals.proofs.Shape.{ascending_inside, canonical_room}
 use Rattle.intervals.proofs.Order.{lt_or_le}
@@ -18,10 +19,8 @@ use Rattle.report.specs.Terms.Fits.{Fits}
 use Rattle.report.proofs.Decimal.{length_decimal}
 use Rattle.report.proofs.Lines.{length_report}
 use Rattle.report.proofs.Writing.{fits_as}
-use Rattle.contig.specs.declared.Outcome.{Outcome}
 use Rattle.contig.specs.Run.{contig_refusal, contig_mask}
 use Rattle.contig.specs.Printed.{answered, printed, text_of}
-use Rattle.contig.specs.Terms.Ran.{unless, Ran}
 
 pub too_many : (s : List ℕ) → 32768 < length s → size_line ≡ printed s
 unfolding printed
@@ -34,32 +33,30 @@ few s h = rw (le-ltb 32768 (length s) h)
 pub refusal_fits : (n : ℕ) (d : List ℕ) → n < 4294967296 → 49167 ≤ length d → Fits (refusal_line n) d 0
 refusal_fits n d h l = record { room = simp length-append (omega (arith, length_decimal n 10 (omega arith) (omega arith))) }
 
-module _ {s : List ℕ} {xs xs' : List Interval} {r : Outcome} (few_letters : length s ≤ 32768) (run : Ran s xs xs' r) where
-  pub refused : 0 < r.refusal → refusal_line r.refusal ≡ printed s
-  refused h = go (contig_refusal s) run.number ∙ few s few_letters
+module _ (s : List ℕ) (few_letters : length s ≤ 32768) where
+  pub refused : {n : ℕ} → 0 < n → n ≡ contig_refusal s → refusal_line n ≡ printed s
+  refused {n} p h = go n (contig_refusal s) h p ∙ few s few_letters
     where
-      go : (n : ℕ) → r.refusal ≡ n → refusal_line r.refusal ≡ answered n (contig_mask s)
-      go zero e = absurd (omega arith)
-      go (suc n) e = ap refusal_line e
+      go : (m n : ℕ) → m ≡ n → 0 < m → refusal_line m ≡ answered n (contig_mask s)
+      go m zero q p = absurd (omega arith)
+      go m (suc n) q p = ap refusal_line q
 
-  pub accepted : r.refusal ≡ 0 → report (take r.count xs') ≡ printed s
-  accepted h = ap report (wrote_list run.list) ∙ go (contig_refusal s) (sym run.number ∙ h) ∙ few s few_letters
-    where
-      go : (n : ℕ) → n ≡ 0 → report (unless n (contig_mask s)) ≡ answered n (contig_mask s)
-      go zero e = refl
-      go (suc n) e = absurd (omega arith)
+  module _ (e : 0 ≡ contig_refusal s) {xs xs' : List Interval} {count : ℕ} (wrote : Wrote (contig_mask s) xs xs' count) where
+    pub accepted : report (take count xs') ≡ printed s
+    accepted = ap report (wrote_list wrote) ∙ ap (λ (n : ℕ). answered n (contig_mask s)) e ∙ few s few_letters
 
-  pub count_room : r.count ≤ 4096
-  count_room = omega (arith, canonical_room (length s) 7 (unless (contig_refusal s) (contig_mask s)) run.shape, run.list.count_is)
+    module _ (shape : Canonical (length s) 7 (contig_mask s)) where
+      pub count_room : count ≤ 4096
+      count_room = omega (arith, canonical_room (length s) 7 (contig_mask s) shape, wrote.count_is)
 
-  pub report_fits : (d : List ℕ) → 49167 ≤ length d → Fits (report (take r.count xs')) d 0
-  report_fits d l =
-      let is : List Interval = unless (contig_refusal s) (contig_mask s) in
-      let h = count_room in
-      let e : length is ≡ r.count = sym run.list.count_is in
-      fits_as
-      (ap report (wrote_list run.list))
-      (record { room = omega (arith, length_report (length s) is (omega arith) (ascending_inside (length s) 7 0 is run.shape) (omega arith)) })
+      pub report_fits : (d : List ℕ) → 49167 ≤ length d → Fits (report (take count xs')) d 0
+      report_fits d l =
+          let is : List Interval = contig_mask s in
+          let h = count_room in
+          let e : length is ≡ count = sym wrote.count_is in
+          fits_as
+          (ap report (wrote_list wrote))
+          (record { room = omega (arith, length_report (length s) is (omega arith) (ascending_inside (length s) 7 0 is shape) (omega arith)) })
 
 -- A buffer for more than 32,768 letters loses none that matters.
 pub printed_held : {bytes d : List ℕ} {count : ℕ} → 32768 < length d → Held bytes d count → printed (take count d) ≡ text_of bytes

@@ -2,6 +2,9 @@
 use Prim.Native.Nat.{ℕ, zero, suc, ◌<◌}
 use mathlib.Core.Path.{◌≡◌, ap, ap₂, subst, ◌∙◌}
 use mathlib.Core.List.{List}
+use Rattle.std.specs.Prelude.{Result, Ok}
+use Rattle.checks.specs.declared.refusal.Refusal.{Refusal}
+use Rattle.checks.specs.Refusal.{number_of}
 use native.Mathlib.Omega.{arith}
 use lib.ListN.{length, take, replicate, length-replicate}
 use lib.Seq.{take_at}
@@ -26,7 +29,6 @@ use Rattle.longdust.specs.Mask.{mask}
 use Rattle.longdust.specs.Buffers.{Buffers, buffers, lengths}
 use Rattle.longdust.specs.Call.{ln_read, f_read, Filled, Answered}
 use Rattle.contig.specs.Run.{lent, contig_refusal, contig_mask}
-use Rattle.contig.specs.Terms.Ran.{unless, Ran}
 
 -- The buffers before the run, whatever the candidates and the lists are.
 abbrev pub fresh : List ForwardPosition → List Interval → List Interval → List Interval → Buffers
@@ -49,34 +51,38 @@ module _ (cs : List ForwardPosition) (fl rl xs : List Interval) (lc : length cs 
   fresh_lent : lengths (fresh cs fl rl xs) ≡ lent
   fresh_lent = simp (length-replicate, lc, lf, lr, lx)
 
-  module _ (s : List ℕ) (b' : Buffers) (a : Answer) (r : Answered Filled defaults s (fresh cs fl rl xs) b' a) where
-    number_is : a.refusal ≡ contig_refusal s
+  -- The run's answer r.
+  module _ (s : List ℕ) (b' : Buffers) where
+    refusal_is : (r : Result Answer Refusal) → Answered Filled defaults s (fresh cs fl rl xs) b' r → number_of r ≡ contig_refusal s
     unfolding contig_refusal
-    number_is = r.number ∙ ap (λ (l : Lent). refusal defaults s l) fresh_lent
+    refusal_is r A = A.number ∙ ap (λ (l : Lent). refusal defaults s l) fresh_lent
 
-    tables_are : a.refusal ≡ 0 → mask defaults s (ln_read defaults b') (f_read defaults b') ≡ contig_mask s
-    unfolding contig_mask defaults
-    tables_are h =
-        let D : Density = density 7 Uniform (codes s) in
-        ap₂
-        (λ (ln f : List Float). mask defaults s ln f)
-        (ap (λ (l : List Float). take 5001 l) (r.tables h).ln ∙ take_at (ln_table 5000) _ 5001 (ln_table_length 5000))
-        (ap (λ (l : List Float). take 5002 l) (r.tables h).f ∙ take_at (f_table 7 5000 D) _ 5002 (f_table_length 7 5000 D))
+    module _ {a : Answer} (A : Answered Filled defaults s (fresh cs fl rl xs) b' (Ok a)) where
+      tables_are : mask defaults s (ln_read defaults b') (f_read defaults b') ≡ contig_mask s
+      unfolding contig_mask defaults
+      tables_are =
+          let D : Density = density 7 Uniform (codes s) in
+          ap₂
+          (λ (ln f : List Float). mask defaults s ln f)
+          (ap (λ (l : List Float). take 5001 l) A.tables.ln ∙ take_at (ln_table 5000) _ 5001 (ln_table_length 5000))
+          (ap (λ (l : List Float). take 5002 l) A.tables.f ∙ take_at (f_table 7 5000 D) _ 5002 (f_table_length 7 5000 D))
 
-    list_is : (n : ℕ) → a.refusal ≡ n → Wrote (unless n (contig_mask s)) xs b'.list a.count
-    list_is zero h = rw (tables_are h) at (r.accepted h).buffers.list
-    list_is (suc n) h =
-        let q = r.refused (let p : 0 < a.refusal = omega arith in p) in
-        record { list_is = ap (λ (b : Buffers). b.list) q.same; count_is = q.count }
+      list_is : Wrote (contig_mask s) xs b'.list a.count
+      list_is = rw tables_are at A.accepted.buffers.list
 
-    shape_is : (n : ℕ) → a.refusal ≡ n → Canonical (length s) 7 (unless n (contig_mask s))
-    unfolding defaults
-    shape_is zero h = subst (λ (is : List Interval). Canonical (length s) 7 is) (wrote_list (list_is zero h)) (r.accepted h).shape
-    shape_is (suc n) h = tt
+      shape_is : Canonical (length s) 7 (contig_mask s)
+      unfolding defaults
+      shape_is = subst (λ (is : List Interval). Canonical (length s) 7 is) (wrote_list list_is) A.accepted.shape
 
-    ran_defaults : Ran s xs b'.list (record { refusal = a.refusal; count = a.count })
-    ran_defaults = record { number = number_is; list = list_is (contig_refusal s) number_is; shape = shape_is (contig_refusal s) number_is }
+  module _ {o : LongdustOptions} (e : o ≡ defaults) {s : List ℕ} {b' : Buffers} where
+    pub ran_refusal : {r : Result Answer Refusal} → Answered Filled o s (fresh cs fl rl xs) b' r → number_of r ≡ contig_refusal s
+    ran_refusal {r} A = refusal_is s b' r (subst (λ (z : LongdustOptions). Answered Filled z s (fresh cs fl rl xs) b' r) e A)
 
-  pub ran : {o : LongdustOptions} {s : List ℕ} {b' : Buffers} {a : Answer} → o ≡ defaults → Answered Filled o s (fresh cs fl rl xs) b' a
-      → Ran s xs b'.list (record { refusal = a.refusal; count = a.count })
-  ran {o} {s} {b'} {a} e r = ran_defaults s b' a (subst (λ (o : LongdustOptions). Answered Filled o s (fresh cs fl rl xs) b' a) e r)
+    pub ran_list : {a : Answer} {xs' : List Interval} → Answered Filled o s (fresh cs fl rl xs) b' (Ok a) → b'.list ≡ xs'
+        → Wrote (contig_mask s) xs xs' a.count
+    ran_list {a} A h =
+        subst (λ (z : List Interval). Wrote (contig_mask s) xs z a.count) h
+        (list_is s b' (subst (λ (z : LongdustOptions). Answered Filled z s (fresh cs fl rl xs) b' (Ok a)) e A))
+
+    pub ran_shape : {a : Answer} → Answered Filled o s (fresh cs fl rl xs) b' (Ok a) → Canonical (length s) 7 (contig_mask s)
+    ran_shape {a} A = shape_is s b' (subst (λ (z : LongdustOptions). Answered Filled z s (fresh cs fl rl xs) b' (Ok a)) e A)

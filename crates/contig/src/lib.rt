@@ -2,16 +2,19 @@
 
 #![tactic(auto)]
 
-ghost use Rattle.std.specs.Prelude.{◌≡◌, ℕ, ◌≤◌, ◌<◌, List, length};
+ghost use Rattle.std.specs.Prelude.{◌≡◌, ℕ, ◌≤◌, ◌<◌, List, length, IfOk, OnOk, OnErr};
 ghost use Rattle.io.specs.Counts.{IsPrefixLen};
 ghost use Rattle.report.specs.Terms.Held.{Held};
 ghost use Rattle.report.specs.Written.{Written};
-ghost use Rattle.contig.specs.Run.{most_letters, list_room, text_room};
+ghost use Rattle.checks.specs.Refusal.{number_of};
+ghost use Rattle.intervals.specs.Interval.{Canonical, Wrote};
+ghost use Rattle.contig.specs.Run.{most_letters, list_room, text_room, contig_refusal, contig_mask};
 ghost use Rattle.contig.specs.Printed.{printed, text_of};
-ghost use Rattle.contig.specs.Terms.Ran.{Ran};
 
-use intervals::Interval;
+use checks::Refusal;
+use intervals::{Interval, MarksOut};
 use longdust::LongdustOptions;
+use mask::Workspace;
 use scans::ForwardPosition;
 
 // The most letters that are taken, and room for one more, so that too many show; room for their intervals, and for the longest text.
@@ -22,13 +25,6 @@ pub const LETTERS_ROOM: usize = 32769;
 pub const LIST_ROOM: usize = 4096;
 
 pub const TEXT_ROOM: usize = 49167;
-
-// What a run answers: the refusal number, 0 for an accepted contig, and the interval count.
-#[derive(Clone, Copy)]
-pub struct Outcome {
-    pub refusal: u32,
-    pub count: usize,
-}
 
 fn no_candidates() -> [ForwardPosition; 5000] {
     [ForwardPosition {
@@ -43,10 +39,13 @@ pub fn no_intervals() -> [Interval; LIST_ROOM]
     [Interval { start: 0, end: 0 }; LIST_ROOM]
 }
 
-// Masks the letters, in work buffers of its own that have exactly the paper's sizes. The intervals go to the front of the list.
-pub fn mask_letters(letters: &[u8], list: &mut [Interval]) -> Outcome
+/// Masks the letters, in work buffers of its own that have exactly the paper's sizes. The intervals go to the front of the list; returns their number.
+pub fn mask_letters(letters: &[u8], list: &mut [Interval]) -> Result<usize, Refusal>
     requires { length list.old ≡ list_room }
-    ensures { Ran letters.now list.old list.new result }
+    ensures refusal { number_of result ≡ contig_refusal letters.now }
+    ensures list { IfOk result (Wrote (contig_mask letters.now) list.old list.new) }
+    ensures shape { OnOk result (Canonical (length letters.now) 7 (contig_mask letters.now)) }
+    ensures err { OnErr result (list.new ≡ list.old) }
 {
     let mut ln = [0.0f64; 5001];
     let mut f = [0.0f64; 5002];
@@ -59,26 +58,24 @@ pub fn mask_letters(letters: &[u8], list: &mut [Interval]) -> Outcome
     let mut forward_list = no_intervals();
     let mut reverse_list = no_intervals();
     let mut marks = [0u8; LIST_ROOM];
-    let answer = longdust::process(
-        letters,
-        LongdustOptions::default(),
-        &mut ln,
-        &mut f,
-        &mut queue,
-        &mut window_counts,
-        &mut scan_counts,
-        &mut candidates,
-        &mut codes,
-        &mut reverse_codes,
-        &mut forward_list,
-        &mut reverse_list,
+    let mut work = Workspace {
+        queue: &mut queue,
+        window_counts: &mut window_counts,
+        scan_counts: &mut scan_counts,
+        candidates: &mut candidates,
+        reverse_codes: &mut reverse_codes,
+        forward_list: &mut forward_list,
+        reverse_list: &mut reverse_list,
+    };
+    let mut out = MarksOut {
         list,
-        &mut marks,
-    );
-    Outcome {
-        refusal: answer.refusal,
-        count: answer.count,
-    }
+        marks: &mut marks,
+    };
+    let options = LongdustOptions::default();
+    let answer = longdust::process(
+        letters, options, &mut ln, &mut f, &mut codes, &mut work, &mut out,
+    )?;
+    Ok(answer.count)
 }
 
 // Writes what `track` prints for the letters to the front of the text, and answers how many bytes that is.
@@ -91,12 +88,10 @@ pub fn write_answer(letters: &[u8], text: &mut [u8]) -> usize
         return report::write_size_refusal(text, 0);
     }
     let mut list = no_intervals();
-    let run = mask_letters(letters, &mut list);
-    if run.refusal > 0 {
-        return report::write_refusal(run.refusal, text, 0);
+    match mask_letters(letters, &mut list) {
+        Ok(count) => report::write_report(&list[..count], text, 0),
+        Err(refusal) => report::write_refusal(refusal.number(), text, 0),
     }
-    let count = run.count;
-    report::write_report(&list[..count], text, 0)
 }
 
 // Writes what `track` prints for bytes that were read block by block: a buffer that would show too many holds `count` letters of them.

@@ -7,6 +7,7 @@ use lib.ListN.{length, take, length-take}
 use lib.Seq.{take_all, length-take-le}
 use borrow.Author.Tests.{lt-ltb, le-ltb}
 use Rattle.intervals.specs.declared.Interval.{Interval}
+use Rattle.intervals.specs.Interval.{Wrote}
 use Rattle.intervals.proofs.Slice.{wrote_list}
 use Rattle.fasta.specs.Contents.{Record}
 use Rattle.report.specs.Letters.{letters_of}
@@ -14,9 +15,7 @@ use Rattle.report.specs.Written.{Written}
 use Rattle.report.specs.Terms.Fits.{Fits}
 use Rattle.report.specs.Terms.Held.{Held}
 use Rattle.report.proofs.Writing.{none}
-use Rattle.contig.specs.declared.Outcome.{Outcome}
 use Rattle.contig.specs.Run.{contig_refusal, contig_mask}
-use Rattle.contig.specs.Terms.Ran.{unless, Ran}
 use Rattle.contigs_text.specs.Text.{mask_lines, refused_line, too_long_line, answered, record_text}
 use Rattle.contigs_text.specs.Parts.{PartOf}
 
@@ -63,20 +62,15 @@ few : (name u : List ℕ) → length u ≤ 32768 → answered name (contig_refus
 unfolding record_text
 few name u h = rw (le-ltb 32768 (length u) h)
 
-module _ {u : List ℕ} {xs xs' : List Interval} {r : Outcome} (name : List ℕ) (few_letters : length u ≤ 32768) (run : Ran u xs xs' r) where
-  pub refused : 0 < r.refusal → refused_line name r.refusal ≡ record_text (named name u)
-  refused h = go (contig_refusal u) run.number ∙ few name u few_letters
+module _ (name u : List ℕ) (few_letters : length u ≤ 32768) where
+  pub refused : {n : ℕ} → 0 < n → n ≡ contig_refusal u → refused_line name n ≡ record_text (named name u)
+  refused {n} p h = go n (contig_refusal u) h p ∙ few name u few_letters
     where
-      go : (n : ℕ) → r.refusal ≡ n → refused_line name r.refusal ≡ answered name n (contig_mask u)
-      go zero e = absurd (omega arith)
-      go (suc n) e = ap (λ (m : ℕ). refused_line name m) e
+      go : (m n : ℕ) → m ≡ n → 0 < m → refused_line name m ≡ answered name n (contig_mask u)
+      go m zero q p = absurd (omega arith)
+      go m (suc n) q p = ap (λ (k : ℕ). refused_line name k) q
 
-  pub accepted : r.refusal ≡ 0 → mask_lines name (take r.count xs') ≡ record_text (named name u)
-  accepted h = ap (λ (is : List Interval). mask_lines name is) (wrote_list run.list) ∙ go (contig_refusal u) (sym run.number ∙ h) ∙ few name u few_letters
-    where
-      go : (n : ℕ) → n ≡ 0 → mask_lines name (unless n (contig_mask u)) ≡ answered name n (contig_mask u)
-      go zero e = refl
-      go (suc n) e = absurd (omega arith)
-
-pub ran_as : {u v : List ℕ} {xs xs' : List Interval} {r : Outcome} → u ≡ v → Ran u xs xs' r → Ran v xs xs' r
-ran_as e run = rw e at run
+  pub accepted : 0 ≡ contig_refusal u → {xs xs' : List Interval} {count : ℕ} → Wrote (contig_mask u) xs xs' count
+      → mask_lines name (take count xs') ≡ record_text (named name u)
+  accepted e wrote =
+      ap (λ (is : List Interval). mask_lines name is) (wrote_list wrote) ∙ ap (λ (n : ℕ). answered name n (contig_mask u)) e ∙ few name u few_letters

@@ -98,15 +98,12 @@ fn open_record(
         let end = write_too_long(name, text, from);
         return Opened { end, count: 0 };
     }
-    let run = contig::mask_letters(&letters[..n], list);
-    let refusal = run.refusal;
-    if refusal > 0 {
-        let end = write_refused(name, refusal, text, from);
-        return Opened { end, count: 0 };
-    }
-    Opened {
-        end: from,
-        count: run.count,
+    match contig::mask_letters(&letters[..n], list) {
+        Ok(count) => Opened { end: from, count },
+        Err(refusal) => {
+            let end = write_refused(name, refusal.number(), text, from);
+            Opened { end, count: 0 }
+        }
     }
 }
 

@@ -1,3 +1,4 @@
+mod Pushing
 pub mod Order
 pub mod Joining
 pub mod Shape

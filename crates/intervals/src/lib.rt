@@ -2,13 +2,18 @@
 
 #![tactic(auto)]
 
+mod output;
+
 ghost use Rattle.std.specs.Prelude.{◌≡◌, ◌+◌, ◌-◌, ◌≤◌, ◌<◌, min, max, length, take, get_or};
-ghost use Rattle.buffers.specs.Fill.{put, put_at};
+ghost use Rattle.buffers.specs.Fill.{put};
+ghost use Rattle.intervals.specs.Out.{SameOut};
 ghost use Rattle.intervals.specs.Interval.{interval, usual_entry, usual};
 ghost use Rattle.intervals.specs.Terms.Bounds.{Inside};
 ghost use Rattle.intervals.specs.Save.{staying, save};
-ghost use Rattle.intervals.specs.Merge.{merge, from_forward, from_reverse, nonempty_marked, grown, merge_marked, ranges, mark_of, marks_of, WroteMarked, flip, backwards};
+ghost use Rattle.intervals.specs.Merge.{merge, from_forward, from_reverse, grown, merge_marked, range, mark_of, WroteMarked, flip, backwards};
 ghost use Rattle.intervals.specs.Terms.Pick.{picked, Picks};
+
+pub use output::MarksOut;
 
 /// The letters from `start` up to `end`, which is not included.
 #[repr(C)]
@@ -91,6 +96,15 @@ impl Marked {
         self
     }
 
+    fn range(self) -> Interval
+        ensures { result ≡ range self }
+    {
+        Interval {
+            start: self.start,
+            end: self.end,
+        }
+    }
+
     // Its marks as a byte: 1 forward, 2 reverse, 3 both.
     fn mark(self) -> u8
         ensures { result ≡ mark_of self }
@@ -102,24 +116,6 @@ impl Marked {
             (false, false) => 0,
         }
     }
-}
-
-// Puts an interval and its marks after the first `count` entries if it has a letter, and answers how many there are then.
-fn push_nonempty(list: &mut [Interval], marks: &mut [u8], count: usize, part: Marked) -> usize
-    requires { (count + length (nonempty_marked part) ≤ length list.old) × (count + length (nonempty_marked part) ≤ length marks.old) }
-    ensures { (list.new ≡ put_at count (ranges (nonempty_marked part)) list.old)
-        × (marks.new ≡ put_at count (marks_of (nonempty_marked part)) marks.old)
-        × (result ≡ count + length (nonempty_marked part)) }
-{
-    if part.start < part.end {
-        list[count] = Interval {
-            start: part.start,
-            end: part.end,
-        };
-        marks[count] = part.mark();
-        return count + 1;
-    }
-    count
 }
 
 // The interval that a merge takes next. Then the forward list remains from `forward` on, and of the reverse list the first `reverse`.
@@ -185,23 +181,22 @@ fn pick(forward: &[Interval], i: usize, reverse: &[Interval], j: usize, n: u32) 
     pick_reverse(reverse, i, j, n)
 }
 
-// Joins the forward list and the reverse list, this one read backwards in n letters, with marks, and answers how many intervals there are then.
+/// Joins the forward list and the reverse list, this one read backwards in n letters, with marks, and returns how many intervals there are then.
 pub fn merge_intervals(
     forward: &[Interval],
     reverse: &[Interval],
     n: u32,
-    list: &mut [Interval],
-    marks: &mut [u8],
+    out: &mut MarksOut,
 ) -> usize
     requires inside { Inside n reverse.now }
-    requires reverse_in_bounds { (length (merge forward.now (backwards n reverse.now)) ≤ length list.old)
-        × (length (merge forward.now (backwards n reverse.now)) ≤ length marks.old) }
-    ensures { WroteMarked (merge_marked forward.now (backwards n reverse.now))
-        list.old list.new marks.old marks.new result }
+    requires room { length (merge forward.now (backwards n reverse.now)) ≤ length out.old.list.now }
+    requires marks_room { length (merge forward.now (backwards n reverse.now)) ≤ length out.old.marks.now }
+    ensures merged { WroteMarked (merge_marked forward.now (backwards n reverse.now))
+        out.old.list.now out.new.list.now out.old.marks.now out.new.marks.now result }
+    ensures same { SameOut out.old out.new }
 {
     let mut i = 0;
     let mut j = reverse.len();
-    let mut left = forward.len() + reverse.len();
     let mut part = Marked {
         start: 0,
         end: 0,
@@ -209,19 +204,18 @@ pub fn merge_intervals(
         reverse: false,
     };
     let mut count = 0;
-    while 0 < left {
+    for taken in 0..forward.len() + reverse.len() {
         let next = pick(forward, i, reverse, j, n);
         i = next.forward;
         j = next.reverse;
-        left -= 1;
         let end = part.end;
         let start = next.part.start;
         if start <= end {
             part = part.grown(next.part);
-        } else {
-            count = push_nonempty(list, marks, count, part);
-            part = next.part;
+            continue;
         }
+        count = out.push(count, part.range(), part.mark());
+        part = next.part;
     }
-    push_nonempty(list, marks, count, part)
+    out.push(count, part.range(), part.mark())
 }

@@ -1,7 +1,7 @@
 -- From the run on an accepted request's codes to what the call on filled tables answers, and from there to what the filling call does.
 use mathlib.Core.Path.{◌≡◌, refl, sym, ap, ◌∙◌, subst}
-use mathlib.Core.Logic.{◌≢◌}
 use mathlib.Core.List.{List}
+use Rattle.std.specs.Prelude.{Ok}
 use Prim.Native.Nat.{ℕ}
 use native.Mathlib.Omega.{arith}
 use lib.ListN.{length, take, drop}
@@ -15,8 +15,8 @@ use Rattle.longdust.specs.declared.LongdustOptions.{LongdustOptions}
 use Rattle.longdust.specs.declared.Answer.{Answer}
 use Rattle.longdust.specs.Checks.{refusal}
 use Rattle.longdust.specs.Buffers.{Buffers, lengths}
-use Rattle.longdust.specs.Call.{Accepted, Kept, Filled, Answered}
-use Rattle.longdust.specs.Terms.Inner.{refused, Admitted, Ran}
+use Rattle.longdust.specs.Call.{Accepted, Answered}
+use Rattle.longdust.specs.Terms.Inner.{Admitted, Ran}
 use Rattle.longdust.proofs.Accept.{admitted}
 
 -- The codes of s over the front of d.
@@ -55,20 +55,20 @@ lending b ln f cs =
       marks = b.marks;
     }
 
--- The same codes, in a buffer of their own.
-pub admitted_as : (o : LongdustOptions) (n : ℕ) (b : Buffers) → Admitted o n (lengths b) → (cs : List ℕ) → length cs ≡ n
-    → Admitted o (length cs) (lengths (lending b b.ln b.f cs))
-admitted_as o n b a cs e =
+-- The same codes, in a buffer of their own, and tables as long as they were.
+pub admitted_as : (o : LongdustOptions) (n : ℕ) (b : Buffers) → Admitted o n (lengths b) → (ln f : List Float) → length ln ≡ length b.ln → length f ≡ length b.f
+    → (cs : List ℕ) → length cs ≡ n → Admitted o (length cs) (lengths (lending b ln f cs))
+admitted_as o n b a ln f p q cs e =
     let g = a.enough in
-    subst (λ (m : ℕ). Admitted o m (lengths (lending b b.ln b.f cs))) (sym e)
+    subst (λ (m : ℕ). Admitted o m (lengths (lending b ln f cs))) (sym e)
     (record {
       bounds = a.bounds;
       letters_low = a.letters_low;
       letters_high = a.letters_high;
       enough =
           record {
-            ln = g.ln;
-            f = g.f;
+            ln = omega (arith, g.ln);
+            f = omega (arith, g.f);
             queue = g.queue;
             window_counts = g.window_counts;
             scan_counts = g.scan_counts;
@@ -81,9 +81,6 @@ admitted_as o n b a cs e =
             marks = g.marks;
           };
     })
-
-free_then : {m : ℕ} {x y z : List ℕ} → Free m x y → Free m y z → Free m x z
-free_then f g = record { long = g.long ∙ f.long; past = g.past ∙ f.past }
 
 -- Before the run the buffers were `lending b ln f cs`; of the codes the call says only which entries are free.
 accepted_as : (o : LongdustOptions) (s : List ℕ) (b b' : Buffers) (r : Answer) (ln f : List Float) (cs d : List ℕ) → Free (length s) b.codes d
@@ -111,45 +108,14 @@ accepted_as o s b b' r ln f cs d c a =
       shorter = a.shorter;
     }
 
--- A refusal touches nothing.
-pub not_accepted : (Tables : LongdustOptions → List ℕ → Buffers → Buffers → Type 0) (o : LongdustOptions) (s : List ℕ) (b : Buffers) (r : Answer) (number : ℕ)
-    → number ≡ refusal o s (lengths b) → number ≢ 0 → r ≡ refused number → Answered Tables o s b b r
-not_accepted Tables o s b r number e h q =
-    let is : r.refusal ≡ number = ap (λ (z : Answer). z.refusal) q in
+-- The run's answer is the call's; its buffers differ in the tables, if they are filled, and in the codes.
+pub run_answered : (Tables : LongdustOptions → List ℕ → Buffers → Buffers → Type 0) (o : LongdustOptions) (s : List ℕ) (b b' : Buffers) (a : Answer)
+    (ln f : List Float) (cs d : List ℕ) → 0 ≡ refusal o s (lengths b) → Tables o s b (lending b' ln f d) → cs ≡ codes s
+    → Free (length s) b.codes d → Ran o cs (lending b ln f cs) (lending b' ln f cs) a → Answered Tables o s b (lending b' ln f d) (Ok a)
+run_answered Tables o s b b' a ln f cs d z t e c p =
     record {
-      number = is ∙ e;
-      refused = λ _. record { count = ap (λ (z : Answer). z.count) q; flag = ap (λ (z : Answer). z.in_range) q; same = refl };
-      accepted = λ z. absurd (h (sym is ∙ z));
-      tables = λ z. absurd (h (sym is ∙ z));
+      number = z;
+      refused = tt;
+      accepted = accepted_as o s b (lending b' ln f cs) a ln f cs d c (p.accepted s e);
+      tables = t;
     }
-
--- The run's answer is the call's.
-pub run_answered : (o : LongdustOptions) (s : List ℕ) (b b' : Buffers) (r : Answer) (cs d : List ℕ) → refusal o s (lengths b) ≡ 0 → cs ≡ codes s
-    → Free (length s) b.codes d → Ran o cs (lending b b.ln b.f cs) (lending b' b.ln b.f cs) r
-    → Answered Kept o s b (lending b' b.ln b.f d) r
-run_answered o s b b' r cs d z e c p =
-    record {
-      number = p.number ∙ sym z;
-      refused = λ h. absurd (let q : ⊥ = omega (arith, p.number) in q);
-      accepted = λ _. accepted_as o s b (lending b' b.ln b.f cs) r b.ln b.f cs d c (p.accepted s e);
-      tables = λ _. record { ln = refl; f = refl };
-    }
-
--- The filling call's answer is the other call's, on buffers that differ from its own in the tables, now filled, and the codes.
-pub fill_answered : (o : LongdustOptions) (s : List ℕ) (b b' : Buffers) (r : Answer) (ln f : List Float) (cs : List ℕ)
-    → refusal o s (lengths b) ≡ 0 → Filled o s b (lending b ln f cs) → length ln ≡ length b.ln → length f ≡ length b.f
-    → Free (length s) b.codes cs → Answered Kept o s (lending b ln f cs) b' r → Answered Filled o s b b' r
-fill_answered o s b b' r ln f cs z t p q c a =
-    let same : refusal o s (lengths (lending b ln f cs)) ≡ refusal o s (lengths b) = rw (p, q, c.long) in
-    let number : r.refusal ≡ refusal o s (lengths b) = a.number ∙ same in
-    record {
-      number = number;
-      refused = λ h. absurd (let x : ⊥ = omega arith in x);
-      accepted = λ h.
-          let k = a.accepted h in
-          accepted_as o s b b' r ln f cs b'.codes (free_then c k.buffers.codes) k;
-      tables = λ h. let k = a.tables h in record { ln = k.ln ∙ t.ln; f = k.f ∙ t.f };
-    }
-
--- The laws by which `process_tables` is proved.
-pub ruleset called = (admitted, encoded, encoded_length, encoded_free, admitted_as, run_answered)

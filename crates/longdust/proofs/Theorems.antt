@@ -5,6 +5,10 @@ use Prim.Native.Nat.{ℕ, zero, suc, ◌+◌, ◌<◌}
 use native.Mathlib.Omega.{arith}
 use mathlib.Core.Bool.{Bool, false}
 use mathlib.Core.List.{List}
+use Rattle.std.specs.Prelude.{Result, Ok, Err}
+use Rattle.checks.specs.declared.refusal.Refusal.{Refusal}
+use Rattle.checks.specs.Refusal.{number_of}
+use Rattle.checks.proofs.Refusing.{number_positive, number_injective}
 use lib.ListN.{length, take, drop}
 use lib.Seq.{take_at}
 use lib.Ieee.{Float}
@@ -63,82 +67,78 @@ filled_f {o} {s} {b} {b'} t =
     ∙ take_at table (drop (length table) b.f) (w + 2) (f_table_length o.kmer w (density o.kmer o.gc (codes s)))
 
 -- Each entry 1..w of the ln table that the filling call leaves is within 2^-45 of the true logarithm.
-pub process_ln_within : (o : LongdustOptions) (s : List ℕ) {b b' : Buffers} {r : Answer} → Answered Filled o s b b' r → r.refusal ≡ 0
-    → EntriesWithin o.window_size b'.ln
-process_ln_within o s {b} {b'} A e =
-    let bounds = (admitted o s _ (sym A.number ∙ e)).bounds in
-    filled_within o.window_size b.ln b'.ln bounds.window_high (A.tables e).ln
+pub process_ln_within : (o : LongdustOptions) (s : List ℕ) {b b' : Buffers} {a : Answer} → Answered Filled o s b b' (Ok a) → EntriesWithin o.window_size b'.ln
+process_ln_within o s {b} {b'} A =
+    let bounds = (admitted o s _ (sym A.number)).bounds in
+    filled_within o.window_size b.ln b'.ln bounds.window_high A.tables.ln
 
 -- The filling call answers what the other call answers on tables that hold the formulas: the same refusal, count and flag, and the same list and marks.
-module _ (o : LongdustOptions) (s : List ℕ) {b b' c c' : Buffers} {r q : Answer} (A : Answered Filled o s b b' r) (B : Answered Kept o s c c' q)
-    (sizes : lengths c ≡ lengths b) (ln : ln_read o c ≡ ln_table o.window_size)
+module _ (o : LongdustOptions) (s : List ℕ) {b b' c c' : Buffers} (sizes : lengths c ≡ lengths b) (ln : ln_read o c ≡ ln_table o.window_size)
     (f : f_read o c ≡ f_table o.kmer o.window_size (density o.kmer o.gc (codes s))) (list : c.list ≡ b.list) (marks : c.marks ≡ b.marks) where
-  same_number : q.refusal ≡ r.refusal
-  same_number = B.number ∙ ap (λ (z : Lent). refusal o s z) sizes ∙ sym A.number
+  same_number : {r q : Result Answer Refusal} → Answered Filled o s b b' r → Answered Kept o s c c' q → number_of q ≡ number_of r
+  same_number A B = B.number ∙ ap (λ (z : Lent). refusal o s z) sizes ∙ sym A.number
 
-  pub process_as_process_tables : (q ≡ r) × (c'.list ≡ b'.list) × (c'.marks ≡ b'.marks)
-  process_as_process_tables = go r.refusal refl
-    where
-      go : (n : ℕ) → r.refusal ≡ n → (q ≡ r) × (c'.list ≡ b'.list) × (c'.marks ≡ b'.marks)
-      go zero e =
-          let x = A.accepted e in
-          let y = B.accepted (same_number ∙ e) in
-          let u = A.tables e in
-          let v = B.tables (same_number ∙ e) in
-          let w = o.window_size in
-          let ln_is : ln_read o c' ≡ ln_read o b' = ap (λ (z : List Float). take (w + 1) z) v.ln ∙ ln ∙ sym (filled_ln u) in
-          let f_is : f_read o c' ≡ f_read o b' = ap (λ (z : List Float). take (w + 2) z) v.f ∙ f ∙ sym (filled_f u) in
-          let mask_is : mask o s (ln_read o c') (f_read o c') ≡ mask o s (ln_read o b') (f_read o b') =
-          ap₂ (λ (m n : List Float). mask o s m n) ln_is f_is in
-          let count_is : q.count ≡ r.count =
-          y.buffers.list.count_is ∙ ap (λ (is : List Interval). length is) mask_is ∙ sym x.buffers.list.count_is in
-          let flag_is : q.in_range ≡ r.in_range =
-          y.flag ∙ ap₂ (λ (m n : List Float). in_range (setup o m n)) ln_is f_is ∙ sym x.flag in (
-            rw (same_number, count_is, flag_is),
-            y.buffers.list.list_is ∙ ap₂ (λ (is : List Interval) (d : List Interval). put is d) mask_is list
-                ∙ sym x.buffers.list.list_is,
-            y.buffers.marks
-                ∙ ap₂ (λ (ms : List Marked) (d : List ℕ). put (marks_of ms) d) (ap₂ (λ (m n : List Float). marked_mask o s m n) ln_is f_is) marks
-                ∙ sym x.buffers.marks,
-          )
-      go (suc n) e =
-          let x = A.refused (omega arith) in
-          let y = B.refused (omega (arith, same_number)) in (
-            rw (same_number, x.count, y.count, x.flag, y.flag),
-            ap (λ (z : Buffers). z.list) y.same ∙ list ∙ sym (ap (λ (z : Buffers). z.list) x.same),
-            ap (λ (z : Buffers). z.marks) y.same ∙ marks ∙ sym (ap (λ (z : Buffers). z.marks) x.same),
-          )
+  pub process_as_process_tables : (r q : Result Answer Refusal) → Answered Filled o s b b' r → Answered Kept o s c c' q
+      → (q ≡ r) × (c'.list ≡ b'.list) × (c'.marks ≡ b'.marks)
+  process_as_process_tables (Ok r) (Ok q) A B =
+      let x = A.accepted in
+      let y = B.accepted in
+      let u = A.tables in
+      let v = B.tables in
+      let w = o.window_size in
+      let ln_is : ln_read o c' ≡ ln_read o b' = ap (λ (z : List Float). take (w + 1) z) v.ln ∙ ln ∙ sym (filled_ln u) in
+      let f_is : f_read o c' ≡ f_read o b' = ap (λ (z : List Float). take (w + 2) z) v.f ∙ f ∙ sym (filled_f u) in
+      let mask_is : mask o s (ln_read o c') (f_read o c') ≡ mask o s (ln_read o b') (f_read o b') =
+      ap₂ (λ (m n : List Float). mask o s m n) ln_is f_is in
+      let count_is : q.count ≡ r.count =
+      y.buffers.list.count_is ∙ ap (λ (is : List Interval). length is) mask_is ∙ sym x.buffers.list.count_is in
+      let flag_is : q.in_range ≡ r.in_range =
+      y.flag ∙ ap₂ (λ (m n : List Float). in_range (setup o m n)) ln_is f_is ∙ sym x.flag in (
+        ap₂ (λ (n : ℕ) (t : Bool). Ok (record { count = n; in_range = t })) count_is flag_is,
+        y.buffers.list.list_is ∙ ap₂ (λ (is : List Interval) (d : List Interval). put is d) mask_is list
+            ∙ sym x.buffers.list.list_is,
+        y.buffers.marks
+            ∙ ap₂ (λ (ms : List Marked) (d : List ℕ). put (marks_of ms) d) (ap₂ (λ (m n : List Float). marked_mask o s m n) ln_is f_is) marks
+            ∙ sym x.buffers.marks,
+      )
+  process_as_process_tables (Err r) (Err q) A B = (
+    ap (λ (e : Refusal). Err e) (number_injective q r (same_number A B)),
+    ap (λ (z : Buffers). z.list) B.refused ∙ list ∙ sym (ap (λ (z : Buffers). z.list) A.refused),
+    ap (λ (z : Buffers). z.marks) B.refused ∙ marks ∙ sym (ap (λ (z : Buffers). z.marks) A.refused),
+  )
+  process_as_process_tables (Ok r) (Err q) A B = absurd (let x : ⊥ = omega (arith, number_positive q, same_number A B) in x)
+  process_as_process_tables (Err r) (Ok q) A B = absurd (let x : ⊥ = omega (arith, number_positive r, same_number A B) in x)
 
 -- The marks of an accepted request.
 marks_are : {Tables : LongdustOptions → List ℕ → Buffers → Buffers → Type 0} {o : LongdustOptions} {s : List ℕ} {b b' : Buffers} {r : Answer}
-    → Answered Tables o s b b' r → r.refusal ≡ 0 → listed_marks r b' ≡ marks_of (marked_mask o s (ln_read o b') (f_read o b'))
+    → Answered Tables o s b b' (Ok r) → listed_marks r b' ≡ marks_of (marked_mask o s (ln_read o b') (f_read o b'))
 unfolding mask marked_mask
-marks_are {Tables} {o} {s} {b} {b'} {r} A e =
+marks_are {Tables} {o} {s} {b} {b'} {r} A =
     let S = setup o (ln_read o b') (f_read o b') in
-    let m = (A.accepted e).buffers in
+    let m = A.accepted.buffers in
     marks_held (marked_mask o s (ln_read o b') (f_read o b')) b.marks b'.marks r.count m.marks
     (m.list.count_is ∙ ap (λ (is : List Interval). length is) (sym (mask_ranges S o.forward_only (codes s))))
 
 -- Two accepted two-strand requests with the same options, where the codes of one are the reverse complement of the other's.
 module _ (o : LongdustOptions) (s t : List ℕ) (both : o.forward_only ≡ false) (other : codes t ≡ reverse_complement (codes s)) where
   mirror : {Tables : LongdustOptions → List ℕ → Buffers → Buffers → Type 0} {b b' c c' : Buffers} {r q : Answer}
-      → Answered Tables o s b b' r → Answered Tables o t c c' q → r.refusal ≡ 0 → q.refusal ≡ 0
+      → Answered Tables o s b b' (Ok r) → Answered Tables o t c c' (Ok q)
       → AgreeTo o.window_size (ln_read o c') (ln_read o b') → AgreeTo o.window_size (f_read o c') (f_read o b')
       → (listed q c' ≡ backwards (length s) (listed r b')) × (listed_marks q c' ≡ backwards_marks (listed_marks r b'))
   unfolding mask marked_mask setup
-  mirror {Tables} {b} {b'} {c} {c'} {r} {q} A B ra rb ln f =
+  mirror {Tables} {b} {b'} {c} {c'} {r} {q} A B ln f =
       let w = o.window_size in
       let test = same_test o ln f in
       let S = setup o (ln_read o b') (f_read o b') in
-      let bounds = (admitted o s _ (sym A.number ∙ ra)).bounds in
-      let one = wrote_list (A.accepted ra).buffers.list ∙ ap (λ (k : Bool). mask_of S k (codes s)) both in
-      let two = marks_are A ra ∙ ap (λ (k : Bool). marks_of (marked_mask_of S k (codes s))) both in (
-        wrote_list (B.accepted rb).buffers.list
+      let bounds = (admitted o s _ (sym A.number)).bounds in
+      let one = wrote_list A.accepted.buffers.list ∙ ap (λ (k : Bool). mask_of S k (codes s)) both in
+      let two = marks_are A ∙ ap (λ (k : Bool). marks_of (marked_mask_of S k (codes s))) both in (
+        wrote_list B.accepted.buffers.list
             ∙ mask_agree o w ln f test (omega (arith, bounds.window_low)) bounds.start_low t (omega arith)
             ∙ ap₂ (λ (k : Bool) (z : List ℕ). mask_of S k z) both other
             ∙ mask_mirror S (codes s) bounds.kmer_low
             ∙ ap₂ (λ (n : ℕ) (z : List Interval). backwards n z) (codes_length s) (sym one),
-        marks_are B rb
+        marks_are B
             ∙ ap (λ (ms : List Marked). marks_of ms) (marked_agree o w ln f test (omega (arith, bounds.window_low)) bounds.start_low t (omega arith))
             ∙ ap₂ (λ (k : Bool) (z : List ℕ). marks_of (marked_mask_of S k z)) both other
             ∙ ap (λ (ms : List Marked). marks_of ms) (marked_mask_mirror S (codes s) bounds.kmer_low)
@@ -147,22 +147,21 @@ module _ (o : LongdustOptions) (s t : List ℕ) (both : o.forward_only ≡ false
       )
 
   -- On tables that agree on entries 1..w.
-  pub process_tables_mirror : {b b' c c' : Buffers} {r q : Answer} → Answered Kept o s b b' r → Answered Kept o t c c' q
-      → r.refusal ≡ 0 → q.refusal ≡ 0 → AgreeTo o.window_size c.ln b.ln → AgreeTo o.window_size c.f b.f
+  pub process_tables_mirror : {b b' c c' : Buffers} {r q : Answer} → Answered Kept o s b b' (Ok r) → Answered Kept o t c c' (Ok q)
+      → AgreeTo o.window_size c.ln b.ln → AgreeTo o.window_size c.f b.f
       → (listed q c' ≡ backwards (length s) (listed r b')) × (listed_marks q c' ≡ backwards_marks (listed_marks r b'))
-  process_tables_mirror A B ra rb ln f =
+  process_tables_mirror A B ln f =
       let w = o.window_size in
-      let a = A.tables ra in
-      let b = B.tables rb in
-      mirror A B ra rb (rw (a.ln, b.ln) (agree_take (w + 1) (omega arith) ln)) (rw (a.f, b.f) (agree_take (w + 2) (omega arith) f))
+      let a = A.tables in
+      let b = B.tables in
+      mirror A B (rw (a.ln, b.ln) (agree_take (w + 1) (omega arith) ln)) (rw (a.f, b.f) (agree_take (w + 2) (omega arith) f))
 
   -- On the tables that the call fills: the GC is the same, and so are the tables.
-  pub process_mirror : {b b' c c' : Buffers} {r q : Answer} → Answered Filled o s b b' r → Answered Filled o t c c' q
-      → r.refusal ≡ 0 → q.refusal ≡ 0
+  pub process_mirror : {b b' c c' : Buffers} {r q : Answer} → Answered Filled o s b b' (Ok r) → Answered Filled o t c c' (Ok q)
       → (listed q c' ≡ backwards (length s) (listed r b')) × (listed_marks q c' ≡ backwards_marks (listed_marks r b'))
-  process_mirror A B ra rb =
+  process_mirror A B =
       let w = o.window_size in
       let same : density o.kmer o.gc (codes t) ≡ density o.kmer o.gc (codes s) =
       ap (λ (z : List ℕ). density o.kmer o.gc z) other ∙ density_reverse_complement o.kmer o.gc (codes s) in
-      mirror A B ra rb (agree_equal (filled_ln (B.tables rb) ∙ sym (filled_ln (A.tables ra))))
-      (agree_equal (filled_f (B.tables rb) ∙ ap (λ (d : Density). f_table o.kmer w d) same ∙ sym (filled_f (A.tables ra))))
+      mirror A B (agree_equal (filled_ln B.tables ∙ sym (filled_ln A.tables)))
+      (agree_equal (filled_f B.tables ∙ ap (λ (d : Density). f_table o.kmer w d) same ∙ sym (filled_f A.tables)))

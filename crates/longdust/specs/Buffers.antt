@@ -1,6 +1,8 @@
 -- The paper, 'Records': the lent buffers, what they hold and how many entries each has.
 use Rattle.intervals.specs.declared.Interval.{Interval}
 use Rattle.std.specs.Prelude.{List, ℕ, length, Float}
+use Rattle.intervals.specs.declared.output.MarksOut.{MarksOut}
+use Rattle.mask.specs.declared.Workspace.{Workspace}
 use Rattle.scans.specs.declared.ForwardPosition.{ForwardPosition}
 use Rattle.longdust.specs.declared.Lent.{Lent}
 
@@ -35,6 +37,30 @@ buffers ln f queue window_counts scan_counts candidates cs reverse_codes forward
       reverse_list = reverse_list;
       list = list;
       marks = marks;
+    }
+
+-- The buffers of a call: its tables, its codes, its workspace and where the list and the marks go.
+abbrev pub lends : List Float → List Float → List ℕ → Workspace → MarksOut → Buffers
+lends ln f cs w o =
+    buffers ln f w.queue.now w.window_counts.now w.scan_counts.now w.candidates.now cs w.reverse_codes.now w.forward_list.now w.reverse_list.now
+    o.list.now o.marks.now
+
+-- How many entries they have, where those of the tables and the codes are given.
+abbrev pub lent_by : ℕ → ℕ → ℕ → Workspace → MarksOut → Lent
+lent_by ln f cs w o =
+    record {
+      ln = ln;
+      f = f;
+      queue = length w.queue.now;
+      window_counts = length w.window_counts.now;
+      scan_counts = length w.scan_counts.now;
+      candidates = length w.candidates.now;
+      codes = cs;
+      reverse_codes = length w.reverse_codes.now;
+      forward_list = length w.forward_list.now;
+      reverse_list = length w.reverse_list.now;
+      list = length o.list.now;
+      marks = length o.marks.now;
     }
 
 abbrev pub lengths : Buffers → Lent

@@ -1,7 +1,9 @@
 -- The paper, 'Records' and 'Both strands': what the two calls answer and what they leave in the lent buffers.
-use Rattle.std.specs.Prelude.{◌≡◌, true, false, List, ℕ, ◌+◌, ◌^◌, ◌<◌, length, take, Float}
+use Rattle.std.specs.Prelude.{◌≡◌, true, List, ℕ, ◌+◌, ◌^◌, length, take, Float, Result, OnOk, OnErr, IfOk}
 use Rattle.buffers.specs.Fill.{put}
 use Rattle.buffers.specs.Free.{Free}
+use Rattle.checks.specs.declared.refusal.Refusal.{Refusal}
+use Rattle.checks.specs.Refusal.{number_of}
 use Rattle.checks.specs.Tests.{most_intervals}
 use Rattle.letters.specs.Code.{codes}
 use Rattle.intervals.specs.declared.Interval.{Interval}
@@ -36,12 +38,6 @@ listed r b = take r.count b.list
 -- And their marks.
 abbrev pub listed_marks : Answer → Buffers → List ℕ
 listed_marks r b = take r.count b.marks
-
--- A refusal: count 0, flag no, and no buffer changes.
-pub record Refused (b b' : Buffers) (r : Answer) : Type 0 where
-  pub count : r.count ≡ 0
-  pub flag : r.in_range ≡ false
-  pub same : b' ≡ b
 
 -- The final list holds the mask, by the tables that the run reads, and the marks stand beside it; their other entries are unchanged.
 -- The other buffers hold free content within the listed sizes.
@@ -79,10 +75,10 @@ pub record Filled (o : LongdustOptions) (s : List ℕ) (b b' : Buffers) : Type 0
   pub ln : b'.ln ≡ put (ln_table o.window_size) b.ln
   pub f : b'.f ≡ put (f_table o.kmer o.window_size (density o.kmer o.gc (codes s))) b.f
 
--- What both calls answer; `Tables` says what the tables hold after acceptance.
+-- What both calls answer; `Tables` says what the tables hold after acceptance. A refusal changes no buffer.
 pub record Answered (Tables : LongdustOptions → List ℕ → Buffers → Buffers → Type 0) (o : LongdustOptions) (s : List ℕ)
-    (b b' : Buffers) (r : Answer) : Type 0 where
-  pub number : r.refusal ≡ refusal o s (lengths b)
-  pub refused : 0 < r.refusal → Refused b b' r
-  pub accepted : r.refusal ≡ 0 → Accepted o s b b' r
-  pub tables : r.refusal ≡ 0 → Tables o s b b'
+    (b b' : Buffers) (r : Result Answer Refusal) : Type 0 where
+  pub number : number_of r ≡ refusal o s (lengths b)
+  pub refused : OnErr r (b' ≡ b)
+  pub accepted : IfOk r (Accepted o s b b')
+  pub tables : OnOk r (Tables o s b b')

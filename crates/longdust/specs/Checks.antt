@@ -51,5 +51,5 @@ checks o s b =
     ∷ []
 
 -- The number of the first check that fails; 0 if none does.
-unfoldable pub refusal : LongdustOptions → List ℕ → Lent → ℕ
+abbrev pub refusal : LongdustOptions → List ℕ → Lent → ℕ
 refusal o s b = first (checks o s b)

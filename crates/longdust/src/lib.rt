@@ -47,12 +47,18 @@ impl LongdustOptions {
     }
 }
 
-// The refusal number, 0 for an accepted request, the interval count and the flag.
+// The answer to an accepted request: how many intervals its mask has, and the flag.
 #[derive(Clone, Copy)]
 pub struct Answer {
-    pub refusal: u32,
     pub count: usize,
     pub in_range: bool,
+}
+
+// The two tables, filled.
+#[derive(Clone, Copy)]
+pub struct Tables<'a> {
+    pub ln: &'a [f64],
+    pub f: &'a [f64],
 }
 
 // How many entries each lent buffer has.

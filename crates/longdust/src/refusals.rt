@@ -1,15 +1,18 @@
-// The checks of a request, in the paper's order, and the answer to one that fails.
+// The checks of a request, in the paper's order.
 
 ghost use Rattle.std.specs.Prelude.{◌≡◌};
 ghost use Rattle.longdust.specs.Checks.{gc_bad, xdrop_bad, too_short_of, refusal};
-ghost use Rattle.longdust.specs.Terms.Inner.{refused};
+ghost use Rattle.checks.specs.Refusal.{number_of};
+ghost use Rattle.longdust.specs.Buffers.{lent_by};
 
-use crate::{Answer, Lent, LongdustOptions};
+use crate::{Lent, LongdustOptions};
 use checks::{
-    below_intervals, below_sum, find_bytes, kmer_outside, min_start_below, next_check,
-    threshold_bad, too_few_letters, too_many_letters, window_above, window_below,
+    Refusal, below_intervals, below_sum, check_sequence, min_start_below, threshold_bad,
+    too_many_letters,
 };
+use intervals::MarksOut;
 use letters::below_n_kmers;
+use mask::Workspace;
 use scans::Xdrop;
 use tables::GcOption;
 
@@ -52,37 +55,51 @@ fn too_short(n: usize, k: usize, w: usize, lent: Lent) -> bool
         | below_intervals(lent.marks, n, k)
 }
 
-// The number of the first check that fails, 0 if none does.
-pub fn check(options: LongdustOptions, sequence: &[u8], lent: Lent) -> u32
-    ensures { result ≡ refusal options sequence.now lent }
+// How many entries the lent buffers have.
+pub fn lent(ln: usize, f: usize, codes: usize, work: &Workspace, out: &MarksOut) -> Lent
+    ensures { result ≡ lent_by ln f codes work.now out.now }
+{
+    Lent {
+        ln,
+        f,
+        queue: work.queue.len(),
+        window_counts: work.window_counts.len(),
+        scan_counts: work.scan_counts.len(),
+        candidates: work.candidates.len(),
+        codes,
+        reverse_codes: work.reverse_codes.len(),
+        forward_list: work.forward_list.len(),
+        reverse_list: work.reverse_list.len(),
+        list: out.list.len(),
+        marks: out.marks.len(),
+    }
+}
+
+// The first check that fails.
+pub fn check(options: LongdustOptions, sequence: &[u8], lent: Lent) -> Result<(), Refusal>
+    ensures { number_of result ≡ refusal options sequence.now lent }
 {
     let n = sequence.len();
     let k = options.kmer;
     let w = options.window_size;
-    let gc = options.gc;
-    let xdrop = options.xdrop;
-    let bytes = find_bytes(sequence);
-    let r = next_check(0, 1, kmer_outside(k));
-    let r = next_check(r, 2, bytes.high);
-    let r = next_check(r, 13, bytes.other);
-    let r = next_check(r, 3, too_few_letters(n, k));
-    let r = next_check(r, 4, window_below(w, k));
-    let r = next_check(r, 5, window_above(w));
-    let r = next_check(r, 6, threshold_bad(options.score_threshold));
-    let r = next_check(r, 7, gc_bad(gc));
-    let r = next_check(r, 8, min_start_below(options.min_start_cnt));
-    let r = next_check(r, 9, xdrop_bad(xdrop));
-    let r = next_check(r, 10, too_many_letters(n));
-    next_check(r, 11, too_short(n, k, w, lent))
-}
-
-// The answer to a refused request.
-pub fn refused(number: u32) -> Answer
-    ensures { result ≡ refused number }
-{
-    Answer {
-        refusal: number,
-        count: 0,
-        in_range: false,
+    check_sequence(sequence, k, w)?;
+    if threshold_bad(options.score_threshold) {
+        return Err(Refusal::BadThreshold);
     }
+    if gc_bad(options.gc) {
+        return Err(Refusal::BadGc);
+    }
+    if min_start_below(options.min_start_cnt) {
+        return Err(Refusal::MinStartBelow);
+    }
+    if xdrop_bad(options.xdrop) {
+        return Err(Refusal::BadXdrop);
+    }
+    if too_many_letters(n) {
+        return Err(Refusal::TooManyLetters);
+    }
+    if too_short(n, k, w, lent) {
+        return Err(Refusal::ShortSlice);
+    }
+    Ok(())
 }

@@ -3,12 +3,14 @@
 ghost use Rattle.std.specs.Prelude.{◌≡◌, ◌&&◌, ◌-◌, ◌<◌, length, ltb};
 ghost use Rattle.scans.specs.Range.{table_in_range, in_range};
 ghost use Rattle.scans.specs.Terms.Shape.{usual_to};
-ghost use Rattle.longdust.specs.Buffers.{buffers, lengths};
+ghost use Rattle.intervals.specs.Out.{SameOut};
+ghost use Rattle.mask.specs.Lent.{SameBuffers};
+ghost use Rattle.longdust.specs.Buffers.{lends, lengths};
 ghost use Rattle.longdust.specs.Mask.{setup};
-ghost use Rattle.longdust.specs.Terms.Inner.{Bounds, Admitted, Prepared, accepted, Ran};
+ghost use Rattle.longdust.specs.Terms.Inner.{Bounds, Admitted, Prepared, Ran};
 
-use crate::{Answer, LongdustOptions};
-use intervals::Interval;
+use crate::{Answer, LongdustOptions, Tables};
+use intervals::MarksOut;
 use mask::Workspace;
 use scans::{Params, Setup};
 
@@ -24,10 +26,8 @@ fn table_in_range(table: &[f64], w: usize, high: f64) -> bool
     ensures { result ≡ table_in_range high table.now w }
 {
     let mut ok = true;
-    let mut i = 0;
-    while i < w {
-        i += 1;
-        let x = table[i];
+    for i in 0..w {
+        let x = table[i + 1];
         ok = ok & ((0.0 <= x) & (x <= high));
     }
     ok
@@ -80,74 +80,30 @@ fn prepare(options: LongdustOptions, flag: bool, n: usize, ln: &[f64], f: &[f64]
     }
 }
 
-// The answer to an accepted request: how many intervals its mask has, and its flag.
-fn accepted(count: usize, in_range: bool) -> Answer
-    ensures { result ≡ accepted count in_range }
-{
-    Answer {
-        refusal: 0,
-        count,
-        in_range,
-    }
-}
-
-// The run of an accepted request on its codes, by filled tables: the flag, and the mask. Both strands get the front of each buffer.
+// The run of an accepted request on its codes, by filled tables: the flag, and the mask.
 pub fn mask_encoded(
     options: LongdustOptions,
     codes: &[u8],
-    ln: &[f64],
-    f: &[f64],
-    queue: &mut [u32],
-    window_counts: &mut [u16],
-    scan_counts: &mut [u16],
-    candidates: &mut [scans::ForwardPosition],
-    reverse_codes: &mut [u8],
-    forward_list: &mut [Interval],
-    reverse_list: &mut [Interval],
-    list: &mut [Interval],
-    marks: &mut [u8],
+    tables: &Tables,
+    work: &mut Workspace,
+    out: &mut MarksOut,
 ) -> Answer
-    requires { Admitted options (length codes.now) (lengths
-        (buffers ln.now f.now queue.old window_counts.old scan_counts.old
-        candidates.old codes.now reverse_codes.old
-        forward_list.old reverse_list.old list.old marks.old)) }
-    ensures { Ran options codes.now
-        (buffers ln.now f.now queue.old window_counts.old scan_counts.old
-        candidates.old codes.now reverse_codes.old
-        forward_list.old reverse_list.old list.old marks.old)
-        (buffers ln.now f.now queue.new window_counts.new scan_counts.new
-        candidates.new codes.now reverse_codes.new
-        forward_list.new reverse_list.new list.new marks.new) result }
+    requires { Admitted options (length codes.now) (lengths (lends tables.now.ln.now tables.now.f.now codes.now work.old out.old)) }
+    ensures ran { Ran options codes.now
+        (lends tables.now.ln.now tables.now.f.now codes.now work.old out.old)
+        (lends tables.now.ln.now tables.now.f.now codes.now work.new out.new) result }
+    ensures same_buffers { SameBuffers work.old work.new }
+    ensures same { SameOut out.old out.new }
 {
-    let n = codes.len();
-    let k = options.kmer;
     let w = options.window_size;
-    let kmers = letters::n_kmers(k);
-    let rows = (n + 1) / (k + 1);
-    let ln = &ln[..w + 1];
-    let f = &f[..w + 2];
-    let flag = in_range(options, ln, f);
+    let ln = &tables.ln[..w + 1];
+    let f = &tables.f[..w + 2];
+    let in_range = in_range(options, ln, f);
     let setup = Setup {
-        params: prepare(options, flag, n, ln, f),
-        ln: ln,
-        f: f,
+        params: prepare(options, in_range, codes.len(), ln, f),
+        ln,
+        f,
     };
-    let mut work = Workspace {
-        queue: &mut queue[..w],
-        window_counts: &mut window_counts[..kmers],
-        scan_counts: &mut scan_counts[..kmers],
-        candidates: &mut candidates[..w],
-        reverse_codes: &mut reverse_codes[..n],
-        forward_list: &mut forward_list[..rows],
-        reverse_list: &mut reverse_list[..rows],
-    };
-    let count = mask::both_strands(
-        &setup,
-        options.forward_only,
-        codes,
-        &mut work,
-        &mut list[..rows],
-        &mut marks[..rows],
-    );
-    accepted(count, flag)
+    let count = mask::both_strands(&setup, options.forward_only, codes, work, out);
+    Answer { count, in_range }
 }

@@ -3,9 +3,9 @@
 ghost use Rattle.std.specs.Prelude.{◌≡◌, ◌<◌, length};
 ghost use Rattle.buffers.specs.Fill.{put};
 ghost use Rattle.masked_copy.specs.Copy.{copy_of, refusal};
-ghost use Rattle.c_numbers.specs.Numbers.{masking_of, count_or};
+ghost use Rattle.longdust_c.specs.Numbers.{masking_of, count_or};
 
-use c_numbers::{masking_of, returned};
+use crate::numbers::{masking_of, returned};
 use intervals::Interval;
 
 // The sequence over the front of `copy`, its letters masked that an interval of the list holds.

@@ -3,9 +3,9 @@
 ghost use Rattle.std.specs.Prelude.{◌≡◌, ◌<◌, length};
 ghost use Rattle.buffers.specs.Fill.{put};
 ghost use Rattle.questions.specs.Batch.{summary_of, results_of, refusal};
-ghost use Rattle.c_numbers.specs.Numbers.{count_or};
+ghost use Rattle.longdust_c.specs.Numbers.{count_or};
 
-use c_numbers::returned;
+use crate::numbers::returned;
 use intervals::Interval;
 use questions::{Answer, Question};
 

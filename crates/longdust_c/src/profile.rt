@@ -5,9 +5,11 @@ ghost use Rattle.buffers.specs.Fill.{put};
 ghost use Rattle.small.specs.Bytes.{bytes_of};
 ghost use Rattle.small.specs.Call.{filled_mask};
 ghost use Rattle.small.specs.Profile.{refusal};
-ghost use Rattle.c_numbers.specs.Numbers.{small_options, count_or};
+ghost use Rattle.longdust_c.specs.Numbers.{small_options, count_or};
 
-use c_numbers::{returned, small_options};
+use crate::numbers::{returned, xdrop_choice};
+use longdust::LongdustOptions;
+use tables::GcOption;
 
 // The mask of the sequence over the front of `out`, each interval as its start and its end, four bytes each, lowest first.
 #[unsafe(no_mangle)]
@@ -30,15 +32,15 @@ pub extern "C" fn longdust_small(
     ensures refused { let options = small_options kmer window_size score_threshold xdrop_set xdrop_length min_start_cnt approx forward_only in
         0 < refusal options sequence.now (length out.old) → out.new ≡ out.old }
 {
-    let options = small_options(
-        kmer,
+    let options = LongdustOptions {
         window_size,
         score_threshold,
-        xdrop_set,
-        xdrop_length,
+        kmer,
+        gc: GcOption::Uniform,
+        xdrop: xdrop_choice(xdrop_set, xdrop_length),
         min_start_cnt,
-        approx,
-        forward_only,
-    );
+        approx: approx != 0,
+        forward_only: forward_only != 0,
+    };
     returned(small::write_mask(sequence, options, out))
 }

@@ -3,7 +3,7 @@
 ghost use Rattle.std.specs.Prelude.{◌≡◌, ◌<◌, ◌^◌};
 ghost use Rattle.buffers.specs.Fill.{put};
 ghost use Rattle.short_sequences.specs.Tallies.{tallies_of, refused_of, refusal};
-ghost use Rattle.c_numbers.specs.Numbers.{count_or};
+ghost use Rattle.longdust_c.specs.Numbers.{count_or};
 
 // Fills the front of `tallies` for all sequences of m letters over A C G T N, and sets how many are refused.
 #[unsafe(no_mangle)]

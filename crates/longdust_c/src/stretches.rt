@@ -5,7 +5,7 @@ ghost use Rattle.buffers.specs.Free.{Free};
 ghost use Rattle.strongest.specs.Strongest.{steps, start as best_start, best_score, gap as best_gap};
 ghost use Rattle.strongest.specs.Call.{asked};
 ghost use Rattle.strongest.specs.Checks.{refusal};
-ghost use Rattle.c_numbers.specs.Numbers.{count_or};
+ghost use Rattle.longdust_c.specs.Numbers.{count_or};
 
 use strongest::{Request, Scoring};
 

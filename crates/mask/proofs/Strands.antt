@@ -30,6 +30,10 @@ pub scanned : (S : Setup) (codes : List ℕ) (list list' : List Interval) (count
     → length list' ≡ length list → StrandList S codes list' count → Held (intervals_of S codes) list' count
 scanned S codes list list' count h l r = record { list_is = r.list_is; within = omega (arith, r.count_is, strand_room S codes) }
 
+-- The other strand's list: none, or that of the reverse complement.
+pub other_none : (S : Setup) (b : Bool) (s : List ℕ) (xs : List Interval) → b ≡ true → Held (other_intervals S b s) xs 0
+other_none S b s xs e = record { list_is = rw e; within = omega arith }
+
 pub other_some : (S : Setup) (b : Bool) (s t : List ℕ) (xs : List Interval) (count : ℕ) → b ≡ false → t ≡ reverse_complement s
     → Held (intervals_of S t) xs count → Held (other_intervals S b s) xs count
 other_some S b s t xs count e r q = record { list_is = q.list_is ∙ rw (r, e); within = q.within }

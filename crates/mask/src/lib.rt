@@ -2,14 +2,17 @@
 
 #![tactic(auto)]
 
-ghost use Rattle.std.specs.Prelude.{◌≡◌, length, take};
+ghost use Rattle.std.specs.Prelude.{◌≡◌, ◌+◌, ◌/◌, ◌^◌, length, take};
+ghost use Rattle.buffers.specs.Free.{Free};
 ghost use Rattle.intervals.specs.Merge.{merge_marked, WroteMarked, backwards};
+ghost use Rattle.intervals.specs.Out.{SameOut};
 ghost use Rattle.scans.specs.Terms.Run.{as_setup};
 ghost use Rattle.step.specs.Step.{intervals_of};
+ghost use Rattle.mask.specs.Lent.{SameBuffers};
 ghost use Rattle.mask.specs.Mask.{marked_mask_of};
-ghost use Rattle.mask.specs.Terms.Both.{Held, other_intervals, SameBuffers, ForwardLent, ReverseLent, BothLent, Mergeable};
+ghost use Rattle.mask.specs.Terms.Both.{Held, other_intervals, StrandRoom, WorkLent, OutLent, Freed, Mergeable};
 
-use intervals::Interval;
+use intervals::{Interval, MarksOut};
 use scans::{ForwardPosition, Setup};
 
 // The buffers that the runs over both strands are lent, and the list of each.
@@ -24,10 +27,44 @@ pub struct Workspace<'a> {
     pub reverse_list: &'a mut [Interval],
 }
 
-// The list of the sequence, in the front of `forward_list`; answers how many intervals it has.
+// The list of a strand of codes, in the front of `list`; returns how many intervals it has. The run gets the front of each buffer.
+fn strand_list(
+    setup: &Setup,
+    codes: &[u8],
+    queue: &mut [u32],
+    window_counts: &mut [u16],
+    scan_counts: &mut [u16],
+    candidates: &mut [ForwardPosition],
+    list: &mut [Interval],
+) -> usize
+    requires { StrandRoom setup.now.params (length codes.now) (length queue.old)
+        (length window_counts.old) (length scan_counts.old) (length candidates.old) (length list.old) }
+    ensures list { Held (intervals_of (as_setup setup.now) codes.now) list.new result }
+    ensures queue { Free setup.now.params.window_size queue.old queue.new }
+    ensures window_counts { Free (4 ^ setup.now.params.kmer) window_counts.old window_counts.new }
+    ensures scan_counts { Free (4 ^ setup.now.params.kmer) scan_counts.old scan_counts.new }
+    ensures candidates { Free setup.now.params.window_size candidates.old candidates.new }
+    ensures rows { Free ((length codes.now + 1) / (setup.now.params.kmer + 1)) list.old list.new }
+{
+    let w = setup.params.window_size;
+    let kmers = letters::n_kmers(setup.params.kmer);
+    let rows = (codes.len() + 1) / (setup.params.kmer + 1);
+    strand::inner_process(
+        setup,
+        codes,
+        &mut queue[..w],
+        &mut window_counts[..kmers],
+        &mut scan_counts[..kmers],
+        &mut candidates[..w],
+        &mut list[..rows],
+    )
+}
+
+// The list of the sequence, in the front of `forward_list`; returns how many intervals it has.
 fn forward_strand(setup: &Setup, codes: &[u8], work: &mut Workspace) -> usize
-    requires { ForwardLent setup.now.params (length codes.now) work.old }
+    requires { WorkLent setup.now.params (length codes.now) work.old }
     ensures list { Held (intervals_of (as_setup setup.now) codes.now) work.new.forward_list.now result }
+    ensures freed { Freed setup.now.params (length codes.now) work.old work.new }
     ensures same_buffers { SameBuffers work.old work.new }
 {
     let queue = &mut work.queue[..];
@@ -35,7 +72,7 @@ fn forward_strand(setup: &Setup, codes: &[u8], work: &mut Workspace) -> usize
     let scan_counts = &mut work.scan_counts[..];
     let candidates = &mut work.candidates[..];
     let list = &mut work.forward_list[..];
-    strand::inner_process(
+    strand_list(
         setup,
         codes,
         queue,
@@ -46,16 +83,17 @@ fn forward_strand(setup: &Setup, codes: &[u8], work: &mut Workspace) -> usize
     )
 }
 
-// The list of the reverse complement, in the front of `reverse_list`; answers how many intervals it has. A forward-only run has none.
+// The list of the reverse complement, in the front of `reverse_list`; returns how many intervals it has. A forward-only run has none.
 pub fn reverse_strand(
     setup: &Setup,
     forward_only: bool,
     codes: &[u8],
     work: &mut Workspace,
 ) -> usize
-    requires { ReverseLent setup.now.params (length codes.now) work.old }
+    requires { WorkLent setup.now.params (length codes.now) work.old }
     ensures list { Held (other_intervals (as_setup setup.now) forward_only codes.now) work.new.reverse_list.now result }
     ensures forward { work.new.forward_list.now ≡ work.old.forward_list.now }
+    ensures freed { Freed setup.now.params (length codes.now) work.old work.new }
     ensures same_buffers { SameBuffers work.old work.new }
 {
     if forward_only {
@@ -65,10 +103,10 @@ pub fn reverse_strand(
     let window_counts = &mut work.window_counts[..];
     let scan_counts = &mut work.scan_counts[..];
     let candidates = &mut work.candidates[..];
-    let reverse_codes = &mut work.reverse_codes[..];
+    let reverse_codes = &mut work.reverse_codes[..codes.len()];
     let list = &mut work.reverse_list[..];
     letters::reverse_complement_encoded_sequence(codes, reverse_codes);
-    strand::inner_process(
+    strand_list(
         setup,
         reverse_codes,
         queue,
@@ -86,45 +124,39 @@ fn merge_strands(
     reverse_list: &[Interval],
     reverse_count: usize,
     n: u32,
-    list: &mut [Interval],
-    marks: &mut [u8],
+    out: &mut MarksOut,
 ) -> usize
-    requires { Mergeable forward_list.now forward_count reverse_list.now reverse_count n list.old marks.old }
-    ensures { WroteMarked (merge_marked (take forward_count forward_list.now)
+    requires { Mergeable forward_list.now forward_count reverse_list.now reverse_count n out.old.list.now out.old.marks.now }
+    ensures mask { WroteMarked (merge_marked (take forward_count forward_list.now)
         (backwards n (take reverse_count reverse_list.now)))
-        list.old list.new marks.old marks.new result }
+        out.old.list.now out.new.list.now out.old.marks.now out.new.marks.now result }
+    ensures same { SameOut out.old out.new }
 {
     let forward = &forward_list[..forward_count];
     let reverse = &reverse_list[..reverse_count];
-    intervals::merge_intervals(forward, reverse, n, list, marks)
+    intervals::merge_intervals(forward, reverse, n, out)
 }
 
-// Both strands on buffers of exactly the listed sizes; answers how many intervals the mask has.
+// Both strands on buffers of at least the listed sizes; returns how many intervals the mask has.
 pub fn both_strands(
     setup: &Setup,
     forward_only: bool,
     codes: &[u8],
     work: &mut Workspace,
-    list: &mut [Interval],
-    marks: &mut [u8],
+    out: &mut MarksOut,
 ) -> usize
-    requires { BothLent setup.now.params (length codes.now) work.old (length list.old) (length marks.old) }
+    requires lent { WorkLent setup.now.params (length codes.now) work.old }
+    requires room { OutLent setup.now.params (length codes.now) out.old }
     ensures mask { WroteMarked (marked_mask_of (as_setup setup.now) forward_only codes.now)
-        list.old list.new marks.old marks.new result }
+        out.old.list.now out.new.list.now out.old.marks.now out.new.marks.now result }
+    ensures freed { Freed setup.now.params (length codes.now) work.old work.new }
     ensures same_buffers { SameBuffers work.old work.new }
+    ensures same { SameOut out.old out.new }
 {
     let n = codes.len() as u32;
     let forward_count = forward_strand(setup, codes, work);
     let reverse_count = reverse_strand(setup, forward_only, codes, work);
     let forward = &mut work.forward_list[..];
     let reverse = &mut work.reverse_list[..];
-    merge_strands(
-        forward,
-        forward_count,
-        reverse,
-        reverse_count,
-        n,
-        list,
-        marks,
-    )
+    merge_strands(forward, forward_count, reverse, reverse_count, n, out)
 }

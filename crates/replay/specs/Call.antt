@@ -1,6 +1,7 @@
 -- The call that a record asks for: the sizes of its slices, its tables, and what it answers.
-use Rattle.std.specs.Prelude.{ℕ, ◌-◌, min, ◌≡◌, Bool, not, ◌&&◌, cond, List, eqb, leb, Float}
+use Rattle.std.specs.Prelude.{ℕ, ◌-◌, min, ◌≡◌, Bool, not, ◌&&◌, cond, List, eqb, leb, Float, Result}
 use Rattle.buffers.specs.Fill.{put}
+use Rattle.checks.specs.declared.refusal.Refusal.{Refusal}
 use Rattle.intervals.specs.declared.Interval.{Interval}
 use Rattle.letters.specs.Code.{codes}
 use Rattle.tables.specs.Density.{density}
@@ -26,7 +27,7 @@ pub record Formulas (lent : Bool) (o : LongdustOptions) (s : List ℕ) (ln f ln'
   pub f_is : f' ≡ cond (filling lent o.kmer o.window_size) (put (f_of o s) f) f
 
 -- What the call on lent tables answers, on some buffers with these tables, this list and these marks.
-pub record Replayed (o : LongdustOptions) (s : List ℕ) (ln f : List Float) (xs xs' : List Interval) (ys ys' : List ℕ) (r : Answer) : Type 0 where
+pub record Replayed (o : LongdustOptions) (s : List ℕ) (ln f : List Float) (xs xs' : List Interval) (ys ys' : List ℕ) (r : Result Answer Refusal) : Type 0 where
   pub before : Buffers
   pub after : Buffers
   pub answered : Answered Kept o s before after r

@@ -1,10 +1,13 @@
 // The call that a record asks for, on slices of the sizes that it names.
 
 ghost use Rattle.std.specs.Prelude.{◌≡◌, ◌≤◌, length};
+ghost use Rattle.intervals.specs.Out.{SameOut};
 ghost use Rattle.replay.specs.Call.{size, filling, Formulas, Replayed};
 
-use intervals::Interval;
-use longdust::{Answer, LongdustOptions};
+use checks::Refusal;
+use intervals::{Interval, MarksOut};
+use longdust::{Answer, LongdustOptions, Tables};
+use mask::Workspace;
 use scans::ForwardPosition;
 
 // A request that is lent slices has k at most 6, w at most 64 and n at most 200: room for its tables, letters and intervals.
@@ -83,13 +86,12 @@ pub fn answer(
     short: u32,
     sequence: &[u8],
     options: LongdustOptions,
-    ln: &[f64],
-    f: &[f64],
-    list: &mut [Interval],
-    marks: &mut [u8],
-) -> Answer
-    ensures { Replayed options sequence.now ln.now f.now
-        list.old list.new marks.old marks.new result }
+    tables: &Tables,
+    out: &mut MarksOut,
+) -> Result<Answer, Refusal>
+    ensures replayed { Replayed options sequence.now tables.now.ln.now tables.now.f.now
+        out.old.list.now out.new.list.now out.old.marks.now out.new.marks.now result }
+    ensures same { SameOut out.old out.new }
 {
     let n = sequence.len();
     let k = options.kmer.min(6);
@@ -112,20 +114,15 @@ pub fn answer(
     let mut reverse_codes = [0xeeu8; LETTERS_ROOM];
     let mut forward_list = some_intervals();
     let mut reverse_list = some_intervals();
-    longdust::process_tables(
-        sequence,
-        options,
-        ln,
-        f,
-        &mut queue[..queue_size],
-        &mut window_counts[..window_counts_size],
-        &mut scan_counts[..scan_counts_size],
-        &mut candidates[..candidates_size],
-        &mut codes[..codes_size],
-        &mut reverse_codes[..reverse_codes_size],
-        &mut forward_list[..forward_list_size],
-        &mut reverse_list[..reverse_list_size],
-        list,
-        marks,
-    )
+    let mut work = Workspace {
+        queue: &mut queue[..queue_size],
+        window_counts: &mut window_counts[..window_counts_size],
+        scan_counts: &mut scan_counts[..scan_counts_size],
+        candidates: &mut candidates[..candidates_size],
+        reverse_codes: &mut reverse_codes[..reverse_codes_size],
+        forward_list: &mut forward_list[..forward_list_size],
+        reverse_list: &mut reverse_list[..reverse_list_size],
+    };
+    let codes = &mut codes[..codes_size];
+    longdust::process_tables(sequence, options, tables, codes, &mut work, out)
 }

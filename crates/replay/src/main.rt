@@ -17,6 +17,8 @@ ghost use Rattle.std.specs.Prelude.{take};
 ghost use Rattle.std.specs.Io.KnownBytes.{Consumes};
 ghost use Rattle.io.specs.Counts.{IsPrefixLen};
 
+use intervals::MarksOut;
+use longdust::Tables;
 use std::io;
 use std::io::Read;
 use words::{Malformed, Words};
@@ -40,15 +42,15 @@ fn replay_record(words: &mut Words) -> Result<bool, Malformed> {
     let most = (n + 1) / (options.kmer + 1);
     let list_size = call::entries(11, head.short, most, call::LIST_ROOM);
     let marks_size = call::entries(12, head.short, most, call::LIST_ROOM);
-    let answer = call::answer(
-        head.short,
-        &letters[..n],
-        options,
-        &ln[..ln_size],
-        &f[..f_size],
-        &mut list[..list_size],
-        &mut marks[..marks_size],
-    );
+    let tables = Tables {
+        ln: &ln[..ln_size],
+        f: &f[..f_size],
+    };
+    let mut out = MarksOut {
+        list: &mut list[..list_size],
+        marks: &mut marks[..marks_size],
+    };
+    let answer = call::answer(head.short, &letters[..n], options, &tables, &mut out);
     recorded::compare(words, answer, &list, &marks)
 }
 

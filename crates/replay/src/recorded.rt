@@ -4,6 +4,7 @@ ghost use Rattle.std.specs.Prelude.{◌≡◌, ◌&&◌, ltb, eqb, length, get_o
 ghost use Rattle.intervals.specs.Interval.{interval};
 
 use crate::words::{Malformed, Words};
+use checks::Refusal;
 use intervals::Interval;
 use longdust::Answer;
 
@@ -48,17 +49,17 @@ fn intervals(
 // Reads the recorded answer, refusal, flag, count, intervals and marks; whether the answer is the recorded one.
 pub fn compare(
     words: &mut Words,
-    answer: Answer,
+    answer: Result<Answer, Refusal>,
     list: &[Interval],
     marks: &[u8],
 ) -> Result<bool, Malformed> {
-    let refusal = words.number(13)?;
-    let alike = answer.refusal == refusal;
-    if refusal != 0 {
-        return Ok(alike & (answer.count == 0) & !answer.in_range);
+    let number = words.number(13)?;
+    if number != 0 {
+        return Ok(matches!(answer, Err(refusal) if refusal.number() == number));
     }
     let in_range = words.flag()?;
     let count = words.number(100)?;
-    let same = alike & (answer.in_range == in_range) & (answer.count == count as usize);
+    let same =
+        matches!(answer, Ok(mask) if mask.in_range == in_range && mask.count == count as usize);
     Ok(intervals(words, count, list, marks)? & same)
 }

@@ -1,8 +1,12 @@
 -- What the two calls say of a run on a short sequence: buffers of exactly the paper's sizes, tables filled once.
 use Prim.Native.Nat.{ℕ, zero, suc, ◌≤◌, ◌<◌}
 use mathlib.Core.Path.{◌≡◌, refl, sym, ap, ap₂, subst, ◌∙◌}
-use mathlib.Core.Bool.{Bool, false, not, cond}
-use mathlib.Core.List.{List, []}
+use mathlib.Core.Bool.{Bool, true, false, not, cond}
+use mathlib.Core.List.{List}
+use Rattle.std.specs.Prelude.{Result, Ok}
+use Rattle.checks.specs.declared.refusal.Refusal.{Refusal}
+use Rattle.checks.specs.Refusal.{number, number_of}
+use Rattle.checks.proofs.Refusing.{number_positive}
 use native.Mathlib.Omega.{arith}
 use borrow.Author.Tests.{ne_eqb}
 use lib.Dec.{eqb}
@@ -30,10 +34,9 @@ use Rattle.longdust.specs.Checks.{refusal}
 use Rattle.longdust.specs.Mask.{mask}
 use Rattle.longdust.specs.Buffers.{Buffers, buffers, lengths}
 use Rattle.longdust.specs.Call.{ln_read, f_read, Kept, Answered}
-use Rattle.short_sequences.specs.declared.Masked.{Masked}
 use Rattle.short_sequences.specs.declared.Outcome.{Outcome}
 use Rattle.short_sequences.specs.Tallies.{short_options, lent, refusal_of, mask_of, is_refused, masked_letters}
-use Rattle.short_sequences.specs.Terms.Outcome.{Filled, unless, Ran, outcome_of}
+use Rattle.short_sequences.specs.Terms.Outcome.{Filled, outcome_of}
 
 -- For uniform GC the tables do not go by the sequence.
 same_density : (s : List ℕ) → density 1 short_options.gc s ≡ uniform 1
@@ -66,59 +69,49 @@ module _ (ln f : List Float) (cs : List ForwardPosition) (fl rl xs : List Interv
       let b : length f ≡ 10 = ap length t.f_is ∙ f_table_length 1 8 (uniform 1) in
       simp (length-replicate, a, b, lc, lf, lr, lx)
 
-  module _ (s : List ℕ) (b' : Buffers) (a : Answer) (r : Answered Kept short_options s (fresh ln f cs fl rl xs) b' a) where
-    number_is : a.refusal ≡ refusal_of s
+  -- The run's answer.
+  module _ (s : List ℕ) (b' : Buffers) where
+    refusal_is : (r : Result Answer Refusal) → Answered Kept short_options s (fresh ln f cs fl rl xs) b' r → number_of r ≡ refusal_of s
     unfolding refusal_of
-    number_is = r.number ∙ ap (λ (l : Lent). refusal short_options s l) fresh_lent
+    refusal_is r A = A.number ∙ ap (λ (l : Lent). refusal short_options s l) fresh_lent
 
-    tables_are : a.refusal ≡ 0 → mask short_options s (ln_read short_options b') (f_read short_options b') ≡ mask_of s
-    unfolding short_options
-    tables_are h =
-        let k = r.tables h in
-        mask_is s _ _
-        (ap (λ (l : List Float). take 9 l) (k.ln ∙ t.ln_is) ∙ take_all 9 (ln_table 8) (omega (arith, ln_table_length 8)))
-        (ap (λ (l : List Float). take 10 l) (k.f ∙ t.f_is) ∙ take_all 10 (f_table 1 8 (uniform 1)) (omega (arith, f_table_length 1 8 (uniform 1))))
+    module _ {a : Answer} (A : Answered Kept short_options s (fresh ln f cs fl rl xs) b' (Ok a)) where
+      tables_are : mask short_options s (ln_read short_options b') (f_read short_options b') ≡ mask_of s
+      unfolding short_options
+      tables_are =
+          let k = A.tables in
+          mask_is s _ _
+          (ap (λ (l : List Float). take 9 l) (k.ln ∙ t.ln_is) ∙ take_all 9 (ln_table 8) (omega (arith, ln_table_length 8)))
+          (ap (λ (l : List Float). take 10 l) (k.f ∙ t.f_is) ∙ take_all 10 (f_table 1 8 (uniform 1)) (omega (arith, f_table_length 1 8 (uniform 1))))
 
-    list_is : (n : ℕ) → a.refusal ≡ n → Wrote (unless n (mask_of s)) xs b'.list a.count
-    list_is zero h = rw (tables_are h) at (r.accepted h).buffers.list
-    list_is (suc n) h =
-        let q = r.refused (let p : 0 < a.refusal = omega arith in p) in
-        record { list_is = ap (λ (b : Buffers). b.list) q.same; count_is = q.count }
+      list_is : Wrote (mask_of s) xs b'.list a.count
+      list_is = rw tables_are at A.accepted.buffers.list
 
-    shape_is : (n : ℕ) → a.refusal ≡ n → Canonical (length s) 1 (unless n (mask_of s))
-    unfolding short_options
-    shape_is zero h = subst (λ (is : List Interval). Canonical (length s) 1 is) (wrote_list (list_is zero h)) (r.accepted h).shape
-    shape_is (suc n) h = tt
+      shape_is : Canonical (length s) 1 (mask_of s)
+      unfolding short_options
+      shape_is = subst (λ (is : List Interval). Canonical (length s) 1 is) (wrote_list list_is) A.accepted.shape
 
-    ran_options : Ran s xs b'.list (record { refusal = a.refusal; count = a.count })
-    ran_options = record { number = number_is; list = list_is (refusal_of s) number_is; shape = shape_is (refusal_of s) number_is }
+  module _ {o : LongdustOptions} (e : o ≡ short_options) {s : List ℕ} {b' : Buffers} where
+    pub ran_refusal : {r : Result Answer Refusal} → Answered Kept o s (fresh ln f cs fl rl xs) b' r → number_of r ≡ refusal_of s
+    ran_refusal {r} A = refusal_is s b' r (subst (λ (z : LongdustOptions). Answered Kept z s (fresh ln f cs fl rl xs) b' r) e A)
 
-  pub ran : {o : LongdustOptions} {s : List ℕ} {b' : Buffers} {a : Answer} → o ≡ short_options → Answered Kept o s (fresh ln f cs fl rl xs) b' a
-      → Ran s xs b'.list (record { refusal = a.refusal; count = a.count })
-  ran {o} {s} {b'} {a} e r = ran_options s b' a (subst (λ (o : LongdustOptions). Answered Kept o s (fresh ln f cs fl rl xs) b' a) e r)
+    pub ran_list : {a : Answer} {xs' : List Interval} → Answered Kept o s (fresh ln f cs fl rl xs) b' (Ok a) → b'.list ≡ xs'
+        → Wrote (mask_of s) xs xs' a.count
+    ran_list {a} A h =
+        subst (λ (z : List Interval). Wrote (mask_of s) xs z a.count) h
+        (list_is s b' (subst (λ (z : LongdustOptions). Answered Kept z s (fresh ln f cs fl rl xs) b' (Ok a)) e A))
 
--- What a run comes to, from the list that it leaves.
-module _ {s : List ℕ} {xs xs' : List Interval} {r : Masked} (run : Ran s xs xs' r) where
-  pub count_room : length s ≤ 8 → r.count ≤ 4
-  count_room h = omega (arith, canonical_room (length s) 1 (unless (refusal_of s) (mask_of s)) run.shape, run.list.count_is)
+    pub ran_shape : {a : Answer} → Answered Kept o s (fresh ln f cs fl rl xs) b' (Ok a) → Canonical (length s) 1 (mask_of s)
+    ran_shape {a} A = shape_is s b' (subst (λ (z : LongdustOptions). Answered Kept z s (fresh ln f cs fl rl xs) b' (Ok a)) e A)
 
-  pub list_usual : Canonical (length s) 1 (take r.count xs')
-  list_usual = subst (λ (is : List Interval). Canonical (length s) 1 is) (sym (wrote_list run.list)) run.shape
+-- What a run comes to.
+module _ (s : List ℕ) where
+  pub outcome_masked : 0 ≡ refusal_of s → {xs xs' : List Interval} {count : ℕ} → Wrote (mask_of s) xs xs' count → {letters : ℕ}
+      → letters ≡ covered_in (take count xs') 0 (length s) → ◌≡◌ {A = Outcome} (record { refused = false; letters = letters }) (outcome_of s)
+  unfolding is_refused masked_letters
+  outcome_masked e wrote {letters} h =
+      rw (sym e) (ap (λ (n : ℕ). record { refused = false; letters = n }) (h ∙ ap (λ (is : List Interval). covered_in is 0 (length s)) (wrote_list wrote)))
 
-  letters_are : (n : ℕ) → covered_in (unless n (mask_of s)) 0 (length s) ≡ cond (not (eqb n 0)) 0 (masked_letters s)
-  unfolding masked_letters
-  letters_are zero = refl
-  letters_are (suc n) =
-      let e : eqb (suc n) 0 ≡ false = ne_eqb (suc n) 0 (λ (z : suc n ≡ 0). let b : ⊥ = omega arith in b) in
-      rw e (covered_none [] 0 (length s) (λ x _ _ c. c))
-
-  pub outcome_is : (letters : ℕ) → letters ≡ covered_in (take r.count xs') 0 (length s)
-      → ◌≡◌ {A = Outcome} (record { refused = not (eqb r.refusal 0); letters = letters }) (outcome_of s)
+  pub outcome_refused : (d : Refusal) → number d ≡ refusal_of s → ◌≡◌ {A = Outcome} (record { refused = true; letters = 0 }) (outcome_of s)
   unfolding is_refused
-  outcome_is letters e =
-      ap₂ (λ (b : Bool) (n : ℕ). record { refused = b; letters = n })
-      (ap (λ (n : ℕ). not (eqb n 0)) run.number)
-      (e ∙ ap (λ (is : List Interval). covered_in is 0 (length s)) (wrote_list run.list) ∙ letters_are (refusal_of s))
-
--- The laws by which `run_letters` is proved.
-pub ruleset runs = (list_usual, outcome_is)
+  outcome_refused d e = rw (sym e, ne_eqb (number d) 0 (λ (z : number d ≡ 0). omega (arith, number_positive d)))

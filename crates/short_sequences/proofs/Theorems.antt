@@ -5,6 +5,9 @@ use mathlib.Core.Bool.{Bool, true, false, not, ◌||◌, cond, true≢false}
 use mathlib.Core.Logic.{⊎_elim}
 use mathlib.Core.List.Memᴰ
 use mathlib.Core.List.{List, [], ◌∷◌, Memᴰ}
+use Rattle.std.specs.Prelude.{Result, Ok}
+use Rattle.checks.specs.declared.refusal.Refusal.{Refusal}
+use Rattle.checks.specs.Refusal.{number_of}
 use Prim.Native.Nat.{ℕ, zero, suc, ◌+◌, ◌^◌, ◌≤◌}
 use native.Mathlib.Omega.{arith}
 use lib.Dec.{ltb, eqb}
@@ -29,17 +32,17 @@ use Rattle.short_sequences.specs.Tallies.{short_options, lent, refusal_of, mask_
 use Rattle.short_sequences.proofs.Sequences.{sequences_count, nothing_else}
 
 -- The filling call on a short sequence: its refusal, and the intervals of its list.
-module _ (s : List ℕ) {b b' : Buffers} {r : Answer} (A : Answered Filled short_options s b b' r) where
-  pub same_refusal : lengths b ≡ lent → r.refusal ≡ refusal_of s
+module _ (s : List ℕ) {b b' : Buffers} where
+  pub same_refusal : {r : Result Answer Refusal} → Answered Filled short_options s b b' r → lengths b ≡ lent → number_of r ≡ refusal_of s
   unfolding refusal_of
-  same_refusal e = A.number ∙ ap (λ (l : Lent). refusal short_options s l) e
+  same_refusal A e = A.number ∙ ap (λ (l : Lent). refusal short_options s l) e
 
-  pub same_mask : r.refusal ≡ 0 → listed r b' ≡ mask_of s
+  pub same_mask : {a : Answer} → Answered Filled short_options s b b' (Ok a) → listed a b' ≡ mask_of s
   unfolding mask_of short_options
-  same_mask e =
-      let t = A.tables e in
+  same_mask A =
+      let t = A.tables in
       let D = density 1 short_options.gc (codes s) in
-      wrote_list (A.accepted e).buffers.list
+      wrote_list A.accepted.buffers.list
       ∙ ap₂
       (λ (ln f : List Float). mask short_options s ln f)
       (ap (λ (l : List Float). take 9 l) t.ln ∙ take_at (ln_table 8) _ 9 (ln_table_length 8))
@@ -78,7 +81,7 @@ sizes (suc (suc (suc (suc (suc (suc (suc (suc zero)))))))) h = refl
 sizes (suc (suc (suc (suc (suc (suc (suc (suc (suc n))))))))) h = absurd (let b : ⊥ = omega arith in b)
 
 pub refusal_is : (s : List ℕ) → OverFive s → length s ≤ 8 → refusal_of s ≡ cond (ltb (length s) 2) 3 0
-unfolding refusal_of refusal short_options defaults threshold_bad gc_bad xdrop_bad any_byte lt of_bits
+unfolding refusal_of short_options defaults threshold_bad gc_bad xdrop_bad any_byte lt of_bits
 refusal_is s o h = rw (none_passes is_high refl s o, none_passes is_other refl s o) (sizes (length s) h)
 
 count_all : (test : List ℕ → Bool) (b : Bool) (ss : List (List ℕ)) → ((s : List ℕ) → Memᴰ s ss → test s ≡ b)

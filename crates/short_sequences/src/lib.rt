@@ -3,16 +3,17 @@
 #![tactic(auto)]
 
 ghost use Rattle.std.specs.Prelude.{◌≡◌, [], ◌+◌, ◌^◌, ◌≤◌, ◌<◌, length, get_or, IfOk, OnOk, OnErr};
-ghost use Rattle.intervals.specs.Interval.{Canonical, covered_in};
+ghost use Rattle.intervals.specs.Interval.{Canonical, Wrote, covered_in};
 ghost use Rattle.short_sequences.specs.Sequences.{sequences_of};
-ghost use Rattle.short_sequences.specs.Tallies.{short_options, tallies_over, tallies_of, refused_of, refusal};
+ghost use Rattle.short_sequences.specs.Tallies.{short_options, refusal_of, mask_of, tallies_over, tallies_of, refused_of, refusal};
 ghost use Rattle.buffers.specs.Fill.{put};
 ghost use Rattle.checks.specs.Refusal.{number_of};
-ghost use Rattle.short_sequences.specs.Terms.Outcome.{letter_at, Filled, Short, Ran, outcome_of, counted, one_if_refused};
+ghost use Rattle.short_sequences.specs.Terms.Outcome.{letter_at, Filled, Short, outcome_of, counted, one_if_refused};
 
 use checks::{Refusal, below_sum};
-use intervals::Interval;
-use longdust::LongdustOptions;
+use intervals::{Interval, MarksOut};
+use longdust::{LongdustOptions, Tables};
+use mask::Workspace;
 use scans::ForwardPosition;
 use tables::GcOption;
 
@@ -30,13 +31,6 @@ const LIST_ROOM: usize = 4;
 pub struct Tallied {
     pub sequences: usize,
     pub refused: u32,
-}
-
-// What a run answers: the refusal number, 0 for an accepted sequence, and the interval count.
-#[derive(Clone, Copy)]
-pub struct Masked {
-    pub refusal: u32,
-    pub count: usize,
 }
 
 // What a run comes to: refused, or so many masked letters.
@@ -103,10 +97,18 @@ fn short_options() -> LongdustOptions
     }
 }
 
-// Masks the letters by filled tables, in work buffers of its own that have exactly the paper's sizes for 8 letters.
-pub fn mask_letters(letters: &[u8], ln: &[f64], f: &[f64], list: &mut [Interval]) -> Masked
-    requires { Short letters.now ln.now f.now list.old }
-    ensures { Ran letters.now list.old list.new result }
+/// Masks the letters by filled tables, in work buffers of its own that have exactly the paper's sizes for 8 letters.
+/// The intervals go to the front of the list; returns their number.
+pub fn mask_letters(
+    letters: &[u8],
+    tables: &Tables,
+    list: &mut [Interval],
+) -> Result<usize, Refusal>
+    requires { Short letters.now tables.now.ln.now tables.now.f.now list.old }
+    ensures refusal { number_of result ≡ refusal_of letters.now }
+    ensures list { IfOk result (Wrote (mask_of letters.now) list.old list.new) }
+    ensures shape { OnOk result (Canonical (length letters.now) 1 (mask_of letters.now)) }
+    ensures err { OnErr result (list.new ≡ list.old) }
 {
     let mut queue = [0u32; 8];
     let mut window_counts = [0u16; 4];
@@ -120,26 +122,24 @@ pub fn mask_letters(letters: &[u8], ln: &[f64], f: &[f64], list: &mut [Interval]
     let mut forward_list = [Interval { start: 0, end: 0 }; LIST_ROOM];
     let mut reverse_list = [Interval { start: 0, end: 0 }; LIST_ROOM];
     let mut marks = [0u8; LIST_ROOM];
-    let answer = longdust::process_tables(
-        letters,
-        short_options(),
-        ln,
-        f,
-        &mut queue,
-        &mut window_counts,
-        &mut scan_counts,
-        &mut candidates,
-        &mut codes,
-        &mut reverse_codes,
-        &mut forward_list,
-        &mut reverse_list,
+    let mut work = Workspace {
+        queue: &mut queue,
+        window_counts: &mut window_counts,
+        scan_counts: &mut scan_counts,
+        candidates: &mut candidates,
+        reverse_codes: &mut reverse_codes,
+        forward_list: &mut forward_list,
+        reverse_list: &mut reverse_list,
+    };
+    let mut out = MarksOut {
         list,
-        &mut marks,
-    );
-    Masked {
-        refusal: answer.refusal,
-        count: answer.count,
-    }
+        marks: &mut marks,
+    };
+    let options = short_options();
+    let answer = longdust::process_tables(
+        letters, options, tables, &mut codes, &mut work, &mut out,
+    )?;
+    Ok(answer.count)
 }
 
 // How many of n letters a mask covers.
@@ -155,18 +155,21 @@ fn count_letters(list: &[Interval], n: usize) -> usize
 }
 
 // What the run on the letters comes to.
-#[tactic(auto, using(crate::proofs::Runs::runs))]
-fn run_letters(letters: &[u8], ln: &[f64], f: &[f64]) -> Outcome
+fn run_letters(letters: &[u8], tables: &Tables) -> Outcome
     requires letters_len_bound { length letters.now ≤ 8 }
-    requires filled { Filled ln.now f.now }
+    requires filled { Filled tables.now.ln.now tables.now.f.now }
     ensures { result ≡ outcome_of letters.now }
 {
     let mut list = [Interval { start: 0, end: 0 }; LIST_ROOM];
-    let run = mask_letters(letters, ln, f, &mut list);
-    let count = run.count;
-    Outcome {
-        refused: run.refusal != 0,
-        letters: count_letters(&list[..count], letters.len()),
+    match mask_letters(letters, tables, &mut list) {
+        Ok(count) => Outcome {
+            refused: false,
+            letters: count_letters(&list[..count], letters.len()),
+        },
+        Err(_) => Outcome {
+            refused: true,
+            letters: 0,
+        },
     }
 }
 
@@ -187,34 +190,28 @@ fn count_outcome(outcome: Outcome, tallies: &mut [u32]) -> u32
 }
 
 // The run on the sequence of that index among all of its size, which is written to the slice.
-fn run_index(index: usize, letters: &mut [u8], ln: &[f64], f: &[f64]) -> Outcome
+fn run_index(index: usize, letters: &mut [u8], tables: &Tables) -> Outcome
     requires letters_len_bound { length letters.old ≤ 8 }
     requires index_bound { index < 5 ^ length letters.old }
-    requires filled { Filled ln.now f.now }
+    requires filled { Filled tables.now.ln.now tables.now.f.now }
     ensures { result ≡ outcome_of (get_or (sequences_of (length letters.old)) index []) }
 {
     write_letters(index, letters);
-    run_letters(letters, ln, f)
+    run_letters(letters, tables)
 }
 
 // Tallies every sequence of the slice's size, the tallies being zeros before; answers how many are refused.
-fn tally_all(
-    sequences: usize,
-    letters: &mut [u8],
-    ln: &[f64],
-    f: &[f64],
-    tallies: &mut [u32],
-) -> u32
+fn tally_all(sequences: usize, letters: &mut [u8], tables: &Tables, tallies: &mut [u32]) -> u32
     requires letters_len_bound { length letters.old ≤ 8 }
     requires sequences_value { sequences ≡ 5 ^ length letters.old }
-    requires filled { Filled ln.now f.now }
+    requires filled { Filled tables.now.ln.now tables.now.f.now }
     requires tallies_value { tallies.old ≡ tallies_over (length letters.old) [] }
     ensures value { result ≡ refused_of (length letters.old) }
     ensures tallies_after { tallies.new ≡ tallies_of (length letters.old) }
 {
     let mut refused = 0;
     for index in 0..sequences {
-        let outcome = run_index(index, letters, ln, f);
+        let outcome = run_index(index, letters, tables);
         refused += count_outcome(outcome, tallies);
     }
     refused
@@ -241,7 +238,8 @@ fn tally(m: usize, sequences: usize, tallies: &mut [u32]) -> u32
     let mut letters = [0u8; MOST_LETTERS];
     fill_tables(&mut ln, &mut f);
     tallies.fill(0);
-    tally_all(sequences, &mut letters[..m], &ln, &f, tallies)
+    let tables = Tables { ln: &ln, f: &f };
+    tally_all(sequences, &mut letters[..m], &tables, tallies)
 }
 
 // The first check that fails.

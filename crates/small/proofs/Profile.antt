@@ -77,7 +77,6 @@ module _ (o : LongdustOptions) (s : List ℕ) (room : ℕ) (e : refusal o s room
 
   -- The masking calls accept the request in the work space.
   call_accepts : call_refusal o s lent ≡ 0
-  unfolding call_refusal
   call_accepts =
       no_refusal
       (passed 0)

@@ -2,6 +2,10 @@
 use Prim.Native.Nat.{ℕ, ◌+◌, ◌*◌, ◌≤◌}
 use mathlib.Core.Path.{◌≡◌, ap, ap₂, subst, ◌∙◌}
 use mathlib.Core.List.{List}
+use Rattle.std.specs.Prelude.{Result, Ok, Err}
+use Rattle.checks.specs.declared.refusal.Refusal.{Refusal}
+use Rattle.checks.specs.Refusal.{number_of}
+use Rattle.checks.proofs.Refusing.{number_positive}
 use native.Mathlib.Omega.{arith}
 use lib.ListN.{length, take, replicate, length-take, length-replicate}
 use lib.Seq.{take_at}
@@ -32,40 +36,43 @@ use Rattle.small.specs.Terms.Run.{lent, Asked, Serve, Ran}
 use Rattle.small.proofs.Profile.{list_room_lem, output_room}
 
 -- The mask by the tables that the filling call fills, whatever its buffers are.
-module _ (o : LongdustOptions) (s : List ℕ) {b b' : Buffers} {r : Answer} (A : Answered Filled o s b b' r) where
-  mask_read : r.refusal ≡ 0 → mask o s (ln_read o b') (f_read o b') ≡ filled_mask o s
+module _ (o : LongdustOptions) (s : List ℕ) {b b' : Buffers} {a : Answer} (A : Answered Filled o s b b' (Ok a)) where
+  mask_read : mask o s (ln_read o b') (f_read o b') ≡ filled_mask o s
   unfolding filled_mask
-  mask_read h =
+  mask_read =
       let w = o.window_size in
       let D : Density = density o.kmer o.gc (codes s) in
-      let t = A.tables h in
+      let t = A.tables in
       ap₂
       (λ (ln f : List Float). mask o s ln f)
       (ap (λ (l : List Float). take (w + 1) l) t.ln ∙ take_at (ln_table w) _ (w + 1) (ln_table_length w))
       (ap (λ (l : List Float). take (w + 2) l) t.f ∙ take_at (f_table o.kmer w D) _ (w + 2) (f_table_length o.kmer w D))
 
-  pub mask_listed : r.refusal ≡ 0 → listed r b' ≡ filled_mask o s
-  mask_listed h = wrote_list (A.accepted h).buffers.list ∙ mask_read h
+  pub mask_listed : listed a b' ≡ filled_mask o s
+  mask_listed = wrote_list A.accepted.buffers.list ∙ mask_read
 
-  pub mask_counted : r.refusal ≡ 0 → r.count ≡ length (filled_mask o s)
-  mask_counted h = (A.accepted h).buffers.list.count_is ∙ ap length (mask_read h)
+  pub mask_counted : a.count ≡ length (filled_mask o s)
+  mask_counted = A.accepted.buffers.list.count_is ∙ ap length mask_read
 
--- The run in the work space, on tables that serve it.
-module _ {o : LongdustOptions} {s : List ℕ} (a : Asked o s) {b b' : Buffers} {r : Answer} (A : Answered Kept o s b b' r) (e : lengths b ≡ lent) (t : Serve o s b.ln b.f) where
-  accepts : r.refusal ≡ 0
-  accepts = A.number ∙ ap (λ (l : Lent). refusal o s l) e ∙ a.accepted
+-- The run in the work space, on tables that serve it, is not refused.
+module _ {o : LongdustOptions} {s : List ℕ} (q : Asked o s) {b b' : Buffers} (e : lengths b ≡ lent) where
+  accepts : {r : Result Answer Refusal} → Answered Kept o s b b' r → number_of r ≡ 0
+  accepts A = A.number ∙ ap (λ (l : Lent). refusal o s l) e ∙ q.accepted
 
-  mask_served : mask o s (ln_read o b') (f_read o b') ≡ filled_mask o s
-  mask_served =
-      let w = o.window_size in
-      let kept = A.tables accepts in
-      ap₂ (λ (ln f : List Float). mask o s (take (w + 1) ln) (take (w + 2) f)) kept.ln kept.f ∙ t.same_mask
+  never : {d : Refusal} → Answered Kept o s b b' (Err d) → ⊥
+  never {d} A = omega (arith, number_positive d, accepts A)
 
-  ran_lent : Ran o s b.list b'.list r.count
-  ran_lent =
-      let R = A.accepted accepts in
-      let list : Wrote (filled_mask o s) b.list b'.list r.count = rw mask_served at R.buffers.list in
-      record { list = list; shape = subst (λ (is : List Interval). Canonical (length s) o.kmer is) (wrote_list list) R.shape }
+  module _ {a : Answer} (A : Answered Kept o s b b' (Ok a)) (t : Serve o s b.ln b.f) where
+    mask_served : mask o s (ln_read o b') (f_read o b') ≡ filled_mask o s
+    mask_served =
+        let w = o.window_size in
+        let kept = A.tables in
+        ap₂ (λ (ln f : List Float). mask o s (take (w + 1) ln) (take (w + 2) f)) kept.ln kept.f ∙ t.same_mask
+
+    ran_lent : Ran o s b.list b'.list a.count
+    ran_lent =
+        let list : Wrote (filled_mask o s) b.list b'.list a.count = rw mask_served at A.accepted.buffers.list in
+        record { list = list; shape = subst (λ (is : List Interval). Canonical (length s) o.kmer is) (wrote_list list) A.accepted.shape }
 
 -- The work space before the run, whatever the tables, the candidates and the lists are.
 abbrev fresh : List Float → List Float → List ForwardPosition → List Interval → List Interval → List Interval → Buffers
@@ -84,10 +91,18 @@ fresh ln f candidates forward_list reverse_list list =
     list
     (replicate 2048 0)
 
-pub ran : (ln f : List Float) (cs : List ForwardPosition) (fl rl xs : List Interval) → length ln ≡ 4097 → length f ≡ 4098 → length cs ≡ 4096 → length fl ≡ 2048 → length rl ≡ 2048 → length xs ≡ 2048
-    → {o : LongdustOptions} {s : List ℕ} {b' : Buffers} {r : Answer} → Asked o s → Serve o s ln f → Answered Kept o s (fresh ln f cs fl rl xs) b' r
-    → Ran o s xs b'.list r.count
-ran ln f cs fl rl xs ll lf lc lfl lrl lx a t A = ran_lent a A (simp (length-replicate, ll, lf, lc, lfl, lrl, lx)) t
+module _ (ln f : List Float) (cs : List ForwardPosition) (fl rl xs : List Interval) (ll : length ln ≡ 4097) (lf : length f ≡ 4098) (lc : length cs ≡ 4096)
+    (lfl : length fl ≡ 2048) (lrl : length rl ≡ 2048) (lx : length xs ≡ 2048) where
+  fresh_lent : lengths (fresh ln f cs fl rl xs) ≡ lent
+  fresh_lent = simp (length-replicate, ll, lf, lc, lfl, lrl, lx)
+
+  module _ {o : LongdustOptions} {s : List ℕ} {b' : Buffers} (q : Asked o s) where
+    pub ran : Serve o s ln f → {a : Answer} {xs' : List Interval} → Answered Kept o s (fresh ln f cs fl rl xs) b' (Ok a) → b'.list ≡ xs'
+        → Ran o s xs xs' a.count
+    ran t {a} A h = subst (λ (z : List Interval). Ran o s xs z a.count) h (ran_lent q fresh_lent A t)
+
+    pub not_refused : {d : Refusal} → Answered Kept o s (fresh ln f cs fl rl xs) b' (Err d) → ⊥
+    not_refused A = never q fresh_lent A
 
 -- An accepted request of the profile: the list that the run leaves, and what is written of it.
 module _ {o : LongdustOptions} {s : List ℕ} {xs xs' : List Interval} {count : ℕ} (run : Ran o s xs xs' count) (room : ℕ) (e : small_refusal o s room ≡ 0) where

@@ -2,6 +2,7 @@
 use Prim.Native.Nat.{ℕ, zero, suc, ◌+◌, ◌*◌, ◌/◌, ◌%◌, ◌≤◌, ◌<◌}
 use mathlib.Core.Path.{◌≡◌, refl, sym, ap, subst, ◌∙◌}
 use mathlib.Core.List.{List}
+use Rattle.std.specs.Prelude.{Ok}
 use native.Mathlib.Nat.{div-add-mod', div-div-eq-div-mul, mod-eq_of_lt}
 use native.Mathlib.Omega.{arith}
 use lib.ListN.{length, get_or}
@@ -26,10 +27,10 @@ use Rattle.small.proofs.Runs.{mask_listed, mask_counted}
 
 -- An accepted request of the profile, and an accepted request of the filling call with the same options and sequence.
 pub as_the_filling_call : (o : LongdustOptions) (s d d' : List ℕ) {count : ℕ} {b b' : Buffers} {r : Answer}
-    → count ≡ length (filled_mask o s) → d' ≡ put (bytes_of (filled_mask o s)) d → Answered Filled o s b b' r → r.refusal ≡ 0
+    → count ≡ length (filled_mask o s) → d' ≡ put (bytes_of (filled_mask o s)) d → Answered Filled o s b b' (Ok r)
     → (count ≡ r.count) × (d' ≡ put (bytes_of (listed r b')) d)
-as_the_filling_call o s d d' counted written A h =
-    (counted ∙ sym (mask_counted o s A h), written ∙ ap (λ (is : List Interval). put (bytes_of is) d) (sym (mask_listed o s A h)))
+as_the_filling_call o s d d' counted written A =
+    (counted ∙ sym (mask_counted o s A), written ∙ ap (λ (is : List Interval). put (bytes_of is) d) (sym (mask_listed o s A)))
 
 -- At most 2,048 intervals are written.
 pub count_few : (o : LongdustOptions) (s : List ℕ) (room : ℕ) → refusal o s room ≡ 0 → length (filled_mask o s) ≤ 2048

@@ -15,8 +15,9 @@ ghost use Rattle.small.specs.Terms.Run.{Asked, FilledTo, Serve, Ran};
 mod quiet;
 
 use checks::{Refusal, check_sequence, min_start_below, threshold_bad};
-use intervals::Interval;
-use longdust::LongdustOptions;
+use intervals::{Interval, MarksOut};
+use longdust::{LongdustOptions, Tables};
+use mask::Workspace;
 use scans::ForwardPosition;
 use tables::GcOption;
 
@@ -165,23 +166,27 @@ pub fn mask_letters(letters: &[u8], options: LongdustOptions, list: &mut [Interv
     let mut reverse_list = [Interval { start: 0, end: 0 }; LIST_ROOM];
     let mut marks = [0u8; LIST_ROOM];
     fill_read(letters, options, &mut ln, &mut f);
-    let answer = longdust::process_tables(
-        letters,
-        options,
-        &ln,
-        &f,
-        &mut queue,
-        &mut window_counts,
-        &mut scan_counts,
-        &mut candidates,
-        &mut codes,
-        &mut reverse_codes,
-        &mut forward_list,
-        &mut reverse_list,
+    let tables = Tables { ln: &ln, f: &f };
+    let mut work = Workspace {
+        queue: &mut queue,
+        window_counts: &mut window_counts,
+        scan_counts: &mut scan_counts,
+        candidates: &mut candidates,
+        reverse_codes: &mut reverse_codes,
+        forward_list: &mut forward_list,
+        reverse_list: &mut reverse_list,
+    };
+    let mut out = MarksOut {
         list,
-        &mut marks,
+        marks: &mut marks,
+    };
+    let answer = longdust::process_tables(
+        letters, options, &tables, &mut codes, &mut work, &mut out,
     );
-    answer.count
+    match answer {
+        Ok(mask) => mask.count,
+        Err(_) => 0,
+    }
 }
 
 /// Writes the mask of the sequence to the front of `out`, each interval as its start and its end, four bytes each, lowest first.

@@ -1,24 +1,22 @@
 -- What a find makes of last_q and of the interval in hand, and the saving of that interval, as the code does it.
-use mathlib.Core.Path.{◌≡◌, refl, sym, ap, ap₂, ◌∙◌, subst}
-use mathlib.Core.Bool.{Bool, true, false}
+use mathlib.Core.Path.{◌≡◌, refl, ap, ap₂, ◌∙◌, subst}
+use mathlib.Core.Bool.{Bool, false}
 use mathlib.Core.List.{List}
-use Prim.Native.Nat.{ℕ, zero, suc, ◌+◌, ◌-◌, ◌<◌}
+use Prim.Native.Nat.{ℕ, zero, suc, ◌+◌, ◌-◌}
 use native.Mathlib.Omega.{arith}
 use lib.Dec.{T}
 use lib.IntN.{ℤ, pos, negsuc, nat_abs}
-use lib.Signed.{lt_z, non_neg}
-use mir.Syntax.{w32, w64}
-use mir.Val.{of_z, to_z, SFits, Fits}
+use lib.Signed.{lt_z}
+use mir.Syntax.{w64}
+use mir.Val.{of_z, to_z, SFits}
 use mir.Facts.{to_z-of_z, sfits_lit}
-use borrow.Author.Tests.{ltb-true}
 use Rattle.intervals.specs.declared.Interval.{Interval}
 use Rattle.intervals.specs.Save.{save}
 use Rattle.scans.specs.Scans.{at}
 use Rattle.scans.specs.Terms.Window.{find_of}
 use Rattle.step.specs.Step.{first_letter, start_after, save_from, saved_after}
-use Rattle.step.specs.declared.window.Window.{Window}
 use Rattle.step.specs.declared.hand.Open.{Open}
-use Rattle.step.specs.Terms.Finding.{last_q_by, Closing, Found}
+use Rattle.step.specs.Terms.Finding.{Closing, Found}
 use Rattle.intervals.proofs.Slice.{saved_list}
 
 -- ---- A number as a find.

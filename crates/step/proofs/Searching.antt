@@ -1,37 +1,32 @@
 -- What the newest entry leads to, as the code asks for it: whether extend is tried, the extension, the back check, the carried scan and the backward scan,
 -- against the definitions' `search`.
 use mathlib.Core.Path.{◌≡◌, refl, sym, ap, ◌∙◌, subst}
-use mathlib.Core.Bool.{Bool, true, false, cond, ◌&&◌, ◌||◌, true≢false}
+use mathlib.Core.Bool.{Bool, true, false, cond, ◌&&◌, true≢false}
 use mathlib.Core.List.{List, [], ◌∷◌, ◌++◌}
 use Prim.Native.Nat.{ℕ, zero, suc, ◌-◌, ◌/◌, ◌%◌, ◌^◌, ◌≤◌, ◌<◌}
 use native.Mathlib.Omega.{arith}
 use lib.ListN.{length, get_or, drop, replicate, length-drop}
 use lib.Seq.{drop-append-le}
 use lib.Dec.{leb, eqb}
-use lib.IntN.{ℤ, pos, ◌-ℤ◌}
-use lib.Signed.{le_z}
-use lib.Ieee.{Float, nan, lt}
+use lib.Ieee.{Float}
 use borrow.Author.Tests.{le-leb, leb-true, eqb-true, eqb-false}
-use Rattle.floats.specs.Arithmetic.{◌⊖◌, ◌⊗◌}
-use Rattle.floats.specs.Binary64.{zero64, number}
 use Rattle.letters.specs.Place.{Place, ambiguous, plain, Below}
 use Rattle.letters.specs.Terms.Entry.{decode, decoded}
 use Rattle.letters.proofs.Entries.{decode_plain, decode_ambiguous}
 use Rattle.intervals.specs.declared.Interval.{Interval}
 use Rattle.scans.specs.declared.Params.{Params}
-use Rattle.search.specs.declared.Carry.{Carry}
 use Rattle.search.specs.declared.Scanned.{Scanned}
 use Rattle.scans.specs.Setup.{Setup, kmers}
 use Rattle.scans.specs.Terms.Numbers.{setup_of}
 use Rattle.scans.specs.Counts.{count, raise}
 use Rattle.scans.specs.Scans.{Find, none, at, Outcome, extends, if_backward, dust_backward}
 use Rattle.scans.specs.Terms.Counted.{Touched}
-use Rattle.scans.specs.Terms.Window.{queue, window, find_of, Windowed, Extends}
-use Rattle.search.specs.Terms.Carry.{counts_left, Answers, CarriesOn}
+use Rattle.scans.specs.Terms.Window.{queue, window, find_of, Windowed}
+use Rattle.search.specs.Terms.Carry.{counts_left, Answers}
 use Rattle.scans.proofs.Counting.{count_le}
 use Rattle.scans.proofs.Windows.{long}
 use Rattle.scans.proofs.Touched.{touched_more}
-use Rattle.step.specs.Step.{Run, whole, is_at, window_score, extend_tried, search}
+use Rattle.step.specs.Step.{Run, whole, window_score, extend_tried, search}
 use Rattle.step.specs.declared.window.Window.{Window}
 use Rattle.step.specs.declared.state.State.{State}
 use Rattle.step.specs.declared.state.Look.{Look}
@@ -49,14 +44,6 @@ pub record Seeks (S : Setup) (q : List Place) (w : Window) (o : Outcome) (r : So
   pub counts_are : 0 < r.found → counts' ≡ o.counts
   pub known : KnownCounts S q (last_q_by r.window (find_of r.found)) counts'
   pub same : r.window ≡ rescanned w r.window.live r.window.carry
-
--- What the code hands on of end, last_q and start, it reads back from their bits.
-pub tried : (p : Params) (f : List Float) (a : State) {end last start : ℤ} {at_end at_zero past : Bool}
-    → end ≡ a.hand.end → last ≡ a.window.last_q → start ≡ a.hand.start
-    → at_end ≡ is_at end a.i → at_zero ≡ is_at last 0 → past ≡ le_z (pos a.window.len) (pos a.i -ℤ start)
-    → at_end && (lt zero64 (a.window.sum ⊖ get_or f a.window.len nan ⊖ number a.window.len ⊗ p.score_threshold) && (at_zero || past))
-    ≡ tried_by p f a
-tried p f a he hl hs x y z = rw (x, y, z, he, hl, hs)
 
 -- ---- The extension.
 -- In a window that holds, it is the definitions' extension.

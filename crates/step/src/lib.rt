@@ -6,8 +6,6 @@
 // | a turn of its loop up to the new entry | state: `State::enter`, with window: `Window::make_room` and `Window::join` |
 // | the tests before a search | state: `State::is_searched`, `State::look` |
 // | what follows a search | state: `State::passed`, `State::extended`, `State::answered` |
-//
-// window: `Window::certain` tells a search that a carried scan answers.
 
 #![tactic(auto)]
 

@@ -123,7 +123,7 @@ impl State {
         self
     }
 
-    // Letter i is settled: the window with the scan counts that the search left, and one past the index found, 0 for none.
+    // Letter i is settled: the window with the scan counts that the search left, and one past the index found, 0 for none, as `Scanned` has it.
     fn settled(mut self, setup: &Setup, window: Window, found: usize, list: &mut [Interval]) -> Self
         requires i_bound { (self.i < 2147483648) × (window.len < 65536) × (found ≤ window.len) × (setup.now.params.kmer ≤ 12) }
         requires saving { Saving self.hand list.old }

@@ -8,12 +8,10 @@ use native.Mathlib.Omega.{arith}
 use lib.ListN.{drop}
 use lib.Ieee.{Float}
 use Rattle.scans.specs.declared.Params.{Params}
-use Rattle.scans.specs.Terms.Numbers.{setup_of}
 use Rattle.scans.specs.Terms.Counted.{Counted, Touched}
 use Rattle.scans.specs.Terms.Window.{window}
 use Rattle.step.specs.Terms.KnownCounts.{Clearing}
 use Rattle.search.specs.declared.Scanned.{Scanned}
-use Rattle.search.specs.Terms.Carry.{Carried}
 use Rattle.step.specs.Step.{whole}
 use Rattle.step.specs.declared.window.Window.{Window}
 use Rattle.step.proofs.Moving.{older_long}

@@ -11,11 +11,9 @@ use Rattle.letters.specs.Place.{Place, places}
 use Rattle.letters.proofs.Places.{places_length, places_below}
 use Rattle.intervals.proofs.Order.{lt_or_le}
 use Rattle.scans.specs.Setup.{Setup, kmers}
-use Rattle.scans.specs.Counts.{cleared}
-use Rattle.scans.specs.Scans.{Find, Outcome}
+use Rattle.scans.specs.Scans.{Outcome}
 use Rattle.search.specs.declared.Scanned.{Scanned}
-use Rattle.scans.specs.Terms.Window.{find_of}
-use Rattle.search.specs.Terms.Carry.{counts_left, Answers}
+use Rattle.search.specs.Terms.Carry.{Answers}
 use Rattle.certificates.specs.Terms.Low.{LowBounds}
 use Rattle.scans.proofs.Counting.{below_take, below_drop}
 use Rattle.certificates.proofs.LowScan.{low_drop}

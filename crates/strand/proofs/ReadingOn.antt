@@ -1,8 +1,8 @@
 -- Reading on over letters that are not searched from: each leaves the interval in hand as it is, and is one step of the definition's run.
 use mathlib.Core.Path.{◌≡◌, refl, sym, ap, ◌∙◌, subst}
-use mathlib.Core.Bool.{true, false}
+use mathlib.Core.Bool.{false}
 use mathlib.Core.List.{List, [], ◌∷◌, ◌++◌}
-use Prim.Native.Nat.{ℕ, ◌+◌, ◌^◌, ◌≤◌, ◌<◌}
+use Prim.Native.Nat.{ℕ, ◌+◌, ◌≤◌, ◌<◌}
 use native.Mathlib.Numerals.{add-one}
 use native.Mathlib.Omega.{arith}
 use lib.ListN.{length, take}
@@ -20,10 +20,10 @@ use Rattle.step.specs.Step.{is_at, whole, step, run}
 use Rattle.step.specs.declared.hand.Open.{Open}
 use Rattle.step.specs.declared.state.State.{State}
 use Rattle.step.specs.Terms.KnownCounts.{sought}
-use Rattle.step.specs.Terms.Entering.{held, newest_of, Entered, Next, Enters}
+use Rattle.step.specs.Terms.Entering.{held, newest_of, Entered, Enters}
 use Rattle.step.specs.Terms.Searching.{is_searched}
 use Rattle.step.specs.Terms.Finding.{PassedOn}
-use Rattle.strand.specs.Terms.ReadingOn.{run_to, Read, Skims, Skimmed}
+use Rattle.strand.specs.Terms.ReadingOn.{run_to, Read, Skims}
 use Rattle.step.proofs.Moving.{window_below_lem}
 use Rattle.step.proofs.Searching.{look_unsearched, seeks_passed}
 use Rattle.step.proofs.Like.{ended}
@@ -51,10 +51,6 @@ module _ {p : Params} {ln f : List Float} {a a' : State} {ring window_counts cou
 
   passes_by : is_at a.hand.end (a.i + 1) ≡ false → (saved : List Interval) → Settled p ln f a a' ring window_counts counts saved counts' saved
   passes_by past saved = settles past n.windowed unfound (passed_find saved t)
-
-pub next : {p : Params} {codes : List ℕ} {ln f : List Float} {n_counts : ℕ} {a : State} {ring window_counts counts : List ℕ} → Read p codes ln f a ring window_counts counts
-    → p.kmer ≤ 12 → length codes < 2147483648 → n_counts ≡ 4 ^ p.kmer → a.i < length codes → Next p codes (length ln) a ring window_counts n_counts
-next v k n c l = record { kmer_small = k; letters_in = n; counts_is = c; i_in = l; kmer_is = v.kmer_is; windowed = v.windowed }
 
 pub small : {p : Params} {codes : List ℕ} {ln f : List Float} {a a' : State} {ring counts ring' window_counts' counts' : List ℕ}
     → Enters p codes ln f a a' ring counts ring' window_counts' counts' → p.kmer ≤ 12 → a'.kmer.value < 16777216

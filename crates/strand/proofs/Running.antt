@@ -4,7 +4,7 @@ use mathlib.Core.Bool.{false}
 use mathlib.Core.List.{List, []}
 use Prim.Native.Nat.{ℕ, ◌+◌, ◌/◌, ◌^◌, ◌≤◌, ◌<◌}
 use native.Mathlib.Omega.{arith}
-use lib.ListN.{length, take, replicate, length-replicate}
+use lib.ListN.{length, replicate, length-replicate}
 use lib.Seq.{take_all, length-take-le}
 use lib.IntN.{ℤ, pos, negsuc}
 use lib.Ieee.{Float}
@@ -33,7 +33,7 @@ use Rattle.step.specs.Terms.Entering.{held, newest_of, Entered, unread}
 use Rattle.step.specs.Terms.Searching.{Looks}
 use Rattle.step.specs.Terms.Finding.{Closing, saved_in, Saving, TakesFind, PassedOn, StartOk, ShapedList}
 use Rattle.strand.specs.Terms.ReadingOn.{run_to, Skims, Stops}
-use Rattle.strand.specs.Terms.Running.{PartLent, StrandLent, Finished, Before, ScanAnswer, Asking, Due, StrandList}
+use Rattle.strand.specs.Terms.Running.{StrandLent, Finished, Before, ScanAnswer, Asking, Due, StrandList}
 use Rattle.step.proofs.Shape.{ShapedAt, shaped_more, saved_room, begin_shaped, step_shaped}
 use Rattle.step.proofs.KnownCounts.{known_unread}
 use Rattle.step.proofs.Like.{ended, like_refl, like_window, like_start, like_end, like_saved}
@@ -62,12 +62,6 @@ saving {k} {i} {o} {list} n some small l long count_in h =
 -- ---- Cleared counts.
 pub cleared_is : {counts : List ℕ} {n m : ℕ} → n ≡ m → counts ≡ replicate n 0 → counts ≡ replicate m 0
 cleared_is e h = h ∙ ap (λ (n : ℕ). replicate n 0) e
-
--- What a part of the run asks of the slices, which are as long as they were.
-pub part_lent : {p : Params} {n n_ring n_window_counts n_counts n_candidates n_list n_counts' n_list' : ℕ}
-    → StrandLent p n n_ring n_window_counts n_counts n_candidates n_list → n_counts' ≡ 4 ^ p.kmer → n_list' ≡ n_list
-    → PartLent p n n_counts' n_list'
-part_lent l c e = rw (c ∙ sym l.part.counts_is, e) l.part
 
 -- ---- No letter yet.
 begun_is : (S : Setup) (ring counts : List ℕ) (list : List Interval) → counts ≡ cleared S → held unread ring counts (saved_in 0 list) ≡ begin S

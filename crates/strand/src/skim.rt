@@ -24,7 +24,7 @@ fn skim_as<const LIVE: bool>(
         scan_counts.old queue.new window_counts.new scan_counts.new }
 {
     let mut st = from;
-    // The letter is the state's own.
+    // A `while`, since the next letter stands in the state.
     while st.i < codes.len() {
         st = st.enter(setup, codes, queue, window_counts, scan_counts);
         if st.is_searched(setup, window_counts) {

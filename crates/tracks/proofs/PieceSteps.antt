@@ -39,3 +39,7 @@ module _ (ps : List Interval) (i : ℕ) where
     pub first_open : (x : ℕ) → x < (get_or ps i (interval 0 0)).end → 0 ≡ ended_first (drop i ps) x
     unfolding ended_first
     first_open x l = rw (list_next ps i h, lt-leb (get_or ps i (interval 0 0)).end x l)
+
+pub ruleset of_side = (side_none, side_before, side_within)
+
+pub ruleset of_ended = (first_none, first_ended, first_open)

@@ -15,19 +15,19 @@ use Rattle.intervals.proofs.Usual.{usual_agrees}
 use Rattle.tracks.specs.Tracks.{checks, refusal}
 use Rattle.tracks.specs.Terms.Sweep.{Ready}
 
-pub record Accepted (n : ℕ) (ours : List Interval) (ms : List ℕ) (theirs : List Interval) (xs : List Interval) (ys : List ℕ) : Type 0 where
+pub record Accepted (n : ℕ) (ours : List Interval) (ms : List ℕ) (theirs : List Interval) (list marks : ℕ) : Type 0 where
   pub few : n ≤ 2147483647
-  pub ready : Ready n ours ms theirs xs ys
+  pub ready : Ready n ours ms theirs list marks
 
-pub accepted : {n : ℕ} {ours : List Interval} {ms : List ℕ} {theirs : List Interval} {xs : List Interval} {ys : List ℕ}
-    → refusal n ours ms theirs (length xs) (length ys) ≡ 0 → Accepted n ours ms theirs xs ys
-accepted {n} {ours} {ms} {theirs} {xs} {ys} h =
+pub accepted : {n : ℕ} {ours : List Interval} {ms : List ℕ} {theirs : List Interval} {list marks : ℕ}
+    → refusal n ours ms theirs list marks ≡ 0 → Accepted n ours ms theirs list marks
+accepted {n} {ours} {ms} {theirs} {list} {marks} h =
     let o : ℕ = length ours in
     let t : ℕ = length theirs in
-    let p : (j : ℕ) → (get_or (checks n ours ms theirs (length xs) (length ys)) j (check 0 false)).fails ≡ false =
-    passes (checks n ours ms theirs (length xs) (length ys)) refl h in
-    let e = (or-eq-false-eq-eq-false-and-eq-false (ltb (length ms) o) (ltb (length xs) (o + t) || ltb (length ys) (o + t))).0 (p 3) in
-    let f = (or-eq-false-eq-eq-false-and-eq-false (ltb (length xs) (o + t)) (ltb (length ys) (o + t))).0 e.1 in
+    let p : (j : ℕ) → (get_or (checks n ours ms theirs list marks) j (check 0 false)).fails ≡ false =
+    passes (checks n ours ms theirs list marks) refl h in
+    let e = (or-eq-false-eq-eq-false-and-eq-false (ltb (length ms) o) (ltb list (o + t) || ltb marks (o + t))).0 (p 3) in
+    let f = (or-eq-false-eq-eq-false-and-eq-false (ltb list (o + t)) (ltb marks (o + t))).0 e.1 in
     record {
       few = ltb-false 2147483647 n (p 0);
       ready =
@@ -35,7 +35,7 @@ accepted {n} {ours} {ms} {theirs} {xs} {ys} h =
             ours_usual = (usual_agrees n ours).0 (not-false (usual n ours) (p 1));
             theirs_usual = (usual_agrees n theirs).0 (not-false (usual n theirs) (p 2));
             all_marked = ltb-false (length ms) o e.0;
-            room = ltb-false (length xs) (o + t) f.0;
-            marks_room = ltb-false (length ys) (o + t) f.1;
+            room = ltb-false list (o + t) f.0;
+            marks_room = ltb-false marks (o + t) f.1;
           };
     }

@@ -8,18 +8,20 @@ use native.Mathlib.Omega.{arith}
 use lib.Bits.{bit_or}
 use lib.ListN.{length, get_or, length-append, length-map}
 use Rattle.buffers.specs.Fill.{put, put_at}
-use Rattle.buffers.proofs.Put.{put_next}
+use Rattle.buffers.proofs.Put.{put_at_length, put_next}
 use Rattle.intervals.specs.declared.Interval.{Interval}
 use Rattle.intervals.specs.Interval.{interval, Wrote}
 use Rattle.intervals.specs.Terms.Bounds.{EndsBelow}
 use Rattle.intervals.specs.Merge.{nonempty}
+use Rattle.intervals.specs.Out.{SameOut}
+use Rattle.intervals.specs.declared.output.MarksOut.{MarksOut}
 use Rattle.intervals.proofs.Joining.{nonempty_some, nonempty_none}
 use Rattle.intervals.proofs.Order.{lt_or_le}
 use Rattle.intervals.proofs.Slice.{wrote_next}
 use Rattle.tracks.specs.Stretches.{stretches}
-use Rattle.tracks.specs.Tracks.{wanted, wanted_at, joined, marks_for}
+use Rattle.tracks.specs.Tracks.{wanted, wanted_at, joined, joined_marks, marks_for}
 use Rattle.intervals.specs.Terms.Leading.{ended}
-use Rattle.tracks.specs.Terms.Sweep.{sweep, piece_at, Ready, Swept}
+use Rattle.tracks.specs.Terms.Sweep.{sweep, piece_at, Ready}
 use Rattle.tracks.specs.declared.Joined.{Joined}
 use Rattle.tracks.specs.declared.Sweep.{Sweep}
 use Rattle.tracks.specs.declared.Piece.{Piece}
@@ -31,7 +33,7 @@ use Rattle.tracks.proofs.Pieces.{Cut, cut}
 
 -- Up to where the sweep stands the list is some intervals that are written and one, [s, e) with the marks m, that may grow.
 pub record Sweeping (kind : Joined) (n : ℕ) (ours : List Interval) (ms : List ℕ) (theirs : List Interval)
-    (xs xs' : List Interval) (ys ys' : List ℕ) (w : Sweep) (s e m c : ℕ) : Type 0 where
+    (out out' : MarksOut) (w : Sweep) (s e m c : ℕ) : Type 0 where
   pub done : List Interval
   pub within : w.at ≤ n
   pub ours_ended : w.ours ≡ ended ours w.at
@@ -41,14 +43,15 @@ pub record Sweeping (kind : Joined) (n : ℕ) (ours : List Interval) (ms : List 
   pub apart : EndsBelow s done
   pub so_far : done ++ nonempty s e ≡ stretches (wanted_at kind ours theirs) w.at
   pub marks_so_far : m ≡ marks_for ours ms (interval s e)
-  pub long : length xs' ≡ length xs
-  pub marks_long : length ys' ≡ length ys
-  pub wrote : Wrote done xs xs' c
-  pub wrote_marks : ys' ≡ put (map (marks_for ours ms) done) ys
+  pub long : length out'.list.now ≡ length out.list.now
+  pub marks_long : length out'.marks.now ≡ length out.marks.now
+  pub wrote : Wrote done out.list.now out'.list.now c
+  pub wrote_marks : out'.marks.now ≡ put (map (marks_for ours ms) done) out.marks.now
+  pub same : SameOut out out'
 
 pub sweeping_start : {kind : Joined} {n : ℕ} {ours : List Interval} {ms : List ℕ} {theirs : List Interval}
-    {xs : List Interval} {ys : List ℕ} → Ready n ours ms theirs xs ys
-    → Sweeping kind n ours ms theirs xs xs ys ys (sweep 0 0 0) 0 0 0 0
+    {out : MarksOut} → Ready n ours ms theirs (length out.list.now) (length out.marks.now)
+    → Sweeping kind n ours ms theirs out out (sweep 0 0 0) 0 0 0 0
 unfolding stretches nonempty
 sweeping_start {kind} {n} {ours} {ms} {theirs} r =
     record {
@@ -65,6 +68,7 @@ sweeping_start {kind} {n} {ours} {ms} {theirs} r =
       marks_long = refl;
       wrote = record { list_is = refl; count_is = refl };
       wrote_marks = refl;
+      same = record { list = refl; marks = refl };
     }
 
 ends_append : (s e x : ℕ) (is : List Interval) → s ≤ x → e < x → EndsBelow s is → EndsBelow x (is ++ nonempty s e)
@@ -76,8 +80,8 @@ map_nonempty : (f : Interval → ℕ) (m s e : ℕ) → m ≡ f (interval s e) �
 map_nonempty f m s e q =
     ⊎_elim (λ lt. rw (nonempty_some s e lt) (ap (λ (v : ℕ). v ∷ []) q)) (λ ge. rw (nonempty_none s e ge)) (lt_or_le s e)
 
-module _ {kind : Joined} {n : ℕ} {ours : List Interval} {ms : List ℕ} {theirs : List Interval} {xs xs' : List Interval} {ys ys' : List ℕ}
-    {w : Sweep} {s e m c : ℕ} (v : Sweeping kind n ours ms theirs xs xs' ys ys' w s e m c) (r : Ready n ours ms theirs xs ys) where
+module _ {kind : Joined} {n : ℕ} {ours : List Interval} {ms : List ℕ} {theirs : List Interval} {out out' : MarksOut}
+    {w : Sweep} {s e m c : ℕ} (v : Sweeping kind n ours ms theirs out out' w s e m c) (r : Ready n ours ms theirs (length out.list.now) (length out.marks.now)) where
   abbrev f : ℕ → Bool
   f = wanted_at kind ours theirs
 
@@ -89,37 +93,41 @@ module _ {kind : Joined} {n : ℕ} {ours : List Interval} {ms : List ℕ} {their
       let l = simp length-append at (ap length v.so_far) in
       omega (arith, joined_room kind w.at ours theirs)
 
-  pub sweeping_room : c + length (nonempty s e) ≤ length xs'
+  pub sweeping_room : c + length (nonempty s e) ≤ length out'.list.now
   sweeping_room = omega (arith, fits, r.room, v.long)
 
-  pub sweeping_marks_room : c + length (nonempty s e) ≤ length ys'
+  pub sweeping_marks_room : c + length (nonempty s e) ≤ length out'.marks.now
   sweeping_marks_room = omega (arith, fits, r.marks_room, v.marks_long)
 
   -- It is written.
-  module _ {xs'' : List Interval} {ys'' : List ℕ} {c' : ℕ} (p : xs'' ≡ put_at c (nonempty s e) xs')
-      (q : ys'' ≡ put_at c (map (λ (_ : Interval). m) (nonempty s e)) ys') (t : c' ≡ c + length (nonempty s e)) where
-    written : Wrote (v.done ++ nonempty s e) xs xs'' c'
+  module _ {xs'' : List Interval} {ys'' : List ℕ} {c' : ℕ} (p : xs'' ≡ put_at c (nonempty s e) out'.list.now)
+      (q : ys'' ≡ put_at c (map (λ (_ : Interval). m) (nonempty s e)) out'.marks.now) (t : c' ≡ c + length (nonempty s e)) where
+    written : Wrote (v.done ++ nonempty s e) out.list.now xs'' c'
     written = wrote_next (nonempty s e) v.wrote p t
 
-    written_marks : ys'' ≡ put (map (marks_for ours ms) (v.done ++ nonempty s e)) ys
+    written_marks : ys'' ≡ put (map (marks_for ours ms) (v.done ++ nonempty s e)) out.marks.now
     written_marks =
         q
         ∙ ap₂ (λ (k : ℕ) (l : List ℕ). put_at k (map (λ (_ : Interval). m) (nonempty s e)) l)
         (v.wrote.count_is ∙ sym (length-map v.done (marks_for ours ms))) v.wrote_marks
-        ∙ put_next (map (marks_for ours ms) v.done) (map (λ (_ : Interval). m) (nonempty s e)) ys
-        ∙ ap (λ (l : List ℕ). put l ys)
+        ∙ put_next (map (marks_for ours ms) v.done) (map (λ (_ : Interval). m) (nonempty s e)) out.marks.now
+        ∙ ap (λ (l : List ℕ). put l out.marks.now)
         (ap (λ (l : List ℕ). map (marks_for ours ms) v.done ++ l) (map_nonempty (marks_for ours ms) m s e v.marks_so_far)
         ∙ sym (map-append (marks_for ours ms) v.done (nonempty s e)))
 
-    pub sweeping_end : n ≤ w.at → Swept kind n ours ms theirs xs xs'' ys ys'' c'
-    unfolding joined
-    sweeping_end h =
-        let z : w.at ≡ n = omega (arith, v.within) in
-        let l : v.done ++ nonempty s e ≡ stretches f n = v.so_far ∙ ap (λ (x : ℕ). stretches f x) z in
-        record {
-          list_is = rw l at written;
-          marks_are = written_marks ∙ ap (λ (is : List Interval). put (map (marks_for ours ms) is) ys) l;
-        }
+    module _ (h : n ≤ w.at) where
+      all : v.done ++ nonempty s e ≡ joined kind n ours theirs
+      unfolding joined
+      all = v.so_far ∙ ap (λ (x : ℕ). stretches f x) (let z : w.at ≡ n = omega (arith, v.within) in z)
+
+      pub joined_list : xs'' ≡ put (joined kind n ours theirs) out.list.now
+      joined_list = written.list_is ∙ ap (λ (is : List Interval). put is out.list.now) all
+
+      pub joined_marks_are : ys'' ≡ put (joined_marks kind n ours ms theirs) out.marks.now
+      joined_marks_are = written_marks ∙ ap (λ (is : List Interval). put (map (marks_for ours ms) is) out.marks.now) all
+
+      pub joined_count : c' ≡ length (joined kind n ours theirs)
+      joined_count = written.count_is ∙ ap (λ (is : List Interval). length is) all
 
   module _ {p : Piece} (h : w.at < n) (q : p ≡ piece_at n ours theirs w) where
     piece : Cut n ours ms theirs w.at p
@@ -137,7 +145,7 @@ module _ {kind : Joined} {n : ℕ} {ours : List Interval} {ms : List ℕ} {their
     piece_marks : {m' : ℕ} → m' ≡ cond p.ours (get_or ms w.ours 0 % 4) 0 → m' ≡ marks_for ours ms (interval w.at p.next.at)
     piece_marks g = g ∙ ap (λ (k : ℕ). cond p.ours (get_or ms k 0 % 4) 0) v.ours_ended ∙ sym piece.marks
 
-    pub sweeping_pass : wanted kind p.ours p.theirs ≡ false → Sweeping kind n ours ms theirs xs xs' ys ys' p.next s e m c
+    pub sweeping_pass : wanted kind p.ours p.theirs ≡ false → Sweeping kind n ours ms theirs out out' p.next s e m c
     sweeping_pass g =
         record {
           done = v.done;
@@ -153,10 +161,11 @@ module _ {kind : Joined} {n : ℕ} {ours : List Interval} {ms : List ℕ} {their
           marks_long = v.marks_long;
           wrote = v.wrote;
           wrote_marks = v.wrote_marks;
+          same = v.same;
         }
 
     pub sweeping_grow : {m' : ℕ} → wanted kind p.ours p.theirs ≡ true → m' ≡ cond p.ours (get_or ms w.ours 0 % 4) 0
-        → w.at ≤ e → Sweeping kind n ours ms theirs xs xs' ys ys' p.next s p.next.at (bit_or m m') c
+        → w.at ≤ e → Sweeping kind n ours ms theirs out out' p.next s p.next.at (bit_or m m') c
     sweeping_grow {m'} g u l =
         let z : e ≡ w.at = omega (arith, v.grown) in
         let b : s ≤ w.at = omega (arith, v.begun, v.grown) in
@@ -178,14 +187,14 @@ module _ {kind : Joined} {n : ℕ} {ours : List Interval} {ms : List ℕ} {their
           marks_long = v.marks_long;
           wrote = v.wrote;
           wrote_marks = v.wrote_marks;
+          same = v.same;
         }
 
-    pub sweeping_gap : {m' c' : ℕ} {xs'' : List Interval} {ys'' : List ℕ} → wanted kind p.ours p.theirs ≡ true
-        → m' ≡ cond p.ours (get_or ms w.ours 0 % 4) 0 → e < w.at → xs'' ≡ put_at c (nonempty s e) xs'
-        → ys'' ≡ put_at c (map (λ (_ : Interval). m) (nonempty s e)) ys' → c' ≡ c + length (nonempty s e)
-        → length xs'' ≡ length xs' → length ys'' ≡ length ys'
-        → Sweeping kind n ours ms theirs xs xs'' ys ys'' p.next w.at p.next.at m' c'
-    sweeping_gap {m'} g u l a b t k k' =
+    pub sweeping_gap : {m' c' : ℕ} (out'' : MarksOut) → wanted kind p.ours p.theirs ≡ true
+        → m' ≡ cond p.ours (get_or ms w.ours 0 % 4) 0 → e < w.at → out''.list.now ≡ put_at c (nonempty s e) out'.list.now
+        → out''.marks.now ≡ put_at c (map (λ (_ : Interval). m) (nonempty s e)) out'.marks.now → c' ≡ c + length (nonempty s e)
+        → SameOut out' out'' → Sweeping kind n ours ms theirs out out'' p.next w.at p.next.at m' c'
+    sweeping_gap {m'} out'' g u l a b t k =
         let ends = ends_append s e w.at v.done (omega (arith, v.begun)) l v.apart in
         record {
           done = v.done ++ nonempty s e;
@@ -200,8 +209,13 @@ module _ {kind : Joined} {n : ℕ} {ours : List Interval} {ms : List ℕ} {their
               (ap (λ (is : List Interval). (v.done ++ nonempty s e) ++ is) (nonempty_none w.at w.at (omega arith))
               ∙ append-nil (v.done ++ nonempty s e) ∙ v.so_far) (alike g);
           marks_so_far = piece_marks u;
-          long = k ∙ v.long;
-          marks_long = k' ∙ v.marks_long;
+          long = ap (λ (is : List Interval). length is) a ∙ put_at_length c (nonempty s e) out'.list.now sweeping_room ∙ v.long;
+          marks_long =
+              ap (λ (l : List ℕ). length l) b
+              ∙ put_at_length c (map (λ (_ : Interval). m) (nonempty s e)) out'.marks.now
+              (omega (arith, sweeping_marks_room, length-map (nonempty s e) (λ (_ : Interval). m)))
+              ∙ v.marks_long;
           wrote = written a b t;
           wrote_marks = written_marks a b t;
+          same = record { list = k.list ∙ v.same.list; marks = k.marks ∙ v.same.marks };
         }

@@ -3,14 +3,14 @@
 #![tactic(auto)]
 
 ghost use Rattle.std.specs.Prelude.{◌≡◌, true, cond, map, ◌+◌, ◌%◌, ◌≤◌, ◌<◌, length, drop, get_or, OnOk, OnErr, IfOk};
-ghost use Rattle.buffers.specs.Fill.{put, put_at};
-ghost use Rattle.intervals.specs.Merge.{nonempty};
+ghost use Rattle.buffers.specs.Fill.{put};
+ghost use Rattle.intervals.specs.Out.{SameOut};
 ghost use Rattle.checks.specs.Refusal.{number_of};
 ghost use Rattle.tracks.specs.Tracks.{wanted, joined, joined_marks, too_short_of, refusal};
-ghost use Rattle.tracks.specs.Terms.Sweep.{side_of, ended_first, piece_at, Ready, Swept};
+ghost use Rattle.tracks.specs.Terms.Sweep.{side_of, ended_first, piece_at, Ready};
 
 use checks::{Refusal, below_sum, too_many_letters};
-use intervals::{Interval, is_usual};
+use intervals::{Interval, MarksOut, is_usual};
 
 // The letters that are wanted: in either list, in both, in ours and outside theirs.
 #[derive(Clone, Copy)]
@@ -18,6 +18,13 @@ pub enum Joined {
     Either,
     Both,
     Outside,
+}
+
+/// A list with a byte of marks for each interval.
+#[derive(Clone, Copy)]
+pub struct Track<'a> {
+    pub list: &'a [Interval],
+    pub marks: &'a [u8],
 }
 
 fn wanted(kind: Joined, ours: bool, theirs: bool) -> bool
@@ -38,6 +45,7 @@ struct Side {
 }
 
 // Of n letters; the first i intervals end at `at` or before it.
+#[tactic(auto, using(crate::proofs::PieceSteps::of_side))]
 fn side_at(list: &[Interval], i: usize, at: u32, n: u32) -> Side
     ensures { result ≡ side_of n (drop i list.now) at }
 {
@@ -61,6 +69,7 @@ fn side_at(list: &[Interval], i: usize, at: u32, n: u32) -> Side
 }
 
 // How many intervals end at `at` or before it, where the first i do, and at most one more.
+#[tactic(auto, using(crate::proofs::PieceSteps::of_ended))]
 fn ended(list: &[Interval], i: usize, at: u32) -> usize
     ensures { result ≡ i + ended_first (drop i list.now) at }
 {
@@ -122,42 +131,13 @@ fn marks_at(marks: &[u8], i: usize, covers: bool) -> u8
     0
 }
 
-// Puts [start, end) and its marks after the first `count` entries if it has a letter, and answers how many there are then.
-fn push(
-    list: &mut [Interval],
-    list_marks: &mut [u8],
-    count: usize,
-    start: u32,
-    end: u32,
-    marks: u8,
-) -> usize
-    requires end_in_bounds { count + length (nonempty start end) ≤ length list.old }
-    requires end_in_bounds_2 { count + length (nonempty start end) ≤ length list_marks.old }
-    ensures { (list.new ≡ put_at count (nonempty start end) list.old)
-        × (list_marks.new ≡ put_at count (map (λ _. marks) (nonempty start end)) list_marks.old)
-        × (result ≡ count + length (nonempty start end)) }
-{
-    if start < end {
-        list[count] = Interval { start, end };
-        list_marks[count] = marks;
-        return count + 1;
-    }
-    count
-}
-
-// Joins two lists of the usual kind in n letters, with our marks, and answers how many intervals there are then.
-fn join_lists(
-    kind: Joined,
-    n: u32,
-    ours: &[Interval],
-    marks: &[u8],
-    theirs: &[Interval],
-    list: &mut [Interval],
-    list_marks: &mut [u8],
-) -> usize
-    requires { Ready n ours.now marks.now theirs.now list.old list_marks.old }
-    ensures { Swept kind n ours.now marks.now theirs.now
-        list.old list.new list_marks.old list_marks.new result }
+// Joins our list and theirs, of the usual kind in n letters, with our marks, and returns how many intervals there are then.
+fn join_lists(kind: Joined, n: u32, ours: &Track, theirs: &[Interval], out: &mut MarksOut) -> usize
+    requires { Ready n ours.now.list.now ours.now.marks.now theirs.now (length out.old.list.now) (length out.old.marks.now) }
+    ensures list { out.new.list.now ≡ put (joined kind n ours.now.list.now theirs.now) out.old.list.now }
+    ensures marks { out.new.marks.now ≡ put (joined_marks kind n ours.now.list.now ours.now.marks.now theirs.now) out.old.marks.now }
+    ensures count { result ≡ length (joined kind n ours.now.list.now theirs.now) }
+    ensures same { SameOut out.old out.new }
 {
     let mut sweep = Sweep {
         at: 0,
@@ -168,26 +148,26 @@ fn join_lists(
     let mut end = 0;
     let mut seen: u8 = 0;
     let mut count = 0;
+    // The sweep moves from piece to piece, so no range counts its turns.
     while sweep.at < n {
         let at = sweep.at;
         let i = sweep.ours;
-        let piece = next_piece(ours, theirs, n, sweep);
-        let next = piece.next;
-        sweep = next;
+        let piece = next_piece(ours.list, theirs, n, sweep);
+        sweep = piece.next;
         if wanted(kind, piece.ours, piece.theirs) {
-            let m = marks_at(marks, i, piece.ours);
+            let m = marks_at(ours.marks, i, piece.ours);
             if at <= end {
                 end = sweep.at;
                 seen |= m;
             } else {
-                count = push(list, list_marks, count, start, end, seen);
+                count = out.push(count, Interval { start, end }, seen);
                 start = at;
                 end = sweep.at;
                 seen = m;
             }
         }
     }
-    push(list, list_marks, count, start, end, seen)
+    out.push(count, Interval { start, end }, seen)
 }
 
 // Whether our marks are fewer than our intervals, or a lent slice has fewer entries than both lists together.
@@ -200,47 +180,53 @@ fn too_short(ours: usize, marks: usize, theirs: usize, list: usize, list_marks: 
 // The first check that fails.
 fn check(
     n: usize,
-    ours: &[Interval],
-    marks: &[u8],
+    ours: &Track,
     theirs: &[Interval],
     list: usize,
     list_marks: usize,
 ) -> Result<(), Refusal>
-    ensures { number_of result ≡ refusal n ours.now marks.now theirs.now list list_marks }
+    ensures { number_of result ≡ refusal n ours.now.list.now ours.now.marks.now theirs.now list list_marks }
 {
     if too_many_letters(n) {
         return Err(Refusal::TooManyLetters);
     }
-    if !is_usual(ours, n) {
+    if !is_usual(ours.list, n) {
         return Err(Refusal::UnusualList);
     }
     if !is_usual(theirs, n) {
         return Err(Refusal::UnusualList);
     }
-    if too_short(ours.len(), marks.len(), theirs.len(), list, list_marks) {
+    if too_short(
+        ours.list.len(),
+        ours.marks.len(),
+        theirs.len(),
+        list,
+        list_marks,
+    ) {
         return Err(Refusal::ShortSlice);
     }
     Ok(())
 }
 
-/// Joins our list, with a byte of marks for each interval, and theirs, both in n letters: the list of the wanted letters, and its marks beside it.
+/// Joins our track and their list, both in n letters: the list of the wanted letters, and its marks beside it.
 /// Returns the number of intervals.
 pub fn join_tracks(
     kind: Joined,
     n: usize,
-    ours: &[Interval],
-    marks: &[u8],
+    ours: &Track,
     theirs: &[Interval],
-    list: &mut [Interval],
-    list_marks: &mut [u8],
+    out: &mut MarksOut,
 ) -> Result<usize, Refusal>
-    ensures count { IfOk result (λ count. count ≡ length (joined kind n ours.now theirs.now)) }
-    ensures room { IfOk result (λ count. count ≤ length list.old) }
-    ensures list { OnOk result (list.new ≡ put (joined kind n ours.now theirs.now) list.old) }
-    ensures marks { OnOk result (list_marks.new ≡ put (joined_marks kind n ours.now marks.now theirs.now) list_marks.old) }
-    ensures refusal { number_of result ≡ refusal n ours.now marks.now theirs.now (length list.old) (length list_marks.old) }
-    ensures err { OnErr result ((list.new ≡ list.old) × (list_marks.new ≡ list_marks.old)) }
+    ensures count { IfOk result (λ count. count ≡ length (joined kind n ours.now.list.now theirs.now)) }
+    ensures room { IfOk result (λ count. count ≤ length out.old.list.now) }
+    ensures list { OnOk result (out.new.list.now ≡ put (joined kind n ours.now.list.now theirs.now) out.old.list.now) }
+    ensures marks { OnOk result
+        (out.new.marks.now ≡ put (joined_marks kind n ours.now.list.now ours.now.marks.now theirs.now) out.old.marks.now) }
+    ensures refusal { number_of result
+        ≡ refusal n ours.now.list.now ours.now.marks.now theirs.now (length out.old.list.now) (length out.old.marks.now) }
+    ensures err { OnErr result ((out.new.list.now ≡ out.old.list.now) × (out.new.marks.now ≡ out.old.marks.now)) }
+    ensures same { SameOut out.old out.new }
 {
-    check(n, ours, marks, theirs, list.len(), list_marks.len())?;
-    Ok(join_lists(kind, n as u32, ours, marks, theirs, list, list_marks))
+    check(n, ours, theirs, out.list.len(), out.marks.len())?;
+    Ok(join_lists(kind, n as u32, ours, theirs, out))
 }

@@ -13,13 +13,6 @@ use Rattle.longdust.specs.Mask.{setup}
 use Rattle.longdust.specs.Buffers.{Buffers}
 use Rattle.longdust.specs.Call.{Accepted}
 
--- ---- Answers.
-abbrev pub refused : ℕ → Answer
-refused number = record { refusal = number; count = 0; in_range = false }
-
-abbrev pub accepted : ℕ → Bool → Answer
-accepted count flag = record { refusal = 0; count = count; in_range = flag }
-
 -- ---- A request that no check refuses.
 pub record Bounds (o : LongdustOptions) : Type 0 where
   pub kmer_low : 1 ≤ o.kmer
@@ -59,5 +52,4 @@ pub record Prepared (o : LongdustOptions) (ln f : List Float) (p : Params) : Typ
 
 -- The run on the codes cs of an accepted request.
 pub record Ran (o : LongdustOptions) (cs : List ℕ) (b b' : Buffers) (r : Answer) : Type 0 where
-  pub number : r.refusal ≡ 0
   pub accepted : (sequence : List ℕ) → cs ≡ codes sequence → Accepted o sequence b b' r

@@ -1,13 +1,14 @@
 -- Terms of contracts: the lists of both strands, and what is lent for them.
-use Rattle.std.specs.Prelude.{◌≡◌, Bool, cond, List, [], ℕ, ◌+◌, ◌/◌, ◌≤◌, length, take}
+use Rattle.std.specs.Prelude.{◌≡◌, Bool, cond, List, [], ℕ, ◌+◌, ◌/◌, ◌^◌, ◌≤◌, ◌<◌, length, take}
+use Rattle.buffers.specs.Free.{Free}
 use Rattle.letters.specs.Code.{reverse_complement}
 use Rattle.intervals.specs.declared.Interval.{Interval}
+use Rattle.intervals.specs.declared.output.MarksOut.{MarksOut}
 use Rattle.intervals.specs.Terms.Bounds.{Inside}
 use Rattle.intervals.specs.Merge.{merge, backwards}
 use Rattle.scans.specs.declared.Params.{Params}
 use Rattle.scans.specs.Setup.{Setup}
 use Rattle.step.specs.Step.{intervals_of}
-use Rattle.strand.specs.Terms.Running.{StrandLent}
 use Rattle.mask.specs.declared.Workspace.{Workspace}
 
 -- The first count entries of a slice hold the list.
@@ -20,38 +21,48 @@ abbrev pub other_intervals : Setup → Bool → List ℕ → List Interval
 other_intervals S forward_only s = cond forward_only [] (intervals_of S (reverse_complement s))
 
 -- ---- What is lent.
--- The same buffers, as long as they were.
-pub record SameBuffers (old new : Workspace) : Type 0 where
-  pub queue : new.queue.ghost_name ≡ old.queue.ghost_name
-  pub window_counts : new.window_counts.ghost_name ≡ old.window_counts.ghost_name
-  pub scan_counts : new.scan_counts.ghost_name ≡ old.scan_counts.ghost_name
-  pub candidates : new.candidates.ghost_name ≡ old.candidates.ghost_name
-  pub reverse_codes : new.reverse_codes.ghost_name ≡ old.reverse_codes.ghost_name
-  pub forward_list : new.forward_list.ghost_name ≡ old.forward_list.ghost_name
-  pub reverse_list : new.reverse_list.ghost_name ≡ old.reverse_list.ghost_name
-  pub queue_length : length new.queue.now ≡ length old.queue.now
-  pub window_counts_length : length new.window_counts.now ≡ length old.window_counts.now
-  pub scan_counts_length : length new.scan_counts.now ≡ length old.scan_counts.now
-  pub candidates_length : length new.candidates.now ≡ length old.candidates.now
-  pub reverse_codes_length : length new.reverse_codes.now ≡ length old.reverse_codes.now
-  pub forward_list_length : length new.forward_list.now ≡ length old.forward_list.now
-  pub reverse_list_length : length new.reverse_list.now ≡ length old.reverse_list.now
+-- What a run over n letters asks of p's numbers.
+pub record Runs (p : Params) (n : ℕ) : Type 0 where
+  pub kmer_some : 0 < p.kmer
+  pub kmer_small : p.kmer ≤ 12
+  pub letters_in : n < 2147483648
+  pub wide : 1 < p.window_size
+  pub small : p.window_size ≤ 65535
 
--- A strand's run, at p's numbers and n letters.
-abbrev pub ForwardLent : Params → ℕ → Workspace → Type 0
-ForwardLent p n w = StrandLent p n (length w.queue.now) (length w.window_counts.now) (length w.scan_counts.now) (length w.candidates.now) (length w.forward_list.now)
-
--- The other strand's run.
-pub record ReverseLent (p : Params) (n : ℕ) (w : Workspace) : Type 0 where
-  pub lent : StrandLent p n (length w.queue.now) (length w.window_counts.now) (length w.scan_counts.now) (length w.candidates.now) (length w.reverse_list.now)
-  pub codes : length w.reverse_codes.now ≡ n
-
--- Both strands' runs, and what they give joined.
-pub record BothLent (p : Params) (n : ℕ) (w : Workspace) (n_list n_marks : ℕ) : Type 0 where
-  pub forward : ForwardLent p n w
-  pub reverse : ReverseLent p n w
+-- Enough of each buffer for a strand's run, at p's numbers and n letters.
+pub record StrandRoom (p : Params) (n n_queue n_window_counts n_scan_counts n_candidates n_list : ℕ) : Type 0 where
+  pub runs : Runs p n
+  pub queue : p.window_size ≤ n_queue
+  pub window_counts : 4 ^ p.kmer ≤ n_window_counts
+  pub scan_counts : 4 ^ p.kmer ≤ n_scan_counts
+  pub candidates : p.window_size ≤ n_candidates
   pub list : (n + 1) / (p.kmer + 1) ≤ n_list
-  pub marks : (n + 1) / (p.kmer + 1) ≤ n_marks
+
+-- Enough for both strands' runs.
+pub record WorkLent (p : Params) (n : ℕ) (w : Workspace) : Type 0 where
+  pub runs : Runs p n
+  pub queue : p.window_size ≤ length w.queue.now
+  pub window_counts : 4 ^ p.kmer ≤ length w.window_counts.now
+  pub scan_counts : 4 ^ p.kmer ≤ length w.scan_counts.now
+  pub candidates : p.window_size ≤ length w.candidates.now
+  pub reverse_codes : n ≤ length w.reverse_codes.now
+  pub forward_list : (n + 1) / (p.kmer + 1) ≤ length w.forward_list.now
+  pub reverse_list : (n + 1) / (p.kmer + 1) ≤ length w.reverse_list.now
+
+-- And for what they give joined.
+pub record OutLent (p : Params) (n : ℕ) (o : MarksOut) : Type 0 where
+  pub list : (n + 1) / (p.kmer + 1) ≤ length o.list.now
+  pub marks : (n + 1) / (p.kmer + 1) ≤ length o.marks.now
+
+-- Each buffer holds free content within its listed size.
+pub record Freed (p : Params) (n : ℕ) (old new : Workspace) : Type 0 where
+  pub queue : Free p.window_size old.queue.now new.queue.now
+  pub window_counts : Free (4 ^ p.kmer) old.window_counts.now new.window_counts.now
+  pub scan_counts : Free (4 ^ p.kmer) old.scan_counts.now new.scan_counts.now
+  pub candidates : Free p.window_size old.candidates.now new.candidates.now
+  pub reverse_codes : Free n old.reverse_codes.now new.reverse_codes.now
+  pub forward_list : Free ((n + 1) / (p.kmer + 1)) old.forward_list.now new.forward_list.now
+  pub reverse_list : Free ((n + 1) / (p.kmer + 1)) old.reverse_list.now new.reverse_list.now
 
 -- Two lists in the fronts of their slices, the second within n letters, and room for what they give joined and for its marks.
 pub record Mergeable (forward : List Interval) (forward_count : ℕ) (reverse : List Interval) (reverse_count n : ℕ)

@@ -1,14 +1,27 @@
-use lib.ListN.{length-replicate}
-use Rattle.floats.specs.Binary64.{zero64}
-use Rattle.intervals.specs.declared.Interval.{Interval}
-use Rattle.intervals.specs.Interval.{interval}
-use Rattle.scans.specs.declared.ForwardPosition.{ForwardPosition}
-use Rattle.short_sequences.proofs.Runs.{ran}
+use borrow.Author.Rules.{rules}
+use Rattle.std.proofs.lemmas.Result.{err_from_is_err_and}
+use Rattle.short_sequences.proofs.Runs.{ran_refusal, ran_list, ran_shape}
 use Rattle.short_sequences.proofs.mask_letters.Goals as goal
 
 -- `short_sequences::mask_letters` meets its contract: what the call on filled tables says of such buffers.
-pub returns : goal.returns
-returns c =
-    let none : Interval = interval 0 0 in
-    let no_candidate : ForwardPosition = record { pos = 0; max_score = zero64 } in
-    ran _ _ _ _ _ c.args.list.now c.requires.tables (length-replicate 8 no_candidate) (length-replicate 4 none) (length-replicate 4 none) c.requires.room c.short_options.ensures c.process_tables-answer.ensures
+pub returns-clause-refusal : goal.returns-clause-refusal
+returns-clause-refusal c =
+    ran_refusal _ _ _ _ _ c.args.list.now c.requires.tables (search rules) (search rules) (search rules) c.requires.room c.short_options-options.ensures
+    c.in_ok-answer.ensures.answered
+
+pub returns-in_err-answer-clause-refusal : goal.returns-in_err-answer-clause-refusal
+returns-in_err-answer-clause-refusal c =
+    let p = err_from_is_err_and c.from_residual.result c.from_residual.ensures.1 in
+    rw (p.1, p.2)
+    (ran_refusal _ _ _ _ _ c.args.list.now c.requires.tables (search rules) (search rules) (search rules) c.requires.room c.short_options-options.ensures
+    c.in_err-answer.ensures.answered)
+
+pub returns-clause-list : goal.returns-clause-list
+returns-clause-list c =
+    ran_list _ _ _ _ _ c.args.list.now c.requires.tables (search rules) (search rules) (search rules) c.requires.room c.short_options-options.ensures
+    c.in_ok-answer.ensures.answered (search rules)
+
+pub returns-clause-shape : goal.returns-clause-shape
+returns-clause-shape c =
+    ran_shape _ _ _ _ _ c.args.list.now c.requires.tables (search rules) (search rules) (search rules) c.requires.room c.short_options-options.ensures
+    c.in_ok-answer.ensures.answered

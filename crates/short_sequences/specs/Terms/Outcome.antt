@@ -4,11 +4,9 @@ use Prim.Native.Char.{code}
 use Rattle.tables.specs.Density.{uniform}
 use Rattle.tables.specs.Tables.{ln_table, f_table}
 use Rattle.intervals.specs.declared.Interval.{Interval}
-use Rattle.intervals.specs.Interval.{Canonical, Wrote}
-use Rattle.short_sequences.specs.declared.Masked.{Masked}
 use Rattle.short_sequences.specs.declared.Outcome.{Outcome}
 use Rattle.short_sequences.specs.Sequences.{five_letters}
-use Rattle.short_sequences.specs.Tallies.{refusal_of, mask_of, is_refused, masked_letters}
+use Rattle.short_sequences.specs.Tallies.{is_refused, masked_letters}
 
 -- The letter of a digit in base five.
 abbrev pub letter_at : ℕ → ℕ
@@ -24,17 +22,6 @@ pub record Short (s : List ℕ) (ln f : List Float) (xs : List Interval) : Type 
   pub letters : length s ≤ 8
   pub tables : Filled ln f
   pub room : length xs ≡ 4
-
--- No interval for a refused sequence.
-abbrev pub unless : ℕ → List Interval → List Interval
-unless zero is = is
-unless (suc number) is = []
-
--- The run on the letters s left its list in xs', which was xs.
-pub record Ran (s : List ℕ) (xs xs' : List Interval) (r : Masked) : Type 0 where
-  pub number : r.refusal ≡ refusal_of s
-  pub list : Wrote (unless (refusal_of s) (mask_of s)) xs xs' r.count
-  pub shape : Canonical (length s) 1 (unless (refusal_of s) (mask_of s))
 
 -- What a run comes to: its refusal and no letters, or its masked letters.
 abbrev pub outcome_of : List ℕ → Outcome

@@ -1,6 +1,6 @@
 use Rattle.std.proofs.Common.{sym, ◌∙◌, arith}
 use Rattle.tracks.proofs.SweepSteps.{sweeping_start, sweeping_less, sweeping_index, sweeping_pass, sweeping_grow, sweeping_gap}
-use Rattle.tracks.proofs.SweepSteps.{sweeping_room, sweeping_marks_room, sweeping_end}
+use Rattle.tracks.proofs.SweepSteps.{sweeping_room, sweeping_marks_room, joined_list, joined_marks_are, joined_count}
 use Rattle.tracks.proofs.join_lists.Goals as goal
 
 pub loop-sweep-init : goal.loop-sweep-init
@@ -18,11 +18,11 @@ loop-sweep-preserved-then-at-end c =
     sweeping_grow c.loop-sweep.invariant c.requires c.loop-sweep-test.true c.next_piece-piece.ensures
     (sym c.wanted.ensures ∙ c.if-wanted.true) c.marks_at-m.ensures c.if-at-end.true
 
-pub push-count-requires-clause-end_in_bounds : goal.push-count-requires-clause-end_in_bounds
-push-count-requires-clause-end_in_bounds c = sweeping_room c.loop-sweep.invariant c.requires
+pub push-count-requires-clause-room : goal.push-count-requires-clause-room
+push-count-requires-clause-room c = sweeping_room c.loop-sweep.invariant c.requires
 
-pub push-count-requires-clause-end_in_bounds_2 : goal.push-count-requires-clause-end_in_bounds_2
-push-count-requires-clause-end_in_bounds_2 c = sweeping_marks_room c.loop-sweep.invariant c.requires
+pub push-count-requires-clause-marks_room : goal.push-count-requires-clause-marks_room
+push-count-requires-clause-marks_room c = sweeping_marks_room c.loop-sweep.invariant c.requires
 
 pub loop-sweep-smaller-else-at-end : goal.loop-sweep-smaller-else-at-end
 loop-sweep-smaller-else-at-end c =
@@ -30,10 +30,9 @@ loop-sweep-smaller-else-at-end c =
 
 pub loop-sweep-preserved-else-at-end : goal.loop-sweep-preserved-else-at-end
 loop-sweep-preserved-else-at-end c =
-    let N = c.push-count in
-    sweeping_gap c.loop-sweep.invariant c.requires c.loop-sweep-test.true c.next_piece-piece.ensures
-    (sym c.wanted.ensures ∙ c.if-wanted.true) c.marks_at-m.ensures c.if-at-end.false
-    N.ensures.0 N.ensures.1 N.ensures.2 N.auto.list N.auto.list_marks
+    let N = c.push-count.ensures in
+    sweeping_gap c.loop-sweep.invariant c.requires c.loop-sweep-test.true c.next_piece-piece.ensures c.push-count.new.self
+    (sym c.wanted.ensures ∙ c.if-wanted.true) c.marks_at-m.ensures c.if-at-end.false N.list N.marks N.count N.same
 
 pub loop-sweep-smaller : goal.loop-sweep-smaller
 loop-sweep-smaller c =
@@ -44,13 +43,23 @@ loop-sweep-preserved c =
     sweeping_pass c.loop-sweep.invariant c.requires c.loop-sweep-test.true c.next_piece-piece.ensures
     (sym c.wanted.ensures ∙ c.if-wanted.false)
 
-pub push-requires-clause-end_in_bounds : goal.push-requires-clause-end_in_bounds
-push-requires-clause-end_in_bounds c = sweeping_room c.loop-sweep.invariant c.requires
+pub push-requires-clause-room : goal.push-requires-clause-room
+push-requires-clause-room c = sweeping_room c.loop-sweep.invariant c.requires
 
-pub push-requires-clause-end_in_bounds_2 : goal.push-requires-clause-end_in_bounds_2
-push-requires-clause-end_in_bounds_2 c = sweeping_marks_room c.loop-sweep.invariant c.requires
+pub push-requires-clause-marks_room : goal.push-requires-clause-marks_room
+push-requires-clause-marks_room c = sweeping_marks_room c.loop-sweep.invariant c.requires
 
-pub returns : goal.returns
-returns c =
-    let N = c.push in
-    sweeping_end c.loop-sweep.invariant c.requires N.ensures.0 N.ensures.1 N.ensures.2 c.loop-sweep-test.false
+pub returns-clause-list : goal.returns-clause-list
+returns-clause-list c =
+    let N = c.push.ensures in
+    joined_list c.loop-sweep.invariant c.requires N.list N.marks N.count c.loop-sweep-test.false
+
+pub returns-clause-marks : goal.returns-clause-marks
+returns-clause-marks c =
+    let N = c.push.ensures in
+    joined_marks_are c.loop-sweep.invariant c.requires N.list N.marks N.count c.loop-sweep-test.false
+
+pub returns-clause-count : goal.returns-clause-count
+returns-clause-count c =
+    let N = c.push.ensures in
+    joined_count c.loop-sweep.invariant c.requires N.list N.marks N.count c.loop-sweep-test.false

@@ -1,10 +1,7 @@
 -- Terms of contracts: where a sweep over both lists stands, and the next piece of letters, over which neither list changes.
-use Rattle.std.specs.Prelude.{ℕ, ◌+◌, ◌≤◌, min, ◌≡◌, Bool, true, false, cond, List, [], ◌∷◌, ltb, leb, length, drop}
-use Rattle.buffers.specs.Fill.{put}
+use Rattle.std.specs.Prelude.{ℕ, ◌+◌, ◌≤◌, min, Bool, true, false, cond, List, [], ◌∷◌, ltb, leb, length, drop}
 use Rattle.intervals.specs.declared.Interval.{Interval}
-use Rattle.intervals.specs.Interval.{Canonical, Wrote}
-use Rattle.tracks.specs.Tracks.{joined, joined_marks}
-use Rattle.tracks.specs.declared.Joined.{Joined}
+use Rattle.intervals.specs.Interval.{Canonical}
 use Rattle.tracks.specs.declared.Side.{Side}
 use Rattle.tracks.specs.declared.Sweep.{Sweep}
 use Rattle.tracks.specs.declared.Piece.{Piece}
@@ -36,15 +33,9 @@ piece_at n ours theirs s =
     record { ours = o.covers; theirs = t.covers; next = sweep end (s.ours + ended_first is end) (s.theirs + ended_first js end) }
 
 -- What `join_lists` asks of its lists and slices.
-pub record Ready (n : ℕ) (ours : List Interval) (ms : List ℕ) (theirs : List Interval) (xs : List Interval) (ys : List ℕ) : Type 0 where
+pub record Ready (n : ℕ) (ours : List Interval) (ms : List ℕ) (theirs : List Interval) (list marks : ℕ) : Type 0 where
   pub ours_usual : Canonical n 1 ours
   pub theirs_usual : Canonical n 1 theirs
   pub all_marked : length ours ≤ length ms
-  pub room : length ours + length theirs ≤ length xs
-  pub marks_room : length ours + length theirs ≤ length ys
-
--- What it writes.
-pub record Swept (kind : Joined) (n : ℕ) (ours : List Interval) (ms : List ℕ) (theirs : List Interval)
-    (xs xs' : List Interval) (ys ys' : List ℕ) (count : ℕ) : Type 0 where
-  pub list_is : Wrote (joined kind n ours theirs) xs xs' count
-  pub marks_are : ys' ≡ put (joined_marks kind n ours ms theirs) ys
+  pub room : length ours + length theirs ≤ list
+  pub marks_room : length ours + length theirs ≤ marks

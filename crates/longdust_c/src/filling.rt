@@ -1,0 +1,85 @@
+// The call that fills the tables first.
+
+ghost use Rattle.longdust_c.specs.Numbers.{options_of};
+ghost use Rattle.longdust.specs.Buffers.{buffers};
+ghost use Rattle.longdust.specs.Call.{Filled};
+ghost use Rattle.longdust_c.specs.Exported.{Exported};
+
+use crate::numbers::{flag_of, gc_choice, xdrop_choice};
+use intervals::{Interval, MarksOut};
+use longdust::LongdustOptions;
+use mask::Workspace;
+use scans::ForwardPosition;
+
+// `longdust::process` in the same way: it fills the tables first.
+#[unsafe(no_mangle)]
+pub extern "C" fn longdust_process(
+    sequence: &[u8],
+    kmer: usize,
+    window_size: usize,
+    score_threshold: f64,
+    gc_kind: u32,
+    gc_value: f64,
+    xdrop_set: u32,
+    xdrop_length: u32,
+    min_start_cnt: u16,
+    approx: u32,
+    forward_only: u32,
+    ln: &mut [f64],
+    f: &mut [f64],
+    queue: &mut [u32],
+    window_counts: &mut [u16],
+    scan_counts: &mut [u16],
+    candidates: &mut [ForwardPosition],
+    codes: &mut [u8],
+    reverse_codes: &mut [u8],
+    forward_list: &mut [Interval],
+    reverse_list: &mut [Interval],
+    list: &mut [Interval],
+    marks: &mut [u8],
+    in_range: &mut u32,
+) -> i64
+    ensures { Exported Filled
+        (options_of kmer window_size score_threshold gc_kind gc_value xdrop_set xdrop_length
+        min_start_cnt approx forward_only)
+        sequence.now
+        (buffers ln.old f.old queue.old window_counts.old scan_counts.old
+        candidates.old codes.old reverse_codes.old
+        forward_list.old reverse_list.old list.old marks.old)
+        (buffers ln.new f.new queue.new window_counts.new scan_counts.new
+        candidates.new codes.new reverse_codes.new
+        forward_list.new reverse_list.new list.new marks.new)
+        result in_range.new }
+{
+    let options = LongdustOptions {
+        window_size,
+        score_threshold,
+        kmer,
+        gc: gc_choice(gc_kind, gc_value),
+        xdrop: xdrop_choice(xdrop_set, xdrop_length),
+        min_start_cnt,
+        approx: approx != 0,
+        forward_only: forward_only != 0,
+    };
+    let mut work = Workspace {
+        queue,
+        window_counts,
+        scan_counts,
+        candidates,
+        reverse_codes,
+        forward_list,
+        reverse_list,
+    };
+    let mut out = MarksOut { list, marks };
+    let answer = longdust::process(sequence, options, ln, f, codes, &mut work, &mut out);
+    match answer {
+        Ok(mask) => {
+            *in_range = flag_of(mask.in_range);
+            mask.count as i64
+        }
+        Err(refusal) => {
+            *in_range = 0;
+            -(refusal.number() as i64)
+        }
+    }
+}

@@ -1,0 +1,72 @@
+// What the numbers of the calls for C stand for, and the number that such a call returns.
+
+ghost use Rattle.std.specs.Prelude.{◌≡◌, ◌<◌, ◌^◌, IfOk};
+ghost use Rattle.checks.specs.Refusal.{number_of};
+ghost use Rattle.longdust_c.specs.Numbers.{gc_choice, xdrop_choice, masking_of, kind_of, count_or, count_of, flag};
+
+use checks::Refusal;
+use masked_copy::Masking;
+use scans::Xdrop;
+use tables::GcOption;
+use tracks::Joined;
+
+// The GC choice that two numbers stand for.
+pub fn gc_choice(gc_kind: u32, gc_value: f64) -> GcOption
+    ensures { result ≡ gc_choice gc_kind gc_value }
+{
+    match gc_kind {
+        0 => GcOption::Uniform,
+        1 => GcOption::Fixed(gc_value),
+        2 => GcOption::Auto,
+        _ => GcOption::Fixed(0.0 / 0.0),
+    }
+}
+
+// The xdrop that two numbers stand for.
+pub fn xdrop_choice(xdrop_set: u32, xdrop_length: u32) -> Xdrop
+    ensures { result ≡ xdrop_choice xdrop_set xdrop_length }
+{
+    match xdrop_set {
+        0 => Xdrop::Off,
+        _ => Xdrop::Length(xdrop_length),
+    }
+}
+
+// How masked letters are shown.
+pub fn masking_of(lower_case: u32, replacement: u8) -> Masking
+    ensures { result ≡ masking_of lower_case replacement }
+{
+    match lower_case {
+        0 => Masking::Replace(replacement),
+        _ => Masking::LowerCase,
+    }
+}
+
+// Which letters of two tracks are wanted.
+pub fn kind_of(kind: u32) -> Joined
+    ensures { result ≡ kind_of kind }
+{
+    match kind {
+        0 => Joined::Either,
+        1 => Joined::Both,
+        _ => Joined::Outside,
+    }
+}
+
+// The count, or minus the refusal's number.
+pub fn returned(answer: Result<usize, Refusal>) -> i64
+    requires { IfOk answer (λ count. count < 2 ^ 63) }
+    ensures { result ≡ count_or (number_of answer) (count_of answer) }
+{
+    match answer {
+        Ok(count) => count as i64,
+        Err(refusal) => -(refusal.number() as i64),
+    }
+}
+
+// The flag as a number.
+pub fn flag_of(in_range: bool) -> u32
+    ensures { result ≡ flag in_range }
+{
+    if in_range { 1 } else { 0 }
+}
