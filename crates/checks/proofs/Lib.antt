@@ -1,4 +1,4 @@
 pub mod Bytes
 pub mod Sizes
-pub mod Next
+pub mod Passing
 pub mod Refusing

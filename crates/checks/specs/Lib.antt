@@ -2,4 +2,3 @@ pub mod Checks
 pub mod Tests
 pub mod Refusal
 pub mod Sequence
-pub mod Terms

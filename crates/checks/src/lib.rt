@@ -1,6 +1,4 @@
-// The single tests of a request, on plain data, and the straight-line way to run a list of checks:
-// `let r = next_check(0, 1, kmer_outside(k)); let r = next_check(r, 2, any_high(sequence));` and so on, a line for each check.
-// Every test is total, so that a line needs nothing of the lines before it.
+// The single tests of a request, on plain data, and its refusals. Every test is total, so that a check needs nothing of the checks before it.
 
 #![tactic(auto)]
 
@@ -10,7 +8,6 @@ mod sequence;
 ghost use Rattle.std.specs.Prelude.{◌≡◌, ◌+◌, ltb};
 ghost use Rattle.checks.specs.Tests.{kmer_outside, is_other, any_high, any_other, too_few_letters, window_below, window_above, threshold_bad};
 ghost use Rattle.checks.specs.Tests.{min_start_below, too_many_letters, most_intervals};
-ghost use Rattle.checks.specs.Terms.Next.{next_check};
 
 pub use refusal::Refusal;
 pub use sequence::check_sequence;
@@ -20,20 +17,6 @@ pub const MAX_KMER: usize = 12;
 pub const MAX_WINDOW: usize = 65535;
 
 pub const MAX_LETTERS: usize = 2147483647;
-
-// The refusal r of the checks before, if there is one; else the number, if this check fails.
-#[tactic(auto, unfolding(crate::specs::Terms::Next::next_check))]
-pub fn next_check(r: u32, number: u32, fails: bool) -> u32
-    ensures { result ≡ next_check r number fails }
-{
-    if r == 0 {
-        if fails {
-            return number;
-        }
-        return 0;
-    }
-    r
-}
 
 pub fn kmer_outside(k: usize) -> bool
     ensures { result ≡ kmer_outside k }
@@ -64,12 +47,9 @@ pub fn find_bytes(sequence: &[u8]) -> BytesFound
 {
     let mut high = false;
     let mut other = false;
-    let mut i = 0;
-    while i < sequence.len() {
-        let b = sequence[i];
-        high = high | (128 <= b);
-        other = other | is_other(b);
-        i += 1;
+    for b in sequence {
+        high |= 128 <= *b;
+        other |= is_other(*b);
     }
     BytesFound { high, other }
 }

@@ -10,7 +10,7 @@ use Rattle.scans.proofs.Test.{neither}
 use Rattle.longdust.specs.declared.LongdustOptions.{LongdustOptions}
 use Rattle.longdust.specs.declared.Lent.{Lent}
 use Rattle.checks.specs.Checks.{check}
-use Rattle.checks.proofs.Next.{passes}
+use Rattle.checks.proofs.Passing.{passes}
 use Rattle.checks.specs.Tests.{most_intervals}
 use Rattle.longdust.specs.Checks.{checks, refusal, too_short_of}
 use Rattle.longdust.specs.Terms.Inner.{Enough, Admitted}

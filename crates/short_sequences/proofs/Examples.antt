@@ -5,7 +5,7 @@ use lib.ListN.{take}
 use Rattle.buffers.specs.Fill.{tabulate, tabulate_from}
 use Rattle.checks.specs.Tests.{any_byte, threshold_bad}
 use Rattle.longdust.specs.Options.{defaults}
-use Rattle.longdust.specs.Checks.{gc_bad, xdrop_bad, too_short_of, refusal}
+use Rattle.longdust.specs.Checks.{gc_bad, xdrop_bad, too_short_of}
 use Rattle.short_sequences.specs.Sequences.{sequences_of}
 use Rattle.short_sequences.specs.Tallies.{short_options, refusal_of, is_refused, leads_to, count_of, tallies_of, refused_of}
 use Rattle.short_sequences.specs.Tallies.{refusal as tally_refusal}

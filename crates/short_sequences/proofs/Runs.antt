@@ -1,15 +1,13 @@
 -- What the two calls say of a run on a short sequence: buffers of exactly the paper's sizes, tables filled once.
-use Prim.Native.Nat.{ℕ, zero, suc, ◌≤◌, ◌<◌}
+use Prim.Native.Nat.{ℕ}
 use mathlib.Core.Path.{◌≡◌, refl, sym, ap, ap₂, subst, ◌∙◌}
-use mathlib.Core.Bool.{Bool, true, false, not, cond}
 use mathlib.Core.List.{List}
-use Rattle.std.specs.Prelude.{Result, Ok}
+use Rattle.std.specs.Prelude.{Result, Ok, Option, None, Some}
 use Rattle.checks.specs.declared.refusal.Refusal.{Refusal}
 use Rattle.checks.specs.Refusal.{number, number_of}
 use Rattle.checks.proofs.Refusing.{number_positive}
 use native.Mathlib.Omega.{arith}
 use borrow.Author.Tests.{ne_eqb}
-use lib.Dec.{eqb}
 use lib.ListN.{length, take, replicate, length-replicate}
 use lib.Seq.{take_all}
 use lib.Ieee.{Float}
@@ -19,8 +17,6 @@ use Rattle.letters.specs.Code.{codes}
 use Rattle.intervals.specs.declared.Interval.{Interval}
 use Rattle.intervals.specs.Interval.{Canonical, Wrote, covered_in}
 use Rattle.intervals.proofs.Slice.{wrote_list}
-use Rattle.intervals.proofs.Shape.{canonical_room}
-use Rattle.intervals.proofs.Counted.{covered_none}
 use Rattle.tables.specs.declared.GcOption.TheVariants.{Uniform}
 use Rattle.tables.specs.Density.{uniform, density}
 use Rattle.tables.specs.Tables.{ln_table, f_table}
@@ -34,7 +30,6 @@ use Rattle.longdust.specs.Checks.{refusal}
 use Rattle.longdust.specs.Mask.{mask}
 use Rattle.longdust.specs.Buffers.{Buffers, buffers, lengths}
 use Rattle.longdust.specs.Call.{ln_read, f_read, Kept, Answered}
-use Rattle.short_sequences.specs.declared.Outcome.{Outcome}
 use Rattle.short_sequences.specs.Tallies.{short_options, lent, refusal_of, mask_of, is_refused, masked_letters}
 use Rattle.short_sequences.specs.Terms.Outcome.{Filled, outcome_of}
 
@@ -107,11 +102,11 @@ module _ (ln f : List Float) (cs : List ForwardPosition) (fl rl xs : List Interv
 -- What a run comes to.
 module _ (s : List ℕ) where
   pub outcome_masked : 0 ≡ refusal_of s → {xs xs' : List Interval} {count : ℕ} → Wrote (mask_of s) xs xs' count → {letters : ℕ}
-      → letters ≡ covered_in (take count xs') 0 (length s) → ◌≡◌ {A = Outcome} (record { refused = false; letters = letters }) (outcome_of s)
+      → letters ≡ covered_in (take count xs') 0 (length s) → Some letters ≡ outcome_of s
   unfolding is_refused masked_letters
   outcome_masked e wrote {letters} h =
-      rw (sym e) (ap (λ (n : ℕ). record { refused = false; letters = n }) (h ∙ ap (λ (is : List Interval). covered_in is 0 (length s)) (wrote_list wrote)))
+      rw (sym e) (ap (λ (n : ℕ). Some n) (h ∙ ap (λ (is : List Interval). covered_in is 0 (length s)) (wrote_list wrote)))
 
-  pub outcome_refused : (d : Refusal) → number d ≡ refusal_of s → ◌≡◌ {A = Outcome} (record { refused = true; letters = 0 }) (outcome_of s)
+  pub outcome_refused : (d : Refusal) → number d ≡ refusal_of s → ◌≡◌ {A = Option ℕ} None (outcome_of s)
   unfolding is_refused
   outcome_refused d e = rw (sym e, ne_eqb (number d) 0 (λ (z : number d ≡ 0). omega (arith, number_positive d)))

@@ -13,7 +13,7 @@ use lib.Seq.{ext_get_or, take-suc, take_all, length-take-le, get_or-set_same, ge
 use Rattle.buffers.specs.Fill.{put, tabulate, tabulate_from}
 use Rattle.buffers.proofs.Tabulate.{tabulate_length, tabulate_at}
 use Rattle.intervals.proofs.Counted.{covered_at_most}
-use Rattle.short_sequences.specs.declared.Outcome.{Outcome}
+use Rattle.std.specs.Prelude.{Option, None, Some, IfSome}
 use Rattle.short_sequences.specs.Sequences.{sequences_of}
 use Rattle.short_sequences.specs.Tallies.{is_refused, mask_of, masked_letters, leads_to, count_of, tallies_over, tallies_of, refused_of, total}
 use Rattle.short_sequences.specs.Terms.Outcome.{outcome_of, counted, one_if_refused}
@@ -39,11 +39,16 @@ masked_most : (s : List ℕ) → masked_letters s ≤ length s
 unfolding masked_letters
 masked_most s = omega (arith, covered_at_most (mask_of s) 0 (length s))
 
-pub letters_most : (s : List ℕ) → (outcome_of s).letters ≤ length s
+-- What holds of a value, if there is one, holds in a weaker form.
+pub some_weaker : (o : Option ℕ) (P Q : ℕ → Type 0) → ((c : ℕ) → P c → Q c) → IfSome o P → IfSome o Q
+some_weaker None P Q f h = tt
+some_weaker (Some c) P Q f h = f c h
+
+pub letters_most : (s : List ℕ) → IfSome (outcome_of s) (λ c. c ≤ length s)
 letters_most s = go (is_refused s)
   where
-    go : (b : Bool) → cond b 0 (masked_letters s) ≤ length s
-    go true = omega arith
+    go : (b : Bool) → IfSome (cond b None (Some (masked_letters s))) (λ c. c ≤ length s)
+    go true = tt
     go false = masked_most s
 
 module _ (m : ℕ) where
@@ -106,13 +111,16 @@ module _ (m : ℕ) where
     tallies_more = go (is_refused s) refl
       where
         go : (b : Bool) → is_refused s ≡ b
-            → let T : List ℕ = tallies_over m ss in cond b T (set T (cond b 0 (masked_letters s)) (get_or T (cond b 0 (masked_letters s)) 0 + 1))
-            ≡ tallies_over m (ss ++ (s ∷ []))
+            → counted (cond b None (Some (masked_letters s))) (tallies_over m ss) ≡ tallies_over m (ss ++ (s ∷ []))
         go true e = no_entry e
         go false e = one_entry e
 
     pub refused_more : count_of is_refused ss + one_if_refused (outcome_of s) ≡ count_of is_refused (ss ++ (s ∷ []))
-    refused_more = sym (count_more is_refused ss s)
+    refused_more = ap (λ (n : ℕ). count_of is_refused ss + n) (go (is_refused s)) ∙ sym (count_more is_refused ss s)
+      where
+        go : (b : Bool) → one_if_refused (cond b None (Some (masked_letters s))) ≡ cond b 1 0
+        go true = refl
+        go false = refl
 
 -- Cleared tallies are those of no sequence.
 pub no_tallies : (m : ℕ) (d d' : List ℕ) → length d ≡ m + 1 → d' ≡ replicate (length d) 0 → d' ≡ tallies_over m []
@@ -149,20 +157,27 @@ module _ (m : ℕ) where
     long : length d ≡ m + 1
     long = ap length a.tallies_are ∙ tallies_length m (take i (sequences_of m))
 
-    module _ {o : Outcome} (e : o ≡ outcome_of sequence) where
-      pub letters_inside : o.letters < length d
-      letters_inside = omega (arith, long, letters_most sequence, sequence_size m i h, ap (λ (z : Outcome). z.letters) e)
+    module _ {o : Option ℕ} (e : o ≡ outcome_of sequence) where
+      pub letters_inside : IfSome o (λ c. (c < length d) × (get_or d c 0 ≤ i))
+      letters_inside = go o (subst (λ (z : Option ℕ). IfSome z (λ c. c ≤ length sequence)) (sym e) (letters_most sequence))
+        where
+          go : (z : Option ℕ) → IfSome z (λ c. c ≤ length sequence) → IfSome z (λ c. (c < length d) × (get_or d c 0 ≤ i))
+          go None q = tt
+          go (Some c) q =
+              let k : c < length d = omega (arith, long, sequence_size m i h) in
+              (k, rw a.tallies_are (omega (arith, done, tally_most m (take i (sequences_of m)) c (omega (arith, long)))))
 
-      pub tally_small : get_or d o.letters 0 ≤ i
-      tally_small =
-          rw a.tallies_are (omega (arith, done, tally_most m (take i (sequences_of m)) o.letters (omega (arith, long, letters_inside))))
+      pub letters_fit : i < 390625 → IfSome o (λ c. (c < length d) × (get_or d c 0 < 4294967295))
+      letters_fit few =
+          some_weaker o (λ c. (c < length d) × (get_or d c 0 ≤ i)) (λ c. (c < length d) × (get_or d c 0 < 4294967295))
+          (λ c k. (k.0, omega arith)) letters_inside
 
       pub refused_small : refused + one_if_refused o ≤ i + 1
-      refused_small = omega (arith, done, count_most is_refused (take i (sequences_of m)), a.refused_are, one o.refused)
+      refused_small = omega (arith, done, count_most is_refused (take i (sequences_of m)), a.refused_are, one o)
         where
-          one : (b : Bool) → cond b 1 0 ≤ 1
-          one true = omega arith
-          one false = omega arith
+          one : (z : Option ℕ) → one_if_refused z ≤ 1
+          one None = omega arith
+          one (Some c) = omega arith
 
       pub tallying_turn : {d' : List ℕ} {n : ℕ} → d' ≡ counted o d → n ≡ one_if_refused o → Tallying m (i + 1) (refused + n) d'
       tallying_turn {d'} {n} p q =
@@ -172,7 +187,7 @@ module _ (m : ℕ) where
             within = omega arith;
             tallies_are =
                 p
-                ∙ ap₂ (λ (z : Outcome) (t : List ℕ). counted z t) e a.tallies_are
+                ∙ ap₂ (λ (z : Option ℕ) (t : List ℕ). counted z t) e a.tallies_are
                 ∙ tallies_more m ss sequence short
                 ∙ ap (λ (l : List (List ℕ)). tallies_over m l) (sym one_more);
             refused_are =
@@ -206,12 +221,9 @@ total_set [] c h = absurd (let b : ⊥ = omega arith in b)
 total_set (x ∷ xs) zero h = omega arith
 total_set (x ∷ xs) (suc c) h = omega (arith, total_set xs c (omega arith))
 
-total_counted : (o : Outcome) (xs : List ℕ) → o.letters < length xs → total (counted o xs) + one_if_refused o ≡ total xs + 1
-total_counted o xs h = go o.refused
-  where
-    go : (b : Bool) → total (cond b xs (set xs o.letters (get_or xs o.letters 0 + 1))) + cond b 1 0 ≡ total xs + 1
-    go true = refl
-    go false = omega (arith, total_set xs o.letters h)
+total_counted : (o : Option ℕ) (xs : List ℕ) → IfSome o (λ c. c < length xs) → total (counted o xs) + one_if_refused o ≡ total xs + 1
+total_counted None xs h = refl
+total_counted (Some c) xs h = omega (arith, total_set xs c h)
 
 module _ (m : ℕ) where
   -- After i sequences of the list they sum to i.
@@ -223,10 +235,10 @@ module _ (m : ℕ) where
       let d' : List ℕ = tallies_over m ss in
       let before : Tallying m i (count_of is_refused ss) d' = record { within = omega arith; tallies_are = refl; refused_are = refl } in
       let l : i < 5 ^ m = omega arith in
-      let o : Outcome = outcome_of (get_or (sequences_of m) i []) in
+      let o : Option ℕ = outcome_of (get_or (sequences_of m) i []) in
       let after = tallying_turn m before l refl refl refl in
       let ih = sum_to i (omega arith) d' (count_of is_refused ss) before in
-      let step = total_counted o d' (letters_inside m before l refl) in
+      let step = total_counted o d' (some_weaker o (λ c. (c < length d') × (get_or d' c 0 ≤ i)) (λ c. c < length d') (λ c k. k.0) (letters_inside m before l refl)) in
       let s : i + 1 ≡ suc i = add-one i in
       omega (
         arith,

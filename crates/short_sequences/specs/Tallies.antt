@@ -1,6 +1,6 @@
 -- All short sequences (L14): what the filling call makes of each, and the tallies over all of a size.
-use Rattle.std.specs.Prelude.{ℕ, ◌+◌, ◌^◌, ◌<◌, ◌≡◌, Bool, false, not, ◌&&◌, ◌||◌, cond, List, [], ◌∷◌, ltb, eqb, length}
-use Rattle.buffers.specs.Fill.{put, tabulate}
+use Rattle.std.specs.Prelude.{ℕ, ◌+◌, Bool, false, not, ◌&&◌, ◌||◌, cond, List, [], ◌∷◌, ltb, eqb, length}
+use Rattle.buffers.specs.Fill.{tabulate}
 use Rattle.checks.specs.Checks.{Check, check, first}
 use Rattle.letters.specs.Code.{codes}
 use Rattle.intervals.specs.declared.Interval.{Interval}

@@ -2,7 +2,7 @@
 
 #![tactic(auto)]
 
-ghost use Rattle.std.specs.Prelude.{◌≡◌, [], ◌+◌, ◌^◌, ◌≤◌, ◌<◌, length, get_or, IfOk, OnOk, OnErr};
+ghost use Rattle.std.specs.Prelude.{◌≡◌, [], ◌+◌, ◌^◌, ◌≤◌, ◌<◌, length, get_or, IfOk, OnOk, OnErr, IfSome};
 ghost use Rattle.intervals.specs.Interval.{Canonical, Wrote, covered_in};
 ghost use Rattle.short_sequences.specs.Sequences.{sequences_of};
 ghost use Rattle.short_sequences.specs.Tallies.{short_options, refusal_of, mask_of, tallies_over, tallies_of, refused_of, refusal};
@@ -31,13 +31,6 @@ const LIST_ROOM: usize = 4;
 pub struct Tallied {
     pub sequences: usize,
     pub refused: u32,
-}
-
-// What a run comes to: refused, or so many masked letters.
-#[derive(Clone, Copy)]
-struct Outcome {
-    refused: bool,
-    letters: usize,
 }
 
 // ---- The sequences, by their index.
@@ -154,43 +147,37 @@ fn count_letters(list: &[Interval], n: usize) -> usize
     letters
 }
 
-// What the run on the letters comes to.
-fn run_letters(letters: &[u8], tables: &Tables) -> Outcome
+// How many letters the run masks; none if the letters are refused.
+fn run_letters(letters: &[u8], tables: &Tables) -> Option<usize>
     requires letters_len_bound { length letters.now ≤ 8 }
     requires filled { Filled tables.now.ln.now tables.now.f.now }
     ensures { result ≡ outcome_of letters.now }
 {
     let mut list = [Interval { start: 0, end: 0 }; LIST_ROOM];
     match mask_letters(letters, tables, &mut list) {
-        Ok(count) => Outcome {
-            refused: false,
-            letters: count_letters(&list[..count], letters.len()),
-        },
-        Err(_) => Outcome {
-            refused: true,
-            letters: 0,
-        },
+        Ok(count) => Some(count_letters(&list[..count], letters.len())),
+        Err(_) => None,
     }
 }
 
 // ---- All runs of a size.
-// Counts an outcome under its letters; a refused one is not, and 1 is answered for it.
-fn count_outcome(outcome: Outcome, tallies: &mut [u32]) -> u32
-    requires letters_in_bounds { outcome.letters < length tallies.old }
-    requires letters_bound { get_or tallies.old outcome.letters 0 < 4294967295 }
+// Counts an outcome under its letters; a refused one is not, and 1 is returned for it.
+fn count_outcome(outcome: Option<usize>, tallies: &mut [u32]) -> u32
+    requires { IfSome outcome (λ letters. (letters < length tallies.old) × (get_or tallies.old letters 0 < 4294967295)) }
     ensures value { result ≡ one_if_refused outcome }
     ensures tallies_after { tallies.new ≡ counted outcome tallies.old }
 {
-    if outcome.refused {
-        return 1;
+    match outcome {
+        Some(letters) => {
+            tallies[letters] += 1;
+            0
+        }
+        None => 1,
     }
-    let letters = outcome.letters;
-    tallies[letters] += 1;
-    0
 }
 
 // The run on the sequence of that index among all of its size, which is written to the slice.
-fn run_index(index: usize, letters: &mut [u8], tables: &Tables) -> Outcome
+fn run_index(index: usize, letters: &mut [u8], tables: &Tables) -> Option<usize>
     requires letters_len_bound { length letters.old ≤ 8 }
     requires index_bound { index < 5 ^ length letters.old }
     requires filled { Filled tables.now.ln.now tables.now.f.now }

@@ -22,7 +22,7 @@ use Rattle.longdust.proofs.Accept.{admitted}
 use Rattle.intervals.proofs.Order.{lt_or_le}
 use Rattle.small.specs.Profile.{not_uniform, outside, checks, refusal}
 use Rattle.small.specs.Terms.Run.{lent, Asked}
-use Rattle.checks.proofs.Next.{passes}
+use Rattle.checks.proofs.Passing.{passes}
 
 -- An eighth of the bytes against so many entries.
 pub eighth : (x r : ℕ) → ltb (x / 8) r ≡ ltb x (8 * r)

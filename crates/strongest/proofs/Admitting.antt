@@ -5,7 +5,7 @@ use native.Mathlib.Omega.{arith}
 use lib.Dec.{ltb, leb}
 use lib.ListN.{length}
 use borrow.Author.Tests.{ltb-true, ltb-false, leb-false, eqb-false, not-false}
-use Rattle.checks.proofs.Next.{passes}
+use Rattle.checks.proofs.Passing.{passes}
 use Rattle.scans.proofs.Test.{neither}
 use Rattle.strongest.specs.Strongest.{Asked, largest}
 use Rattle.strongest.specs.Checks.{too_short_of, too_wide, checks, refusal}

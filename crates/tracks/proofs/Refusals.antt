@@ -8,7 +8,7 @@ use borrow.Author.Tests.{ltb-false, not-false}
 use lib.Dec.{ltb}
 use lib.ListN.{length, get_or}
 use Rattle.checks.specs.Checks.{check}
-use Rattle.checks.proofs.Next.{passes}
+use Rattle.checks.proofs.Passing.{passes}
 use Rattle.intervals.specs.declared.Interval.{Interval}
 use Rattle.intervals.specs.Interval.{usual}
 use Rattle.intervals.proofs.Usual.{usual_agrees}

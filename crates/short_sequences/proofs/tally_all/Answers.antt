@@ -6,7 +6,7 @@ use lib.ListN.{length, get_or}
 use Rattle.short_sequences.specs.Sequences.{sequences_of}
 use Rattle.short_sequences.specs.Terms.Outcome.{outcome_of}
 use Rattle.short_sequences.proofs.Sequences.{few_sequences}
-use Rattle.short_sequences.proofs.Tallying.{tallying_start, letters_inside, tally_small, refused_small, tallying_turn, tallying_end}
+use Rattle.short_sequences.proofs.Tallying.{tallying_start, letters_fit, refused_small, tallying_turn, tallying_end}
 use Rattle.short_sequences.proofs.tally_all.Goals as goal
 use Rattle.short_sequences.proofs.tally_all.Goals.{After-run_index-outcome, In-loop-index}
 
@@ -24,15 +24,10 @@ ran c = c.run_index-outcome.ensures ∙ ap (λ (n : ℕ). outcome_of (get_or (se
 pub loop-index-init : goal.loop-index-init
 loop-index-init c = (tallying_start _ _ c.requires.tallies_value, refl)
 
-pub count_outcome-refused-requires-clause-letters_in_bounds : goal.count_outcome-refused-requires-clause-letters_in_bounds
-count_outcome-refused-requires-clause-letters_in_bounds c =
-    let small = tally_small _ c.loop-index.invariant.0 (below (goal.at.count_outcome-refused-requires-clause-letters_in_bounds c).In-loop-index) (ran (goal.at.count_outcome-refused-requires-clause-letters_in_bounds c).After-run_index-outcome) in
-    letters_inside _ c.loop-index.invariant.0 (below (goal.at.count_outcome-refused-requires-clause-letters_in_bounds c).In-loop-index) (ran (goal.at.count_outcome-refused-requires-clause-letters_in_bounds c).After-run_index-outcome)
-
-pub count_outcome-refused-requires-clause-letters_bound : goal.count_outcome-refused-requires-clause-letters_bound
-count_outcome-refused-requires-clause-letters_bound c =
-    let small = tally_small _ c.loop-index.invariant.0 (below (goal.at.count_outcome-refused-requires-clause-letters_bound c).In-loop-index) (ran (goal.at.count_outcome-refused-requires-clause-letters_bound c).After-run_index-outcome) in
-    omega (arith, few (goal.at.count_outcome-refused-requires-clause-letters_bound c).In-loop-index)
+pub count_outcome-refused-requires : goal.count_outcome-refused-requires
+count_outcome-refused-requires c =
+    let k = goal.at.count_outcome-refused-requires c in
+    letters_fit _ c.loop-index.invariant.0 (below k.In-loop-index) (ran k.After-run_index-outcome) (few k.In-loop-index)
 
 pub overflow_add-refused : goal.overflow_add-refused
 overflow_add-refused c =

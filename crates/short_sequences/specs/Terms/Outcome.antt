@@ -1,10 +1,9 @@
 -- The terms of the inner functions' contracts.
-use Rattle.std.specs.Prelude.{ℕ, zero, suc, ◌+◌, ◌≤◌, ◌≡◌, cond, List, [], length, get_or, set, Float}
+use Rattle.std.specs.Prelude.{ℕ, ◌+◌, ◌≤◌, ◌≡◌, cond, List, length, get_or, set, Float, Option, None, Some}
 use Prim.Native.Char.{code}
 use Rattle.tables.specs.Density.{uniform}
 use Rattle.tables.specs.Tables.{ln_table, f_table}
 use Rattle.intervals.specs.declared.Interval.{Interval}
-use Rattle.short_sequences.specs.declared.Outcome.{Outcome}
 use Rattle.short_sequences.specs.Sequences.{five_letters}
 use Rattle.short_sequences.specs.Tallies.{is_refused, masked_letters}
 
@@ -23,13 +22,15 @@ pub record Short (s : List ℕ) (ln f : List Float) (xs : List Interval) : Type 
   pub tables : Filled ln f
   pub room : length xs ≡ 4
 
--- What a run comes to: its refusal and no letters, or its masked letters.
-abbrev pub outcome_of : List ℕ → Outcome
-outcome_of s = record { refused = is_refused s; letters = cond (is_refused s) 0 (masked_letters s) }
+-- What a run comes to: none if it is refused, or its masked letters.
+abbrev pub outcome_of : List ℕ → Option ℕ
+outcome_of s = cond (is_refused s) None (Some (masked_letters s))
 
 -- The tallies with an outcome counted, and how many more are refused.
-abbrev pub counted : Outcome → List ℕ → List ℕ
-counted o d = cond o.refused d (set d o.letters (get_or d o.letters 0 + 1))
+abbrev pub counted : Option ℕ → List ℕ → List ℕ
+counted None d = d
+counted (Some letters) d = set d letters (get_or d letters 0 + 1)
 
-abbrev pub one_if_refused : Outcome → ℕ
-one_if_refused o = cond o.refused 1 0
+abbrev pub one_if_refused : Option ℕ → ℕ
+one_if_refused None = 1
+one_if_refused (Some letters) = 0

@@ -1,4 +1,4 @@
--- Checks run one after another give the first that fails; where none is given, each passes.
+-- Where no check of a list is the first that fails, each passes.
 use mathlib.Core.Path.{◌≡◌, refl, sym, ◌∙◌}
 use mathlib.Core.Bool.{Bool, true, false, cond, true≢false}
 use mathlib.Core.List.{List, [], ◌∷◌}
@@ -7,33 +7,11 @@ use lib.Dec.{eqb}
 use lib.ListN.{get_or}
 use borrow.Author.Tests.{eq-eqb}
 use Rattle.checks.specs.Checks.{Check, check, first}
-use Rattle.checks.specs.Terms.Next.{next_check}
-
--- The refusal after the checks, where r is that of those before.
-abbrev pub onward : ℕ → List Check → ℕ
-onward r [] = r
-onward r (c ∷ cs) = onward (next_check r c.number c.fails) cs
 
 -- No check has the number 0.
 abbrev pub numbered : List Check → Bool
 numbered [] = true
 numbered (c ∷ cs) = cond (eqb c.number 0) false (numbered cs)
-
-refused : (r : ℕ) (cs : List Check) → eqb r 0 ≡ false → onward r cs ≡ r
-unfolding next_check
-refused r [] e = refl
-refused r (c ∷ cs) e = rw e (refused r cs e)
-
-pub checked : (cs : List Check) → numbered cs ≡ true → onward 0 cs ≡ first cs
-unfolding next_check
-checked [] n = refl
-checked (c ∷ cs) n = go c.fails (eqb c.number 0) refl n (λ m. checked cs m)
-  where
-    go : (b z : Bool) → eqb c.number 0 ≡ z → cond z false (numbered cs) ≡ true → (numbered cs ≡ true → onward 0 cs ≡ first cs)
-        → onward (next_check 0 c.number b) cs ≡ first (check c.number b ∷ cs)
-    go b true e n' rest = absurd (true≢false (sym n'))
-    go true false e n' rest = refused c.number cs e
-    go false false e n' rest = rest n'
 
 -- A request that is not refused passes the check at index j.
 pub passes : (cs : List Check) → numbered cs ≡ true → first cs ≡ 0 → (j : ℕ) → (get_or cs j (check 0 false)).fails ≡ false
