@@ -1,11 +1,10 @@
--- What `put` and `put_at` leave: the length, one write after another, a single store, and a copy entry by entry.
+-- What `put` and `put_at` leave: the length, one write after another, and a single store.
 use mathlib.Core.Path.{◌≡◌, sym, ap, ap₂, ◌∙◌}
 use mathlib.Core.List.{List, [], ◌∷◌, ◌++◌, append_assoc}
 use Prim.Native.Nat.{ℕ, suc, ◌+◌, ◌≤◌, ◌<◌}
-use native.Mathlib.Numerals.{add-one}
 use native.Mathlib.Omega.{arith}
-use lib.ListN.{length, take, drop, get_or, set, length-append, length-drop, take-append-drop}
-use lib.Seq.{length-take-le, take-append_seam, drop-append-le, take_at, drop_at, drop-drop, set_split, take-suc}
+use lib.ListN.{length, take, drop, set, length-append, length-drop, take-append-drop}
+use lib.Seq.{length-take-le, take-append_seam, take_at, drop_at, drop-drop, set_split}
 use Rattle.buffers.specs.Fill.{put, put_at}
 
 module _ {ℓ} {A : Type ℓ} where
@@ -14,14 +13,6 @@ module _ {ℓ} {A : Type ℓ} where
 
   pub take_put : (xs d : List A) → take (length xs) (put xs d) ≡ xs
   take_put xs d = take-append_seam xs (drop (length xs) d)
-
-  -- The first m entries were lent and written to.
-  pub put_part : (m : ℕ) (xs d : List A) → length xs ≤ m → m ≤ length d → put xs (take m d) ++ drop m d ≡ put xs d
-  put_part m xs d h k =
-      append_assoc xs (drop (length xs) (take m d)) (drop m d)
-      ∙ ap (λ (l : List A). xs ++ l)
-      (sym (drop-append-le (length xs) (take m d) (drop m d) (omega (arith, length-take-le m d k)))
-      ∙ ap (λ (l : List A). drop (length xs) l) (take-append-drop m d))
 
   pub put_at_length : (i : ℕ) (xs d : List A) → i + length xs ≤ length d → length (put_at i xs d) ≡ length d
   put_at_length i xs d h =
@@ -71,12 +62,6 @@ module _ {ℓ} {A : Type ℓ} where
       (ap (λ (k : ℕ). drop k d) (let e : suc i ≡ i + 1 = omega arith in e) ∙ sym (drop-drop 1 i d))
 
   -- One entry more.
-  pub put_at_more : (i : ℕ) (xs : List A) (x : A) (d : List A) → i + length xs < length d
-      → set (put_at i xs d) (i + length xs) x ≡ put_at i (xs ++ (x ∷ [])) d
-  put_at_more i xs x d h =
-      put_at_store (i + length xs) x (put_at i xs d) (omega (arith, put_at_length i xs d (omega arith)))
-      ∙ put_at_next i xs (x ∷ []) d (omega arith)
-
   pub put_more : (xs : List A) (x : A) (d : List A) → length xs < length d → set (put xs d) (length xs) x ≡ put (xs ++ (x ∷ [])) d
   put_more xs x d h =
       put_at_store (length xs) x (put xs d) (omega (arith, put_length xs d (omega arith)))
@@ -89,12 +74,3 @@ module _ {ℓ} {A : Type ℓ} where
       ap₂ (λ (l : List A) (i : ℕ). set l i x)
       (sym (ap (λ (i : ℕ). take k d ++ drop i d) t ∙ take-append-drop k d)) (sym t)
       ∙ put_more (take k d) x d (omega arith)
-
-  -- A copy of xs to index i on: its store after j turns.
-  pub put_at_copy : (i : ℕ) (xs d : List A) (j : ℕ) (z : A) → i + length xs ≤ length d → j < length xs
-      → set (put_at i (take j xs) d) (i + j) (get_or xs j z) ≡ put_at i (take (j + 1) xs) d
-  put_at_copy i xs d j z h l =
-      let t = length-take-le j xs (omega arith) in
-      ap (λ (k : ℕ). set (put_at i (take j xs) d) k (get_or xs j z)) (let e : i + j ≡ i + length (take j xs) = omega arith in e)
-      ∙ put_at_more i (take j xs) (get_or xs j z) d (omega arith)
-      ∙ ap (λ (ys : List A). put_at i ys d) (sym (take-suc xs j z l) ∙ ap (λ (k : ℕ). take k xs) (sym (add-one j)))

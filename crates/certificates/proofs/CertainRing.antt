@@ -1,7 +1,8 @@
 -- The find that a carried scan and a certificate of its start tell, in a ring (`certain_found`), and where they tell none.
 use mathlib.Core.Path.{◌≡◌, refl, sym, ap, ◌∙◌, subst}
-use mathlib.Core.Bool.{Bool, true, ◌&&◌}
+use mathlib.Core.Bool.{Bool, true, ◌&&◌, true≢false}
 use mathlib.Core.List.{List, [], ◌∷◌, ◌++◌}
+use Rattle.std.specs.Prelude.{Option, Some, None, IfSome, is_some}
 use Prim.Native.Nat.{ℕ, ◌+◌, ◌-◌, ◌^◌, ◌<◌}
 use native.Mathlib.Omega.{arith}
 use native.Mathlib.Numerals.{add-one}
@@ -32,6 +33,11 @@ use Rattle.scans.proofs.Shape.{usual_range}
 use Rattle.search.proofs.CarriedScan.{counted_unique}
 use Rattle.certificates.proofs.CertificateCarried.{start_find}
 use Rattle.search.proofs.CertificateRing.{below_window, entry_place}
+
+-- A value that is there, with what a clause says of it.
+pub there : {A : Type 0} {P : A → Type 0} (o : Option A) → IfSome o P → is_some o ≡ true → (x : A) × (o ≡ Some x) × P x
+there None h e = absurd (true≢false (sym e))
+there (Some x) h e = (x, refl, h)
 
 module _ (p : Params) (ring : List ℕ) (head len : ℕ) (wc : List ℕ) (ln f : List Float) (counts : List ℕ) (W : Windowed p ring head len wc (length ln)) (start : ℕ) (inside : start < len)
     (n : Counted (4 ^ p.kmer) counts (drop start (window ring head (len - 1)))) where
@@ -102,16 +108,16 @@ module _ (p : Params) (ring : List ℕ) (head len : ℕ) (wc : List ℕ) (ln f :
     pub next_carried : {c' : Carry} {counts' : List ℕ} → CarriesOn S q₀ e start c c' counts counts' → Carried S q start c'
     next_carried {c'} next = subst (λ (z : List Place). Carried S z start c') (sym joins) (next.carries on n k)
 
-    module _ (r : Carry) (r_on : r.on ≡ true) (carried : Carried S q start r) (certain : r.certificate.on ≡ true) (counts' : List ℕ) (m : Counted (kmers S) counts' (drop start q)) where
-      bounds : Bounds S q start r.certificate
-      bounds = (carried.certified r_on).bounds certain
+    module _ (r : Carry) (r_on : r.on ≡ true) (carried : Carried S q start r) (certain : is_some r.certificate ≡ true) (counts' : List ℕ) (m : Counted (kmers S) counts' (drop start q)) where
+      held : (d : Certificate) × (r.certificate ≡ Some d) × Bounds S q start d
+      held = there r.certificate (carried.certified r_on) certain
 
       find : dust_backward S q ≡ record { find = at start; counts = counts' }
       find =
           let w = W in
-          let d : Certificate = r.certificate in
+          let d : Certificate = held.0 in
           let sl : Float = newest_score S (length (q₀ ++ e ∷ []) - start) counts e c in
-          let B : Bounds S (q₀ ++ e ∷ []) start d = subst (λ (z : List Place). Bounds S z start d) joins bounds in
+          let B : Bounds S (q₀ ++ e ∷ []) start d = subst (λ (z : List Place). Bounds S z start d) joins held.2 in
           ap (λ (z : List Place). dust_backward S z) joins
           ∙ start_find S (usual_range B.setup.usual) q₀ e start (omega (arith, before)) c on k.sums counts n all (omega (arith, size, w.len_in)) B.setup B.units (omega (arith, B.few)) B.u_below B.gap_above
           (and_l (le (c.best ⊕ distance) sl) (le distance sl) tests) (and_r (le (c.best ⊕ distance) sl) (le distance sl) tests)
@@ -127,5 +133,5 @@ module _ (p : Params) (ring : List ℕ) (head len : ℕ) (wc : List ℕ) (ln f :
           })
 
 -- A certificate that is made anew.
-pub remade : {S : Setup} {q : List Place} {j : ℕ} (c : Carry) (d : Certificate) → c.on ≡ true → Carried S q j c → Certified S q j d → Carried S q j (record { on = true; s = c.s; best = c.best; certificate = d })
+pub remade : {S : Setup} {q : List Place} {j : ℕ} (c : Carry) (d : Option Certificate) → c.on ≡ true → Carried S q j c → Certified S q j d → Carried S q j (record { on = true; s = c.s; best = c.best; certificate = d })
 remade c d on k certified = record { sums = record { s_is = λ _. k.sums.s_is on; best_is = λ _. k.sums.best_is on }; certified = λ _. certified }

@@ -1,6 +1,7 @@
 -- Tables in range. What the carried forward scan tells: its sum and best are those of all the float scores (`whole_sum`, `whole_top`), so that a newest score above the best by 2^-10 is best by exact scores (`carried_newest`).
 -- With the certificate of its start the backward scan finds that start (`start_find`).
 use mathlib.Core.Path.{◌≡◌, refl, sym, ap, ap₂, ◌∙◌, subst}
+use Rattle.std.specs.Prelude.{None}
 use Prim.Native.Nat.{ℕ, zero, suc, ◌+◌, ◌-◌, ◌≤◌, ◌<◌}
 use native.Mathlib.Nat.{mul-le-mul_left, mul-le-mul_right}
 use native.Mathlib.Omega.{arith}
@@ -25,7 +26,7 @@ use Rattle.scans.specs.Scans.{at, value, ForwardSums, forward_start, Forward, fo
 use Rattle.scans.specs.Judged.{sum_over_of, float_score, Best, best_of, better, forward_over}
 use Rattle.scans.specs.Terms.Parts.{whole_forward}
 use Rattle.search.specs.Terms.Carry.{Summed, newest_score}
-use Rattle.search.specs.Terms.Certified.{no_certificate, Kept, StartUnits, Certifiable}
+use Rattle.search.specs.Terms.Certified.{Kept, StartUnits, Certifiable}
 use Rattle.scans.specs.Terms.Units.{margin, distance, gain, loss}
 use Rattle.scans.proofs.Test.{by_test}
 use Rattle.scans.proofs.Counting.{below_left, below_right, below_drop, below_take, Counted, raise_counted}
@@ -122,7 +123,7 @@ module _ (S : Setup) (R : InRange S) (q₀ : List Place) (e : Place) (j : ℕ) (
   score_is =
       let g = es_long in
       let l : length q - j ≡ length (es ++ e ∷ []) = omega (arith, length-append es (e ∷ [])) in
-      ap₂ (λ (x : Float) (i : ℕ). x ⊖ f_at S i) (sym ((carried_next S es e c counts k es_below n no_certificate).s_is on)) l
+      ap₂ (λ (x : Float) (i : ℕ). x ⊖ f_at S i) (sym ((carried_next S es e c counts k es_below n None).s_is on)) l
       ∙ whole_sum S (es ++ e ∷ [])
       ∙ ap (float_score S) (sym more)
 

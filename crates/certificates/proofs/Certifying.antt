@@ -1,9 +1,10 @@
 -- The making of a certificate in the code: an entry read, the loops over the entries newer and older than the start, and what they give together.
 use mathlib.Core.Path.{◌≡◌, refl, sym, ap, ◌∙◌, subst}
-use mathlib.Core.Bool.{Bool, true, false, not, ◌&&◌, true≢false}
+use mathlib.Core.Bool.{Bool, true, false, not, ◌&&◌}
 use mathlib.Core.List.{List, [], ◌∷◌}
 use mathlib.Core.Logic.{◌⊎◌, inl, inr}
 use Prim.Native.Nat.{ℕ, suc, ◌+◌, ◌-◌, ◌/◌, ◌^◌, ◌≤◌, ◌<◌}
+use Rattle.std.specs.Prelude.{Option, Some, None, IfSome}
 use native.Mathlib.Omega.{arith}
 use lib.ListN.{length, get_or, drop, replicate, length-drop, length-replicate}
 use lib.Seq.{drop-cons, drop-length}
@@ -30,8 +31,9 @@ use Rattle.scans.specs.Terms.Window.{At, ring_index, window, CountsEntry}
 use Rattle.scans.specs.Terms.Shape.{Shaped}
 use Rattle.scans.specs.Terms.Parts.{Queued, Ringed}
 use Rattle.scans.specs.Terms.Units.{distance}
-use Rattle.search.specs.Terms.Certified.{no_certificate, StartUnits, Bounds}
+use Rattle.search.specs.Terms.Certified.{StartUnits, Bounds}
 use Rattle.certificates.specs.Terms.Made.{Making, Summed, none_read, read_of, near_most, Reads, no_middle, middle_of, Steady, ReadsNewer, older_of, OlderUnits, ReadsOlder, Able, certificate_of, Attempts}
+use Rattle.scans.proofs.Test.{by_test}
 use Rattle.scans.proofs.Counting.{count_le, count_snoc, below_drop, raise_counted, cleared_counted}
 use Rattle.scans.proofs.Rings.{ring_index_at, queue_at, window_at, window_length}
 use Rattle.scans.proofs.Values.{raised_value}
@@ -99,10 +101,6 @@ not_within a b t = go (order_of b a)
     go (inl o) = o
     go (inr o) = absurd (never (leb a b) (le→leb a b o) t)
 
-is_on : (b : Bool) → not b ≡ false → b ≡ true
-is_on true e = refl
-is_on false e = sym e
-
 read_at : (a : Reading) (i : ℕ) (v s score : Float) (near : Bool) → (read_of a i v s score near).at ≡ i
 read_at a i v s score true = refl
 read_at a i v s score false = refl
@@ -114,7 +112,6 @@ pub record NewerRead (p : Params) (q : List Place) (ln f : List Float) (start m 
   pub counted : Counted (4 ^ p.kmer) counts (drop a.at q)
   pub reads : Reads (setup_of p ln f) q a
   pub before : start < a.at
-  pub on : b.on ≡ true
   pub steady : Steady (setup_of p ln f) q m a.at b
 
 -- The entries from index `at` on are read, and older ones may matter; `top` is the start's score.
@@ -158,7 +155,6 @@ module _ (p : Params) (ring : List ℕ) (head len : ℕ) (ln f : List Float) (c�
           counted = counted;
           reads = subst (λ (z : ℕ). Reads S q (none_read z)) long (reads_none S R q q_below in_window);
           before = start_in;
-          on = refl;
           steady = subst (λ (z : ℕ). Steady S q m z (no_middle z)) long (steady_none S R q q_below in_window m);
         })
 
@@ -166,10 +162,10 @@ module _ (p : Params) (ring : List ℕ) (head len : ℕ) (ln f : List Float) (c�
       pub newer_inside : a.at ≤ len
       newer_inside = omega (arith, k.reads.inside, long)
 
-      pub newer_end : at ≤ start + 1 → ReadsNewer S q start m (record { reading = a; middle = b }) counts
+      pub newer_end : at ≤ start + 1 → ReadsNewer S q start m (record { reading = a; middle = Some b }) counts
       newer_end h =
           let e : a.at ≡ suc start = omega (arith, k.here, k.before) in
-          record { counted = k.counted; reads = k.reads; before = k.before; steady = λ _. (e, subst (λ (z : ℕ). Steady S q m z b) e k.steady) }
+          record { counted = k.counted; reads = k.reads; before = k.before; steady = (e, subst (λ (z : ℕ). Steady S q m z b) e k.steady) }
 
       module _ (more : start + 1 < at) where
         abbrev i : ℕ
@@ -189,7 +185,7 @@ module _ (p : Params) (ring : List ℕ) (head len : ℕ) (ln f : List Float) (c�
 
         module _ (v : Float) (counts' : List ℕ) (taken : CountsEntry ln counts (get_or q i ambiguous) v counts')
             (a' : Reading) (ea : a' ≡ read_of a i v (a.s ⊕ (v ⊖ p.score_threshold)) (a.s ⊕ (v ⊖ p.score_threshold) ⊖ get_or f l nan) (leb l near_most))
-            (b' : Middle) (eb : b' ≡ middle_of b a' (a'.s ⊖ get_or f (l + m) nan) reach) where
+            (c : Option Middle) (ec : c ≡ middle_of b a' (a'.s ⊖ get_or f (l + m) nan) reach) where
           counted_here : Counted (kmers S) counts (drop (suc i) q)
           counted_here = subst (λ (z : ℕ). Counted (kmers S) counts (drop z q)) here k.counted
 
@@ -204,13 +200,12 @@ module _ (p : Params) (ring : List ℕ) (head len : ℕ) (ln f : List Float) (c�
               rw ea
               (reads_next S R q q_below in_window a i l at_end here v (value_next S R q q_below i (omega (arith, i_in, long)) counts counted_here v counts' taken) k.reads (leb l near_most) (leb→le l near_most) (not_within l near_most))
 
-          pub newer_next : not b'.on ≡ false → NewerRead p q ln f start m reach i a' b' counts'
-          newer_next going =
-              let on = is_on b'.on going in
+          pub newer_next : (b' : Middle) → c ≡ Some b' → NewerRead p q ln f start m reach i a' b' counts'
+          newer_next b' is =
               let e : a.at ≡ suc a'.at = here ∙ ap suc (sym at_is) in
               let was : Steady S q m (suc a'.at) b = subst (λ (z : ℕ). Steady S q m z b) e k.steady in
               let r : Float = p.drop_limit ⊖ distance in
-              let eb' : b' ≡ middle_of b a' (a'.s ⊖ get_or f (l + m) nan) r = eb ∙ ap (λ (x : Float). middle_of b a' (a'.s ⊖ get_or f (l + m) nan) x) k.reach_is in
+              let ec' : c ≡ middle_of b a' (a'.s ⊖ get_or f (l + m) nan) r = ec ∙ ap (λ (x : Float). middle_of b a' (a'.s ⊖ get_or f (l + m) nan) x) k.reach_is in
               let st = steady_next S R q q_below in_window w.drop_ranged m a' l (omega (arith, at_is, at_end)) (omega (arith, i_in)) (omega (arith, i_in)) reads_more b was in
               record {
                 here = at_is;
@@ -218,13 +213,11 @@ module _ (p : Params) (ring : List ℕ) (head len : ℕ) (ln f : List Float) (c�
                 counted = counted_more;
                 reads = reads_more;
                 before = omega (arith, at_is);
-                on = on;
-                steady = subst (λ (x : Middle). Steady S q m a'.at x) (sym eb') (st (sym (ap (λ (x : Middle). x.on) eb') ∙ on));
+                steady = subst (λ (x : Option Middle). IfSome x (Steady S q m a'.at)) (sym ec' ∙ is) st;
               }
 
-          pub newer_stop : not b'.on ≡ true → ReadsNewer S q start m (record { reading = a'; middle = b' }) counts'
-          newer_stop off =
-              record { counted = counted_more; reads = reads_more; before = omega (arith, at_is); steady = λ on. absurd (true≢false (sym off ∙ ap not on)) }
+          pub newer_stop : ReadsNewer S q start m (record { reading = a'; middle = None }) counts'
+          newer_stop = record { counted = counted_more; reads = reads_more; before = omega (arith, at_is); steady = tt }
 
   -- ---- The loop over the entries older than the start.
   module _ (start : ℕ) (start_in : start < len) (s : Float) (summed : Summed S (drop start q) s) where
@@ -300,23 +293,23 @@ module _ (p : Params) (ring : List ℕ) (head len : ℕ) (ln f : List Float) (c�
         drop_ranged = w.drop_ranged;
       }
 
-  pub attempt_none : (start i : ℕ) (counts : List ℕ) → i ≤ length q → Counted (kmers S) counts (drop i q) → (c : Certificate) → c ≡ no_certificate → Attempts S q start (record { certificate = c; at = i }) counts
-  attempt_none start i counts h k c e = record { inside = h; counted = k; made = λ on. absurd (true≢false (sym on ∙ ap (λ (x : Certificate). x.on) e)) }
+  pub attempt_none : (start i : ℕ) (counts : List ℕ) → i ≤ length q → Counted (kmers S) counts (drop i q) → Attempts S q start (record { certificate = None; at = i }) counts
+  attempt_none start i counts h k = record { inside = h; counted = k; made = tt }
 
   module _ (start m : ℕ) (start_in : start < len) (room : len + m ≤ start + p.window_size) (r : Newer) (counts : List ℕ) (k : ReadsNewer S q start m r counts) where
-    module _ (going : not r.middle.on ≡ false) where
-      on : r.middle.on ≡ true
-      on = is_on r.middle.on going
+    module _ (b : Middle) (is : r.middle ≡ Some b) where
+      steady : (r.reading.at ≡ suc start) × Steady S q m (suc start) b
+      steady = subst (λ (x : Option Middle). IfSome x (λ c. (r.reading.at ≡ suc start) × Steady S q m (suc start) c)) is k.steady
 
-      pub near_in : r.middle.near ≤ len
-      near_in = omega (arith, (k.steady on).1.low.within, long)
+      pub near_in : b.near ≤ len
+      near_in = omega (arith, steady.1.low.within, long)
 
       module _ (v : Float) (counts' : List ℕ) (taken : CountsEntry ln counts (get_or q start ambiguous) v counts') where
         abbrev start_sum : Float
         start_sum = r.reading.s ⊕ (v ⊖ p.score_threshold)
 
         start_here : Counted (kmers S) counts (drop (suc start) q)
-        start_here = subst (λ (z : ℕ). Counted (kmers S) counts (drop z q)) (k.steady on).0 k.counted
+        start_here = subst (λ (z : ℕ). Counted (kmers S) counts (drop z q)) steady.0 k.counted
 
         start_counted : Counted (kmers S) counts' (drop start q)
         start_counted = counted_next S R q q_below start (omega (arith, long)) counts start_here v counts' taken
@@ -324,7 +317,7 @@ module _ (p : Params) (ring : List ℕ) (head len : ℕ) (ln f : List Float) (c�
         pub start_summed : Summed S (drop start q) start_sum
         start_summed =
             summed_next S R q q_below in_window start (omega (arith, long)) r.reading.s v (value_next S R q q_below start (omega (arith, long)) counts start_here v counts' taken)
-            (subst (λ (z : ℕ). Summed S (drop z q) r.reading.s) (k.steady on).0 k.reads.summed)
+            (subst (λ (z : ℕ). Summed S (drop z q) r.reading.s) steady.0 k.reads.summed)
 
         pub older_begins : Making p ring head len ln f (length counts') × ((start < len) × Summed S (drop start q) start_sum × Counted (length counts') counts' (drop start q))
         older_begins =
@@ -333,15 +326,12 @@ module _ (p : Params) (ring : List ℕ) (head len : ℕ) (ln f : List Float) (c�
               (start_in, start_summed, subst (λ (z : ℕ). Counted z counts' (drop start q)) many start_counted),
             )
 
-        pub attempt_start : (c : Certificate) → c ≡ no_certificate → Attempts S q start (record { certificate = c; at = start }) counts'
+        pub attempt_start : Attempts S q start (record { certificate = None; at = start }) counts'
         attempt_start = attempt_none start start counts' (omega (arith, long)) start_counted
 
-        module _ (test : le (r.middle.peak ⊕ distance) (start_sum ⊖ get_or f (len - start + m) nan) ≡ true) where
-          abbrev b : Middle
-          b = r.middle
-
+        module _ (test : le (b.peak ⊕ distance) (start_sum ⊖ get_or f (len - start + m) nan) ≡ true) where
           steady_is : Steady S q m (suc start) b
-          steady_is = (k.steady on).1
+          steady_is = steady.1
 
           units : (oldest : ℕ) (gap : Float) → OlderUnits S q start oldest gap → StartUnits S q start m 0 steady_is.low_from b.near b.h b.u gap
           units oldest gap o =
@@ -360,7 +350,7 @@ module _ (p : Params) (ring : List ℕ) (head len : ℕ) (ln f : List Float) (c�
                 gap_kept = o.gap_kept;
               }
 
-          bounds : (oldest : ℕ) (gap : Float) → T (lt b.u (neg distance)) → T (le distance gap) → OlderUnits S q start oldest gap → Bounds S q start (certificate_of b m len gap)
+          bounds : (oldest : ℕ) (gap : Float) → T (lt b.u (neg distance)) → T (le distance gap) → OlderUnits S q start oldest gap → Bounds S q start (record { left = m; near = len - b.near; h = b.h; u = b.u; gap = gap })
           bounds oldest gap low high o =
               let e : b.near ≡ length q - (len - b.near) = omega (arith, long, near_in) in
               record {
@@ -374,17 +364,20 @@ module _ (p : Params) (ring : List ℕ) (head len : ℕ) (ln f : List Float) (c�
                 gap_above = high;
               }
 
-          pub attempt_made : (o : Older) (counts₂ : List ℕ) → ReadsOlder S q start o counts₂ → (c : Certificate) → c ≡ certificate_of b m len o.gap
+          pub attempt_made : (o : Older) (counts₂ : List ℕ) → ReadsOlder S q start o counts₂ → (c : Option Certificate) → c ≡ certificate_of b m len o.gap
               → Attempts S q start (record { certificate = c; at = o.at }) counts₂
           attempt_made o counts₂ k' c e =
               rw e
               (record {
                 inside = omega (arith, k'.inside, long);
                 counted = k'.counted;
-                made = λ yes.
-                    let both : T (lt b.u (neg distance) && le distance o.gap) = subst T (sym yes) tt in
+                made =
+                    by_test (λ (x : Option Certificate). IfSome x (λ d. (o.at ≤ start) × Bounds S q start d)) (lt b.u (neg distance) && le distance o.gap)
+                    (Some (record { left = m; near = len - b.near; h = b.h; u = b.u; gap = o.gap })) None
+                    (λ both.
                     let high = and_r (lt b.u (neg distance)) (le distance o.gap) both in
-                    (k'.inside, bounds o.at o.gap (and_l (lt b.u (neg distance)) (le distance o.gap) both) high (k'.older high));
+                    (k'.inside, bounds o.at o.gap (and_l (lt b.u (neg distance)) (le distance o.gap) both) high (k'.older high)))
+                    (λ _. tt);
               })
 
 -- ---- A certificate or none, by the code's tests.

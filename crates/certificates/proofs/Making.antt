@@ -5,6 +5,7 @@ use mathlib.Core.Bool.{Bool, true, false, cond, not, ◌||◌, true≢false}
 use mathlib.Core.List.{List, ◌∷◌}
 use mathlib.Core.Logic.{◌⊎◌, inl, inr, ⊎_elim}
 use Prim.Native.Nat.{ℕ, suc, ◌+◌, ◌-◌, ◌*◌, ◌≤◌, ◌<◌}
+use Rattle.std.specs.Prelude.{Option, Some, None, IfSome}
 use native.Mathlib.Nat.{mul-le-mul_right}
 use native.Mathlib.Omega.{arith}
 use lib.ListN.{length, get_or, drop, length-drop}
@@ -336,7 +337,7 @@ module _ (S : Setup) (R : InRange S) (q : List Place) (b : Below (kmers S) q) (w
         let r = le_near x y test in
         omega arith
 
-    goes_on : T (le (c.peak ⊖ ahead) reach) → Steady S q m a.at (record { on = c.on; near = c.near; h = c.h; u = c.u; peak = larger c.peak ahead })
+    goes_on : T (le (c.peak ⊖ ahead) reach) → Steady S q m a.at (record { near = c.near; h = c.h; u = c.u; peak = larger c.peak ahead })
     goes_on test =
         let x = larger_is w.peak_kept ahead_is.kept in
         record {
@@ -350,7 +351,7 @@ module _ (S : Setup) (R : InRange S) (q : List Place) (b : Below (kmers S) q) (w
               (λ i r ir ji to. within_reach test i r ir ji to) (λ j o jo from. w.steady j o jo from);
         }
 
-    closes : T (lt a.high (neg distance)) → Steady S q m a.at (record { on = c.on; near = a.near; h = a.sum; u = a.far; peak = neg two_to20 })
+    closes : T (lt a.high (neg distance)) → Steady S q m a.at (record { near = a.near; h = a.sum; u = a.far; peak = neg two_to20 })
     closes test =
         let oe = one_eps in
         let me = margin_eps in
@@ -376,13 +377,12 @@ module _ (S : Setup) (R : InRange S) (q : List Place) (b : Below (kmers S) q) (w
           steady = λ i o io from j r jr ij to. absurd (let y : ⊥ = omega arith in y);
         }
 
-    pub steady_next : (middle_of c a ahead reach).on ≡ true → Steady S q m a.at (middle_of c a ahead reach)
+    pub steady_next : IfSome (middle_of c a ahead reach) (Steady S q m a.at)
     steady_next =
-        let x : Middle = record { on = c.on; near = c.near; h = c.h; u = c.u; peak = larger c.peak ahead } in
-        let y : Middle = record { on = c.on; near = a.near; h = a.sum; u = a.far; peak = neg two_to20 } in
-        let z : Middle = record { on = false; near = c.near; h = c.h; u = c.u; peak = c.peak } in
-        by_test (λ (d : Middle). d.on ≡ true → Steady S q m a.at d) (le (c.peak ⊖ ahead) reach) x (cond (lt a.high (neg distance)) y z) (λ test _. goes_on test)
-        (λ _. by_test (λ (d : Middle). d.on ≡ true → Steady S q m a.at d) (lt a.high (neg distance)) y z (λ test _. closes test) (λ _ e. absurd (true≢false (sym e))))
+        let x : Middle = record { near = c.near; h = c.h; u = c.u; peak = larger c.peak ahead } in
+        let y : Middle = record { near = a.near; h = a.sum; u = a.far; peak = neg two_to20 } in
+        by_test (λ (d : Option Middle). IfSome d (Steady S q m a.at)) (le (c.peak ⊖ ahead) reach) (Some x) (cond (lt a.high (neg distance)) (Some y) None) (λ test. goes_on test)
+        (λ _. by_test (λ (d : Option Middle). IfSome d (Steady S q m a.at)) (lt a.high (neg distance)) (Some y) None (λ test. closes test) (λ _. tt))
 
   -- The start at index i, whose sum is s, scores above the middle.
   pub above_middle : (m i l : ℕ) (s : Float) → i + l ≡ n → 0 < l → l + m ≤ S.window_size → Summed S (drop i q) s → (c : Middle) (w : Steady S q m (suc i) c) → T (le (c.peak ⊕ distance) (s ⊖ f_at S (l + m)))

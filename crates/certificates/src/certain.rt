@@ -7,6 +7,7 @@ ghost use Rattle.letters.specs.Terms.Entry.{decode};
 ghost use Rattle.scans.specs.Scans.{dust_backward};
 ghost use Rattle.scans.specs.Terms.Counted.{Counted, Touched};
 ghost use Rattle.scans.specs.Terms.Run.{as_setup, entries_of, WindowCounted};
+ghost use Rattle.scans.specs.Terms.Shape.{Shaped};
 ghost use Rattle.scans.specs.Terms.Window.{window};
 ghost use Rattle.scans.specs.Terms.Units.{distance};
 ghost use Rattle.search.specs.Terms.Carry.{Answers, Carried, newest_score};
@@ -38,9 +39,10 @@ pub fn find_certain(
     scan_counts: &mut [u16],
 ) -> Option<Scanned>
     requires windowed { WindowCounted setup.now ring.now window_counts.now }
-    requires start_lt_len { (start < ring.now.len) × (carry.on ≡ true)
+    requires start_lt_len { (start < ring.now.len) × (carry.on ≡ true) × (setup.now.params.window_size < length setup.now.f.now)
         × Counted (4 ^ setup.now.params.kmer) scan_counts.old (drop start (window ring.now.queue.now ring.now.head (ring.now.len - 1))) }
     requires carried { Carried (as_setup setup.now) (window ring.now.queue.now ring.now.head (ring.now.len - 1)) start carry }
+    requires shaped { Shaped setup.now.params setup.now.ln.now setup.now.f.now }
     ensures found { IfSome result (λ r. Answers (as_setup setup.now) (entries_of ring.now)
         (dust_backward (as_setup setup.now) (entries_of ring.now)) r scan_counts.new) }
     ensures untold { IfNone result (Touched scan_counts.new (drop start (entries_of ring.now))) }
@@ -50,7 +52,7 @@ pub fn find_certain(
         return None;
     }
     let next = carry.next(setup, start, ring, window_counts, scan_counts);
-    if next.certificate.on {
+    if next.certificate.is_some() {
         return Some(Scanned {
             found: start + 1,
             carry: next,
@@ -61,7 +63,7 @@ pub fn find_certain(
     }
     ring.clear_from(start, scan_counts);
     let made = certify(setup, start, ring, scan_counts);
-    if made.on {
+    if made.is_some() {
         return Some(Scanned {
             found: start + 1,
             carry: Carry {

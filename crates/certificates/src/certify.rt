@@ -4,6 +4,7 @@ ghost use Rattle.std.specs.Prelude.{◌≡◌, ◌+◌, ◌-◌, ◌^◌, ◌<�
 ghost use Rattle.letters.specs.Place.{ambiguous};
 ghost use Rattle.scans.specs.Terms.Counted.{Counted};
 ghost use Rattle.scans.specs.Terms.Run.{as_setup, entries_of, KmersCounted, TablesReach};
+ghost use Rattle.scans.specs.Terms.Shape.{Shaped};
 ghost use Rattle.scans.specs.Terms.Window.{CountsEntry};
 ghost use Rattle.certificates.specs.Terms.Made.{larger, smaller, none_read, read_of, no_middle, middle_of, older_of, certificate_of, Able, Makes, Summed, ReadsNewer, ReadsOlder, Attempts, Certifies};
 
@@ -99,11 +100,9 @@ impl Reading {
 }
 
 // The low entries, each below 0: where the near ones begin, the sum of their ln entries, and a bound of the other ones' scores;
-// and a bound of the scores, with the f entries of m places more, of the entries older than these. Off where a certificate cannot be made:
-// a flag, since these are set field by field at each entry read.
+// and a bound of the scores, with the f entries of m places more, of the entries older than these.
 #[derive(Clone, Copy)]
 struct Middle {
-    on: bool,
     near: usize,
     h: f64,
     u: f64,
@@ -115,7 +114,6 @@ impl Middle {
         ensures { result ≡ no_middle len }
     {
         Self {
-            on: true,
             near: len,
             h: 0.0,
             u: -HIGHEST,
@@ -123,45 +121,49 @@ impl Middle {
         }
     }
 
-    // The oldest entry read, with its score ahead: below the peak by at most `reach`, or else all the entries read are low.
-    fn read(mut self, a: Reading, ahead: f64, reach: f64) -> Self
+    // The oldest entry read, with its score ahead: below the peak by at most `reach`, or else all the entries read are low;
+    // else no certificate can be made.
+    fn read(mut self, a: Reading, ahead: f64, reach: f64) -> Option<Self>
         ensures { result ≡ middle_of self a ahead reach }
     {
         if self.peak - ahead <= reach {
             self.peak = larger(self.peak, ahead);
-            return self;
+            return Some(self);
         }
         if a.high < -DISTANCE {
             self.near = a.near;
             self.h = a.sum;
             self.u = a.far;
             self.peak = -HIGHEST;
-            return self;
+            return Some(self);
         }
-        self.on = false;
-        self
+        None
     }
 
-    // The certificate of m letters, of a start that scores above the older ones by the gap.
-    fn certificate(self, m: usize, len: usize, gap: f64) -> Certificate
+    // The certificate of m letters, of a start that scores above the older ones by the gap; none where the gap,
+    // or the bound u of the low scores, is too near 0.
+    fn certificate(self, m: usize, len: usize, gap: f64) -> Option<Certificate>
         requires { self.near ≤ len }
         ensures { result ≡ certificate_of self m len gap }
     {
-        Certificate {
-            on: (self.u < -DISTANCE) & (DISTANCE <= gap),
-            left: m,
-            near: len - self.near,
-            h: self.h,
-            u: self.u,
-            gap: gap,
+        if (self.u < -DISTANCE) & (DISTANCE <= gap) {
+            return Some(Certificate {
+                left: m,
+                near: len - self.near,
+                h: self.h,
+                u: self.u,
+                gap: gap,
+            });
         }
+        None
     }
 }
 
+// What the entries newer than the start tell; there is no middle where no certificate can be made.
 #[derive(Clone, Copy)]
 struct Newer {
     reading: Reading,
-    middle: Middle,
+    middle: Option<Middle>,
 }
 
 // Reads the entries newer than the start, from cleared counts, for a certificate of m letters.
@@ -182,21 +184,24 @@ fn read_newer(setup: &Setup, start: usize, m: usize, ring: &Ring, scan_counts: &
         let l = ring.len - i;
         let s = a.s + (v - t);
         a = a.read(i, v, s, s - f[l], l <= NEAR);
-        b = b.read(a, a.s - f[l + m], reach);
-        if !b.on {
-            return Newer {
-                reading: a,
-                middle: b,
-            };
+        match b.read(a, a.s - f[l + m], reach) {
+            Some(c) => b = c,
+            None => {
+                return Newer {
+                    reading: a,
+                    middle: None,
+                };
+            }
         }
     }
     Newer {
         reading: a,
-        middle: b,
+        middle: Some(b),
     }
 }
 
-// The entries from `at` on are read: the sum, what the start scores at least above each of those older than it, and whether no older one matters.
+// The entries from `at` on are read: the sum, what the start scores at least above each of those older than it, and whether no older one matters,
+// which is asked of the sums: no value hangs on it.
 #[derive(Clone, Copy)]
 struct Older {
     at: usize,
@@ -251,7 +256,7 @@ fn read_older(setup: &Setup, start: usize, s: f64, ring: &Ring, scan_counts: &mu
 // A certificate that is made, or none, and the oldest entry that is counted.
 #[derive(Clone, Copy)]
 struct Attempt {
-    certificate: Certificate,
+    certificate: Option<Certificate>,
     at: usize,
 }
 
@@ -270,13 +275,15 @@ fn make_certificate(
         scan_counts.new }
 {
     let newer = read_newer(setup, start, m, ring, scan_counts);
-    let b = newer.middle;
-    if !b.on {
-        return Attempt {
-            certificate: Certificate::none(),
-            at: newer.reading.at,
-        };
-    }
+    let b = match newer.middle {
+        Some(b) => b,
+        None => {
+            return Attempt {
+                certificate: None,
+                at: newer.reading.at,
+            };
+        }
+    };
     let v = read_entry(setup, ring, start, scan_counts);
     let s = newer.reading.s + (v - setup.params.score_threshold);
     if b.peak + DISTANCE <= s - setup.f[ring.len - start + m] {
@@ -287,7 +294,7 @@ fn make_certificate(
         };
     }
     Attempt {
-        certificate: Certificate::none(),
+        certificate: None,
         at: start,
     }
 }
@@ -303,28 +310,34 @@ fn is_able(setup: &Setup) -> bool
     p.usual & ((setup.ln[1] <= 0.0) & ((DISTANCE <= p.score_threshold) & drops))
 }
 
-// The certificate of `start`, from cleared counts, which are then those of the entries from `start` on; where there is none, it is off, and they are cleared again.
+// The certificate of `start`, from cleared counts, which are then those of the entries from `start` on; where there is none, they are cleared again.
 #[inline(never)]
-pub fn certify(setup: &Setup, start: usize, ring: &Ring, scan_counts: &mut [u16]) -> Certificate
+pub fn certify(
+    setup: &Setup,
+    start: usize,
+    ring: &Ring,
+    scan_counts: &mut [u16],
+) -> Option<Certificate>
     requires tables_reach { TablesReach setup.now ring.now (length scan_counts.old) }
     requires queue_len { (length ring.now.queue.now ≡ setup.now.params.window_size) × (start < ring.now.len)
         × (scan_counts.old ≡ replicate (4 ^ setup.now.params.kmer) 0) }
+    requires shaped { Shaped setup.now.params setup.now.ln.now setup.now.f.now }
     ensures { Certifies (as_setup setup.now) (entries_of ring.now) start result
         scan_counts.new }
 {
     let l = ring.len - start;
     let m = (ring.queue.len() - l).min(HORIZON);
     if (l < SHORTEST) | (m < FEWEST) {
-        return Certificate::none();
+        return None;
     }
     if !is_able(setup) {
-        return Certificate::none();
+        return None;
     }
     let a = make_certificate(setup, start, m, ring, scan_counts);
-    if a.certificate.on {
+    if a.certificate.is_some() {
         ring.uncount(a.at, start, scan_counts);
         return a.certificate;
     }
     ring.clear_from(a.at, scan_counts);
-    Certificate::none()
+    None
 }

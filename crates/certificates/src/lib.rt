@@ -2,7 +2,7 @@
 //
 // | the search | here |
 // |---|---|
-// | one that would find the last find's start again | certain: `find_certain`, by a certificate of that start; certify: `certify` makes one, `scans` keeps it letter by letter |
+// | one that would find the last find's start again | certain: `find_certain`, by a certificate of that start; certify: `certify` makes one, `search` keeps it letter by letter |
 // | one that would find nothing | low: `low_tells`, by the low starts that `find_low` makes after a search that found nothing |
 
 #![tactic(auto)]

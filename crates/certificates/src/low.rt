@@ -1,9 +1,9 @@
 // Low starts: what a search that found nothing tells of the next searches.
 
-ghost use Rattle.std.specs.Prelude.{◌≡◌, ◌+◌, ◌-◌, ◌<◌, IfSome, take};
+ghost use Rattle.std.specs.Prelude.{◌≡◌, ◌+◌, ◌-◌, ◌<◌, IfSome, length, take};
 ghost use Rattle.scans.specs.Counts.{cleared};
 ghost use Rattle.scans.specs.Terms.Run.{as_setup, entries_of, WindowCounted};
-ghost use Rattle.scans.specs.Terms.Shape.{Usual};
+ghost use Rattle.scans.specs.Terms.Shape.{Shaped, Usual};
 ghost use Rattle.search.specs.Terms.Fails.{TellsNone};
 ghost use Rattle.certificates.specs.Terms.Low.{near_starts, low_starts_to, LowBounds, ReadsNear, ReadsLow};
 
@@ -52,7 +52,7 @@ struct LowRead {
 // Reads from the newest entry back, from cleared counts, down to where the second sum's score is far below 0 or to the oldest.
 fn read_low(setup: &Setup, ring: &Ring, window_counts: &[u16], scan_counts: &mut [u16]) -> LowRead
     requires windowed { WindowCounted setup.now ring.now window_counts.now }
-    requires clear { scan_counts.old ≡ cleared (as_setup setup.now) }
+    requires f_long { (setup.now.params.window_size < length setup.now.f.now) × (scan_counts.old ≡ cleared (as_setup setup.now)) }
     requires usual { Usual (as_setup setup.now) }
     ensures { ReadsLow (as_setup setup.now) (entries_of ring.now) result
         scan_counts.new }
@@ -101,7 +101,8 @@ pub fn find_low(
     scan_counts: &mut [u16],
 ) -> Option<LowStarts>
     requires windowed { WindowCounted setup.now ring.now window_counts.now }
-    requires clear { scan_counts.old ≡ cleared (as_setup setup.now) }
+    requires f_long { (setup.now.params.window_size < length setup.now.f.now) × (scan_counts.old ≡ cleared (as_setup setup.now)) }
+    requires shaped { Shaped setup.now.params setup.now.ln.now setup.now.f.now }
     ensures low { IfSome result (LowBounds (as_setup setup.now) (entries_of ring.now)) }
     ensures clear { scan_counts.new ≡ scan_counts.old }
 {
@@ -113,7 +114,7 @@ pub fn find_low(
     a.low
 }
 
-// Whether nothing is found, and the oldest entry that is counted.
+// Whether nothing is found, and the oldest entry that is counted, which is there in both cases.
 #[derive(Clone, Copy)]
 struct NearRead {
     told: bool,
@@ -130,7 +131,7 @@ fn read_near(
     scan_counts: &mut [u16],
 ) -> NearRead
     requires windowed { WindowCounted setup.now ring.now window_counts.now }
-    requires clear { (scan_counts.old ≡ cleared (as_setup setup.now)) × (age + near_starts < ring.now.len) }
+    requires f_long { (setup.now.params.window_size < length setup.now.f.now) × (scan_counts.old ≡ cleared (as_setup setup.now)) × (age + near_starts < ring.now.len) }
     requires low_bounds { LowBounds (as_setup setup.now) (take (ring.now.len - age) (entries_of ring.now)) low }
     ensures { ReadsNear (as_setup setup.now) (entries_of ring.now) result
         scan_counts.new }
@@ -171,6 +172,7 @@ fn read_near(
 }
 
 // Whether low starts that were found `age` entries ago tell that a search finds nothing, from cleared counts, which are cleared again.
+#[inline(never)]
 pub fn low_tells(
     setup: &Setup,
     low: LowStarts,
@@ -180,7 +182,7 @@ pub fn low_tells(
     scan_counts: &mut [u16],
 ) -> bool
     requires windowed { WindowCounted setup.now ring.now window_counts.now }
-    requires clear { scan_counts.old ≡ cleared (as_setup setup.now) }
+    requires f_long { (setup.now.params.window_size < length setup.now.f.now) × (scan_counts.old ≡ cleared (as_setup setup.now)) }
     requires low_bounds { LowBounds (as_setup setup.now) (take (ring.now.len - age) (entries_of ring.now)) low }
     ensures { TellsNone (as_setup setup.now) (entries_of ring.now) result
         scan_counts.new }

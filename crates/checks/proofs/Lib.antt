@@ -1,4 +1,3 @@
 pub mod Bytes
-pub mod Sizes
 pub mod Passing
 pub mod Refusing

@@ -1,6 +1,5 @@
--- A refusal of the first checks is that of all.
-use Rattle.std.proofs.Common.{◌≡◌, ℕ, ◌<◌, Bool, true, false, cond, List, [], ◌∷◌, ◌++◌, refl, sym, ◌∙◌, arith, get_or, ap}
-use Rattle.checks.specs.Checks.{Check, first}
+-- A refusal's number is above 0, and no other refusal has it.
+use Rattle.std.proofs.Common.{◌≡◌, ℕ, ◌<◌, List, [], ◌∷◌, refl, sym, ◌∙◌, arith, get_or, ap}
 use Rattle.checks.specs.declared.refusal.Refusal.{Refusal}
 use Rattle.checks.specs.declared.refusal.Refusal.TheVariants.{KmerOutside, HighByte, TooFewLetters, WindowBelow, WindowAbove, BadThreshold, BadGc, MinStartBelow, BadXdrop, TooManyLetters, ShortSlice, BadReplacement, OtherByte, UnusualList, BadQuestion, NoBudget, PlaceOutside, HighTable, OutsideProfile, BadLength}
 use Rattle.checks.specs.Refusal.{number}
@@ -26,19 +25,6 @@ number_positive PlaceOutside = omega arith
 number_positive HighTable = omega arith
 number_positive OutsideProfile = omega arith
 number_positive BadLength = omega arith
-
-first_before : (cs ds : List Check) → 0 < first cs → first (cs ++ ds) ≡ first cs
-first_before [] ds h = absurd (omega arith)
-first_before (c ∷ cs) ds h = go c.fails h (λ k. first_before cs ds k)
-  where
-    go : (b : Bool) → 0 < cond b c.number (first cs) → (0 < first cs → first (cs ++ ds) ≡ first cs)
-        → cond b c.number (first (cs ++ ds)) ≡ cond b c.number (first cs)
-    go true k ih = refl
-    go false k ih = ih k
-
--- The refusal of the first checks cs, where ds come after.
-pub refused_before : (cs ds : List Check) (e : Refusal) → number e ≡ first cs → number e ≡ first (cs ++ ds)
-refused_before cs ds e h = let p = number_positive e in h ∙ sym (first_before cs ds (omega arith))
 
 -- A number has one refusal.
 abbrev refusals : List Refusal

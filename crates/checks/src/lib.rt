@@ -6,7 +6,7 @@ mod refusal;
 mod sequence;
 
 ghost use Rattle.std.specs.Prelude.{◌≡◌, ◌+◌, ltb};
-ghost use Rattle.checks.specs.Tests.{kmer_outside, is_other, any_high, any_other, too_few_letters, window_below, window_above, threshold_bad};
+ghost use Rattle.checks.specs.Tests.{kmer_outside, is_other, any_high, any_other, window_above, threshold_bad};
 ghost use Rattle.checks.specs.Tests.{min_start_below, too_many_letters, most_intervals};
 
 pub use refusal::Refusal;
@@ -62,18 +62,6 @@ pub fn below_sum(x: usize, a: usize, b: usize) -> bool
         return true;
     }
     x - b < a
-}
-
-pub fn too_few_letters(n: usize, k: usize) -> bool
-    ensures { result ≡ too_few_letters n k }
-{
-    below_sum(n, k, 1)
-}
-
-pub fn window_below(w: usize, k: usize) -> bool
-    ensures { result ≡ window_below w k }
-{
-    below_sum(w, k, 1)
 }
 
 pub fn window_above(w: usize) -> bool

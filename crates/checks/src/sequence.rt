@@ -21,10 +21,10 @@ pub fn check_sequence(sequence: &[u8], k: usize, w: usize) -> Result<(), Refusal
     if bytes.other {
         return Err(Refusal::OtherByte);
     }
-    if crate::too_few_letters(sequence.len(), k) {
+    if crate::below_sum(sequence.len(), k, 1) {
         return Err(Refusal::TooFewLetters);
     }
-    if crate::window_below(w, k) {
+    if crate::below_sum(w, k, 1) {
         return Err(Refusal::WindowBelow);
     }
     if crate::window_above(w) {

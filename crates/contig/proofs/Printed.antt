@@ -1,6 +1,6 @@
 -- What is printed in each case of a run, and that it fits a text of 49,167 bytes: 4,096 lines of 12 bytes and the count's line of 15.
-use Prim.Native.Nat.{ℕ, zero, suc, ◌≤◌, ◌<◌}
-use mathlib.Core.Path.{◌≡◌, refl, sym, ap, ◌∙◌}
+use Prim.Native.Nat.{ℕ, zero, suc, ◌+◌, ◌≤◌, ◌<◌}
+use mathlib.Core.Path.{◌≡◌, sym, ap, ◌∙◌}
 use mathlib.Core.Logic.{⊎_elim}
 use mathlib.Core.List.{List}
 use native.Mathlib.Omega.{arith}
@@ -13,6 +13,7 @@ use Rattle.intervals.proofs.Slice.{wrote_list}
 use Rattle.intervals.proofs.Shape.{ascending_inside, canonical_room}
 use Rattle.intervals.proofs.Order.{lt_or_le}
 use Rattle.report.specs.Letters.{letters_of}
+use Rattle.report.specs.declared.text.Text.{Text}
 use Rattle.report.specs.Terms.Held.{Held}
 use Rattle.report.specs.Text.{report, refusal_line, size_line}
 use Rattle.report.specs.Terms.Fits.{Fits}
@@ -30,8 +31,8 @@ few : (s : List ℕ) → length s ≤ 32768 → answered (contig_refusal s) (con
 unfolding printed
 few s h = rw (le-ltb 32768 (length s) h)
 
-pub refusal_fits : (n : ℕ) (d : List ℕ) → n < 4294967296 → 49167 ≤ length d → Fits (refusal_line n) d 0
-refusal_fits n d h l = record { room = simp length-append (omega (arith, length_decimal n 10 (omega arith) (omega arith))) }
+pub refusal_fits : (n : ℕ) (t : Text) → n < 4294967296 → t.len + 49167 ≤ length t.bytes.now → Fits (refusal_line n) t
+refusal_fits n t h l = record { room = simp length-append (omega (arith, length_decimal n 10 (omega arith) (omega arith))) }
 
 module _ (s : List ℕ) (few_letters : length s ≤ 32768) where
   pub refused : {n : ℕ} → 0 < n → n ≡ contig_refusal s → refusal_line n ≡ printed s
@@ -49,8 +50,8 @@ module _ (s : List ℕ) (few_letters : length s ≤ 32768) where
       pub count_room : count ≤ 4096
       count_room = omega (arith, canonical_room (length s) 7 (contig_mask s) shape, wrote.count_is)
 
-      pub report_fits : (d : List ℕ) → 49167 ≤ length d → Fits (report (take count xs')) d 0
-      report_fits d l =
+      pub report_fits : (t : Text) → t.len + 49167 ≤ length t.bytes.now → Fits (report (take count xs')) t
+      report_fits t l =
           let is : List Interval = contig_mask s in
           let h = count_room in
           let e : length is ≡ count = sym wrote.count_is in

@@ -2,10 +2,10 @@
 
 #![tactic(auto)]
 
-ghost use Rattle.std.specs.Prelude.{◌≡◌, ℕ, ◌≤◌, ◌<◌, List, length, IfOk, OnOk, OnErr};
+ghost use Rattle.std.specs.Prelude.{◌≡◌, ℕ, ◌+◌, ◌≤◌, ◌<◌, List, length, IfOk, OnOk, OnErr};
 ghost use Rattle.io.specs.Counts.{IsPrefixLen};
+ghost use Rattle.report.specs.Adds.{Adds};
 ghost use Rattle.report.specs.Terms.Held.{Held};
-ghost use Rattle.report.specs.Written.{Written};
 ghost use Rattle.checks.specs.Refusal.{number_of};
 ghost use Rattle.intervals.specs.Interval.{Canonical, Wrote};
 ghost use Rattle.contig.specs.Run.{most_letters, list_room, text_room, contig_refusal, contig_mask};
@@ -15,6 +15,7 @@ use checks::Refusal;
 use intervals::{Interval, MarksOut};
 use longdust::LongdustOptions;
 use mask::Workspace;
+use report::Text;
 use scans::ForwardPosition;
 
 // The most letters that are taken, and room for one more, so that too many show; room for their intervals, and for the longest text.
@@ -78,39 +79,45 @@ pub fn mask_letters(letters: &[u8], list: &mut [Interval]) -> Result<usize, Refu
     Ok(answer.count)
 }
 
-// Writes what `track` prints for the letters to the front of the text, and answers how many bytes that is.
-pub fn write_answer(letters: &[u8], text: &mut [u8]) -> usize
-    requires { text_room ≤ length text.old }
-    ensures written { Written (printed letters.now) text.old 0 text.new result }
-    ensures prefix_len { IsPrefixLen result text.new }
+// Writes what `track` prints for the letters.
+pub fn write_answer(letters: &[u8], text: &mut Text)
+    requires { text.old.len + text_room ≤ length text.old.bytes.now }
+    ensures written { Adds (printed letters.now) text.old text.new }
+    ensures prefix_len { IsPrefixLen text.new.len text.new.bytes.now }
 {
     if MOST_LETTERS < letters.len() {
-        return report::write_size_refusal(text, 0);
+        text.write_size_refusal();
+        return;
     }
     let mut list = no_intervals();
     match mask_letters(letters, &mut list) {
-        Ok(count) => report::write_report(&list[..count], text, 0),
-        Err(refusal) => report::write_refusal(refusal.number(), text, 0),
+        Ok(count) => text.write_report(&list[..count]),
+        Err(refusal) => text.write_refusal(refusal.number()),
     }
 }
 
-// Writes what `track` prints for bytes that were read block by block: a buffer that would show too many holds `count` letters of them.
-pub fn write_held(letters: &[u8], count: usize, text: &mut [u8]) -> usize
-    requires { (most_letters < length letters.now) × (count ≤ length letters.now) × (text_room ≤ length text.old) }
-    ensures written { (bytes : List ℕ) → Held bytes letters.now count
-        → Written (text_of bytes) text.old 0 text.new result }
-    ensures prefix_len { IsPrefixLen result text.new }
+// Writes what `track` prints for bytes that were read block by block: `held` has their letters, in a buffer that would show too many.
+pub fn write_held(held: &Text, text: &mut Text)
+    requires { (most_letters < length held.now.bytes.now) × (held.now.len ≤ length held.now.bytes.now)
+        × (text.old.len + text_room ≤ length text.old.bytes.now) }
+    ensures written { (bytes : List ℕ) → Held bytes held.now.bytes.now held.now.len
+        → Adds (text_of bytes) text.old text.new }
+    ensures prefix_len { IsPrefixLen text.new.len text.new.bytes.now }
 {
-    write_answer(&letters[..count], text)
+    write_answer(&held.bytes[..held.len], text);
 }
 
 // Writes what `track` prints for all bytes that it reads.
-pub fn write_text(bytes: &[u8], text: &mut [u8]) -> usize
-    requires { text_room ≤ length text.old }
-    ensures written { Written (text_of bytes.now) text.old 0 text.new result }
-    ensures prefix_len { IsPrefixLen result text.new }
+pub fn write_text(bytes: &[u8], text: &mut Text)
+    requires { text.old.len + text_room ≤ length text.old.bytes.now }
+    ensures written { Adds (text_of bytes.now) text.old text.new }
+    ensures prefix_len { IsPrefixLen text.new.len text.new.bytes.now }
 {
     let mut letters = [0u8; LETTERS_ROOM];
-    let count = report::keep_letters(bytes, &mut letters, 0);
-    write_held(&letters, count, text)
+    let mut held = Text {
+        bytes: &mut letters,
+        len: 0,
+    };
+    held.keep_letters(bytes);
+    write_held(&held, text);
 }

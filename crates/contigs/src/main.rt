@@ -12,6 +12,7 @@ use std::io::{ErrorKind, Read, Result};
 
 // Reads until the reader ends or there is no more room, and answers how many bytes that is; the text goes by the bytes that there
 // is room for (`first_bytes`). A loop has to be shown to end: this one would after 2^64 - 1 reads.
+// A loop of its own: `replay` takes a failure for the end, and `track` keeps the letters alone.
 fn read_file<R: Read>(reader: &mut R, file: &mut [u8]) -> Result<usize>
     requires { length file.old ≡ file_room }
     ensures prefix_len { IfOk result (λ count. IsPrefixLen count file.new) }

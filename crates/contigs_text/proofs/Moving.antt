@@ -1,7 +1,6 @@
 -- The writer moves on: by a line of the record in the list, by a record, and by one part after another.
 use Prim.Native.Nat.{ℕ, ◌+◌, ◌≤◌, ◌<◌}
 use mathlib.Core.Path.{◌≡◌, sym, ap, ap₂, ◌∙◌}
-use mathlib.Core.Bool.{Bool, true, false}
 use mathlib.Core.List.{List, [], ◌∷◌, ◌++◌, append_assoc}
 use native.Mathlib.Numerals.{add-one}
 use native.Mathlib.Omega.{arith}
@@ -16,24 +15,24 @@ use Rattle.fasta.specs.declared.Fault.{Fault}
 use Rattle.fasta.specs.Contents.{Contents, contents_of, records_of}
 use Rattle.fasta.specs.Steps.{bytes_of, Told}
 use Rattle.report.specs.Letters.{letters_of}
-use Rattle.report.specs.Written.{Written}
+use Rattle.report.specs.declared.text.Text.{Text}
+use Rattle.report.specs.Adds.{Adds}
 use Rattle.report.specs.Terms.Fits.{Fits}
-use Rattle.report.proofs.Writing.{next}
+use Rattle.report.proofs.Writing.{added_length, next}
 use Rattle.contigs_text.specs.Text.{name_line, mask_lines, record_text, records_text}
-use Rattle.contigs_text.specs.Parts.{left, left_if, PartOf, Standing, steps, steps_if, Moved}
+use Rattle.contigs_text.specs.Parts.{left, PartOf, Standing, steps, Moved}
 use Rattle.contigs_text.specs.declared.Place.{Place}
-use Rattle.contigs_text.specs.declared.Filled.{Filled}
-use Rattle.contigs_text.proofs.Opening.{named, part_none, part_as, part_left}
+use Rattle.contigs_text.proofs.Opening.{named, part_none, part_as}
 
 -- One part after another.
-pub part_next : {all mid rest d d' d'' : List ℕ} {from at end : ℕ} → length d' ≡ length d → PartOf all d from d' at mid → PartOf mid d' at d'' end rest
-    → PartOf all d from d'' end rest
-part_next {rest = rest} {d = d} {from = from} l p q =
-    let f : Fits (p.part ++ q.part) d from = record { room = omega (arith, q.fits.room, p.written.end_is, length-append p.part q.part) } in
+pub part_next : {all mid rest : List ℕ} {t t' t'' : Text} → PartOf all t t' mid → PartOf mid t' t'' rest → PartOf all t t'' rest
+part_next {rest = rest} {t = t} p q =
+    let l = added_length p.fits p.added in
+    let f : Fits (p.part ++ q.part) t = record { room = omega (arith, q.fits.room, p.added.written.end_is, length-append p.part q.part) } in
     record {
       part = p.part ++ q.part;
       fits = f;
-      written = next f p.written q.written;
+      added = next f p.added q.added;
       all_is = append_assoc p.part q.part rest ∙ ap (λ (x : List ℕ). p.part ++ x) q.all_is ∙ p.all_is;
     }
 
@@ -67,21 +66,20 @@ module _ (file : List ℕ) (list : List Interval) (p : Place) (s : Standing list
       (ap (λ (is : List Interval). mask_lines (bytes_of p.name file) is ++ records_text (records_of (contents_of (drop p.next.at file))))
       (drop_of_length-le (take p.count list) (let q : length (take p.count list) ≤ p.line = omega arith in q)))
 
-  module _ {d d' : List ℕ} {from end : ℕ} where
-    pub moved_line : p.line < p.count → {name : List ℕ} {i : Interval} → name ≡ bytes_of p.name file → i ≡ (get_or list p.line (interval 0 0))
-        → Fits (name_line name i) d from → Written (name_line name i) d from d' end
-        → Moved file list p d from list d'
-        (record { place = record { name = p.name; line = p.line + 1; count = p.count; next = p.next }; end = end; more = true })
-    moved_line h {name} {i} en ei f w =
+  module _ {t t' : Text} where
+    pub moved_line : p.line < p.count → {name : List ℕ} → name ≡ bytes_of p.name file
+        → Fits (name_line name (get_or list p.line (interval 0 0))) t → Adds (name_line name (get_or list p.line (interval 0 0))) t t'
+        → Moved file list p t list t' (Some (record { name = p.name; line = p.line + 1; count = p.count; next = p.next }))
+    moved_line h {name} en f a =
         record {
           part =
               record {
-                part = name_line name i;
+                part = name_line name (get_or list p.line (interval 0 0));
                 fits = f;
-                written = w;
+                added = a;
                 all_is =
-                    ap₂ (λ (n : List ℕ) (j : Interval). name_line n j
-                    ++ left file list (record { name = p.name; line = p.line + 1; count = p.count; next = p.next })) en ei
+                    ap (λ (n : List ℕ). name_line n (get_or list p.line (interval 0 0))
+                    ++ left file list (record { name = p.name; line = p.line + 1; count = p.count; next = p.next })) en
                     ∙ left_line h;
               };
           stands = record { room = s.room; lines = omega arith; held = s.held };
@@ -92,8 +90,8 @@ module _ (file : List ℕ) (list : List Interval) (p : Place) (s : Standing list
     pub moved_record : p.count ≤ p.line → {name lines : Part} {next : Cursor} → Told file p.next.at (Ok (Some (record { name = name; lines = lines; next = next })))
         → {bytes letters : List ℕ} → bytes ≡ bytes_of name file → letters ≡ bytes_of lines file → {list' : List Interval} {count : ℕ}
         → length list' ≡ length list → count ≤ 4096
-        → PartOf (record_text (named bytes (letters_of letters))) d from d' end (mask_lines bytes (take count list'))
-        → Moved file list p d from list' d' (record { place = record { name = name; line = 0; count = count; next = next }; end = end; more = true })
+        → PartOf (record_text (named bytes (letters_of letters))) t t' (mask_lines bytes (take count list'))
+        → Moved file list p t list' t' (Some (record { name = name; line = 0; count = count; next = next }))
     unfolding left records_text
     moved_record h {name} {lines} {next} told {bytes} {letters} eb el {list'} {count} l few q =
         let after : List ℕ = records_text (records_of (contents_of (drop next.at file))) in
@@ -103,7 +101,7 @@ module _ (file : List ℕ) (list : List Interval) (p : Place) (s : Standing list
               record {
                 part = q.part;
                 fits = q.fits;
-                written = q.written;
+                added = q.added;
                 all_is =
                     ap (λ (n : List ℕ). q.part ++ (mask_lines n (take count list') ++ after)) (sym eb)
                     ∙ sym (append_assoc q.part (mask_lines bytes (take count list')) after)
@@ -116,43 +114,50 @@ module _ (file : List ℕ) (list : List Interval) (p : Place) (s : Standing list
           fewer = omega arith;
         }
 
-  module _ (d : List ℕ) (from : ℕ) (h : p.count ≤ p.line) (k : from ≤ length d) where
+  module _ (t : Text) (h : p.count ≤ p.line) (k : t.len ≤ length t.bytes.now) where
     -- There is no other.
-    stopped : records_text (records_of (contents_of (drop p.next.at file))) ≡ [] → Moved file list p d from list d (record { place = p; end = from; more = false })
+    stopped : records_text (records_of (contents_of (drop p.next.at file))) ≡ [] → Moved file list p t list t None
     stopped e =
         record {
-          part = part_as (sym e ∙ left_none h) (part_none [] d from k);
-          stands = s;
+          part = part_as (sym e ∙ left_none h) (part_none [] t k);
+          stands = tt;
           fewer = omega arith;
         }
 
-    pub moved_end : Told file p.next.at (Ok None) → Moved file list p d from list d (record { place = p; end = from; more = false })
+    pub moved_end : Told file p.next.at (Ok None) → Moved file list p t list t None
     unfolding records_text
-    moved_end t = stopped (sym (ap (λ (c : Contents). records_text (records_of c)) t.contents_are))
+    moved_end told = stopped (sym (ap (λ (c : Contents). records_text (records_of c)) told.contents_are))
 
-    pub moved_fault : (fault : Fault) → Told file p.next.at (Err fault) → Moved file list p d from list d (record { place = p; end = from; more = false })
+    pub moved_fault : (fault : Fault) → Told file p.next.at (Err fault) → Moved file list p t list t None
     unfolding records_text
-    moved_fault fault t = stopped (sym (ap (λ (c : Contents). records_text (records_of c)) t.contents_are))
+    moved_fault fault told = stopped (sym (ap (λ (c : Contents). records_text (records_of c)) told.contents_are))
 
--- Steps one after another: the writer began at the place p₀ with the list list₀ and the text d₀, and stands at p.
-pub record Going (file : List ℕ) (list₀ : List Interval) (p₀ : Place) (d₀ : List ℕ) (list : List Interval) (d : List ℕ) (p : Place) (end : ℕ) : Type 0 where
-  pub part : PartOf (left file list₀ p₀) d₀ 0 d end (left file list p)
+-- Steps one after another: the writer began at the place p₀ with the list list₀ and the empty text t₀, and stands at p.
+pub record Going (file : List ℕ) (list₀ : List Interval) (p₀ : Place) (t₀ : Text) (list : List Interval) (t : Text) (p : Place) : Type 0 where
+  pub part : PartOf (left file list₀ p₀) t₀ t (left file list p)
   pub stands : Standing list p
   pub few : steps file p ≤ steps file p₀
-  pub room : end ≤ 65560
-  pub long : length d ≡ length d₀
+  pub fewer : 0 < t.len → steps file p < steps file p₀
 
-module _ {file : List ℕ} {list₀ : List Interval} {p₀ : Place} {d₀ : List ℕ} {list : List Interval} {d : List ℕ} {p : Place} {end : ℕ} (g : Going file list₀ p₀ d₀ list d p end) where
-  module _ {list' : List Interval} {d' : List ℕ} {r : Filled} (m : Moved file list p d end list' d' r) where
-    pub go_turn : r.more ≡ true → r.end ≤ 65560 → length d' ≡ length d → Going file list₀ p₀ d₀ list' d' r.place r.end
-    go_turn e h l =
+pub go_first : (file : List ℕ) (list : List Interval) (p : Place) (t : Text) → Standing list p → t.len ≡ 0 → Going file list p t list t p
+go_first file list p t s e =
+    record { part = part_none (left file list p) t (omega arith); stands = s; few = omega arith; fewer = λ h. absurd (omega arith) }
+
+module _ {file : List ℕ} {list₀ : List Interval} {p₀ : Place} {t₀ : Text} {list : List Interval} {t : Text} {p : Place} (g : Going file list₀ p₀ t₀ list t p) where
+  module _ {list' : List Interval} {t' : Text} where
+    pub go_turn : {q : Place} → Moved file list p t list' t' (Some q) → Going file list₀ p₀ t₀ list' t' q
+    go_turn m =
         record {
-          part = part_next g.long g.part (part_left (ap (λ (t : Bool). left_if t file list' r.place) e) m.part);
+          part = part_next g.part m.part;
           stands = m.stands;
-          few = omega (arith, g.few, m.fewer, ap (λ (t : Bool). steps_if t file r.place) e);
-          room = h;
-          long = l ∙ g.long;
+          few = omega (arith, g.few, m.fewer);
+          fewer = λ _. omega (arith, g.few, m.fewer);
         }
 
-    pub go_stop : Moved file list₀ p₀ d₀ 0 list' d' r
-    go_stop = record { part = part_next g.long g.part m.part; stands = m.stands; fewer = omega (arith, g.few, m.fewer) }
+    -- There is no more.
+    pub go_stop : Moved file list p t list' t' None → Moved file list₀ p₀ t₀ list' t' None
+    go_stop m = record { part = part_next g.part m.part; stands = tt; fewer = omega arith }
+
+  -- The text is full.
+  pub go_full : 0 < t.len → Moved file list₀ p₀ t₀ list t (Some p)
+  go_full h = record { part = g.part; stands = g.stands; fewer = omega (arith, g.fewer h) }

@@ -11,7 +11,8 @@ use Rattle.intervals.specs.Interval.{Wrote}
 use Rattle.intervals.proofs.Slice.{wrote_list}
 use Rattle.fasta.specs.Contents.{Record}
 use Rattle.report.specs.Letters.{letters_of}
-use Rattle.report.specs.Written.{Written}
+use Rattle.report.specs.declared.text.Text.{Text}
+use Rattle.report.specs.Adds.{Adds}
 use Rattle.report.specs.Terms.Fits.{Fits}
 use Rattle.report.specs.Terms.Held.{Held}
 use Rattle.report.proofs.Writing.{none}
@@ -23,18 +24,15 @@ abbrev pub named : List ℕ → List ℕ → Record
 named name letters = record { name = name; letters = letters }
 
 -- Nothing was written yet.
-pub part_none : (all d : List ℕ) (from : ℕ) → from ≤ length d → PartOf all d from d from all
-part_none all d from h = record { part = []; fits = record { room = omega arith }; written = none d from; all_is = refl }
+pub part_none : (all : List ℕ) (t : Text) → t.len ≤ length t.bytes.now → PartOf all t t all
+part_none all t h = record { part = []; fits = record { room = omega arith }; added = none t; all_is = refl }
 
-pub part_as : {all all' d d' : List ℕ} {from end : ℕ} {rest : List ℕ} → all ≡ all' → PartOf all d from d' end rest → PartOf all' d from d' end rest
-part_as e p = record { part = p.part; fits = p.fits; written = p.written; all_is = p.all_is ∙ e }
-
-pub part_left : {all d d' rest rest' : List ℕ} {from end : ℕ} → rest ≡ rest' → PartOf all d from d' end rest → PartOf all d from d' end rest'
-part_left e p = record { part = p.part; fits = p.fits; written = p.written; all_is = ap (λ (l : List ℕ). p.part ++ l) (sym e) ∙ p.all_is }
+pub part_as : {all all' rest : List ℕ} {t t' : Text} → all ≡ all' → PartOf all t t' rest → PartOf all' t t' rest
+part_as e p = record { part = p.part; fits = p.fits; added = p.added; all_is = p.all_is ∙ e }
 
 -- All of it was written.
-pub part_all : {xs all d d' rest : List ℕ} {from end : ℕ} → Fits xs d from → Written xs d from d' end → xs ≡ all → rest ≡ [] → PartOf all d from d' end rest
-part_all {xs} h w e r = record { part = xs; fits = h; written = w; all_is = ap (λ (l : List ℕ). xs ++ l) r ∙ append-nil xs ∙ e }
+pub part_all : {xs all rest : List ℕ} {t t' : Text} → Fits xs t → Adds xs t t' → xs ≡ all → rest ≡ [] → PartOf all t t' rest
+part_all {xs} h a e r = record { part = xs; fits = h; added = a; all_is = ap (λ (l : List ℕ). xs ++ l) r ∙ append-nil xs ∙ e }
 
 pub no_lines : (name : List ℕ) (list : List Interval) → mask_lines name (take 0 list) ≡ []
 unfolding mask_lines

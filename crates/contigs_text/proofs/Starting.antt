@@ -14,20 +14,21 @@ use Rattle.intervals.specs.declared.Interval.{Interval}
 use Rattle.intervals.proofs.Order.{lt_or_le}
 use Rattle.fasta.specs.Contents.{contents_of, records_of, fault_of}
 use Rattle.report.specs.Text.{refusal_line, size_line}
+use Rattle.report.specs.declared.text.Text.{Text}
 use Rattle.report.specs.Terms.Fits.{Fits}
 use Rattle.report.proofs.Decimal.{length_decimal}
 use Rattle.contigs_text.specs.Text.{file_room, mask_lines, records_text, unless_fault, file_text}
-use Rattle.contigs_text.specs.Parts.{left}
+use Rattle.contigs_text.specs.Parts.{emptied, left}
 use Rattle.contigs_text.specs.declared.Place.{Place}
 
 abbrev pub start : Place
 start = record { name = record { start = 0; end = 0 }; line = 0; count = 0; next = record { at = 0 } }
 
-pub refusal_fits : (n : ℕ) (d : List ℕ) → n < 4294967296 → 131120 ≤ length d → Fits (refusal_line n) d 0
-refusal_fits n d h l = record { room = simp length-append (omega (arith, length_decimal n 10 (omega arith) (omega arith))) }
+pub refusal_fits : (n : ℕ) (t : Text) → n < 4294967296 → 131120 ≤ length t.bytes.now → Fits (refusal_line n) (emptied t)
+refusal_fits n t h l = record { room = simp length-append (omega (arith, length_decimal n 10 (omega arith) (omega arith))) }
 
-pub size_fits : (d : List ℕ) → 131120 ≤ length d → Fits size_line d 0
-size_fits d l = record { room = omega arith }
+pub size_fits : (t : Text) → 131120 ≤ length t.bytes.now → Fits size_line (emptied t)
+size_fits t l = record { room = omega arith }
 
 pub too_many : (file : List ℕ) → 65536 < length file → size_line ≡ file_text file
 unfolding file_text

@@ -82,6 +82,7 @@ impl Cursor {
     }
 }
 
+// A `loop`: it ends in two ways, and a `while let` does not tell which it was.
 pub fn first_fault(file: &[u8]) -> Option<Fault>
     ensures { number_of result ≡ fault_of (contents_of file.now) }
 {
@@ -103,6 +104,8 @@ pub fn bytes(file: &[u8], part: Part) -> &[u8]
     let start = part.start.min(end);
     &file[start..end]
 }
+
+// The four below take a place in the file and answer one: on the rest of the file alone, their caller would add up lengths.
 
 // Past the empty lines.
 #[tactic(auto, using(crate::proofs::Lengths::of_empty))]

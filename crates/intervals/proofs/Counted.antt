@@ -126,11 +126,3 @@ covered_equal is js a (suc b) e =
     (covered_same is js b (e b le (omega arith)))
     ∙ sym (covered_more js a b le))
     (lt_or_le b a)
-
--- An interval of the list, its own letters.
-pub covered_own : (is : List Interval) (j : ℕ) → j < length is → (get_or is j (interval 0 0)).start ≤ (get_or is j (interval 0 0)).end
-    → covered_in is (get_or is j (interval 0 0)).start (get_or is j (interval 0 0)).end
-    ≡ (get_or is j (interval 0 0)).end - (get_or is j (interval 0 0)).start
-covered_own is j h l =
-    let i : Interval = get_or is j (interval 0 0) in
-    covered_all is i.start i.end l (λ x a b. covers_at is j x h (a, b))

@@ -58,6 +58,7 @@ fn count_staying(list: &[Interval], start: u32) -> usize
 }
 
 // Saves [start, end) to the list of the first `count` entries, and answers how many there are then.
+// A list and a count: the run's state goes in and out by value, so it cannot hold a lent list.
 #[tactic(auto, using(crate::proofs::SaveSteps::of_save))]
 pub fn save_interval(list: &mut [Interval], count: usize, start: u32, end: u32) -> usize
     requires count_in_bounds { count ≤ length list.old }

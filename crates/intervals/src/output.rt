@@ -17,6 +17,7 @@ impl<'a> MarksOut<'a> {
     ghost use Rattle.intervals.specs.Out.{SameOut};
 
     /// Puts an interval and its mark after the first `count` entries if it has a letter, and returns how many there are then.
+    // The count is no field: a caller lends a list and marks, and is told how many there are.
     #[tactic(auto, using(crate::proofs::Pushing::of_push))]
     pub fn push(&mut self, count: usize, interval: Interval, mark: u8) -> usize
         requires room { count + length (nonempty interval.start interval.end) ≤ length self.old.list.now }

@@ -5,7 +5,7 @@ use mathlib.Core.List.{[], ◌∷◌}
 use Prim.Native.Nat.{ℕ}
 use lib.Ieee.{binary64, of_bits, round}
 use Rattle.checks.specs.Tests.{any_byte}
-use Rattle.scans.specs.declared.Xdrop.TheVariants.{Off}
+use Rattle.std.specs.Prelude.{None}
 use Rattle.tables.specs.declared.GcOption.TheVariants.{Uniform}
 use Rattle.longdust.specs.declared.LongdustOptions.{LongdustOptions}
 use Rattle.longdust.specs.declared.Lent.{Lent}
@@ -23,7 +23,7 @@ options k w =
       score_threshold = threshold06;
       kmer = k;
       gc = Uniform;
-      xdrop = Off;
+      xdrop = None;
       min_start_cnt = 3;
       approx = false;
       forward_only = false;

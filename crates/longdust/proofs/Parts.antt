@@ -10,7 +10,7 @@ use Rattle.checks.specs.Tests.{most_intervals}
 use Rattle.intervals.specs.declared.output.MarksOut.{MarksOut}
 use Rattle.scans.specs.declared.Params.{Params}
 use Rattle.mask.specs.declared.Workspace.{Workspace}
-use Rattle.mask.specs.Terms.Both.{WorkLent, OutLent, Freed}
+use Rattle.mask.specs.Terms.Both.{ForwardRoom, ReverseRoom, OutRoom, Freed}
 use Rattle.longdust.specs.declared.LongdustOptions.{LongdustOptions}
 use Rattle.longdust.specs.Buffers.{lends, lengths}
 use Rattle.longdust.specs.Terms.Inner.{Admitted}
@@ -46,29 +46,28 @@ module _ (o : LongdustOptions) (n : ℕ) (p : Params) (k : p.kmer ≡ o.kmer) (v
       }
 
   module _ (ln f : List Float) (cs : List ℕ) (w : Workspace) (out : MarksOut) (a : Admitted o n (lengths (lends ln f cs w out))) where
-    pub work_lent : WorkLent p n w
-    work_lent =
-        let c = a.bounds in
+    pub forward_room : ForwardRoom p n w
+    forward_room =
         let g = a.enough in
         let e = kmers in
         let r = rows in
         record {
-          runs =
-              record {
-                kmer_some = omega (arith, c.kmer_low);
-                kmer_small = omega (arith, c.kmer_high);
-                letters_in = omega (arith, a.letters_high);
-                wide = omega (arith, c.window_low, c.kmer_low);
-                small = omega (arith, c.window_high);
-              };
           queue = omega (arith, g.queue);
           window_counts = omega (arith, g.window_counts);
           scan_counts = omega (arith, g.scan_counts);
           candidates = omega (arith, g.candidates);
-          reverse_codes = g.reverse_codes;
-          forward_list = omega (arith, g.forward_list);
-          reverse_list = omega (arith, g.reverse_list);
+          list = omega (arith, g.forward_list);
         }
 
-    pub out_lent : OutLent p n out
-    out_lent = let g = a.enough in let r = rows in record { list = omega (arith, g.list); marks = omega (arith, g.marks) }
+    pub reverse_room : ReverseRoom p n w
+    reverse_room =
+        let g = a.enough in
+        let s = forward_room in
+        let r = rows in
+        record {
+          room = record { queue = s.queue; window_counts = s.window_counts; scan_counts = s.scan_counts; candidates = s.candidates; list = omega (arith, g.reverse_list) };
+          codes = g.reverse_codes;
+        }
+
+    pub out_room : OutRoom p n out
+    out_room = let g = a.enough in let r = rows in record { list = omega (arith, g.list); marks = omega (arith, g.marks) }

@@ -1,12 +1,10 @@
 -- The paper, 'Checking order': the checks of both calls, read from the front; the first that fails decides.
-use Rattle.std.specs.Prelude.{ℕ, ◌+◌, ◌^◌, Bool, false, not, ◌&&◌, ◌||◌, List, [], ◌∷◌, ltb, eqb, length}
+use Rattle.std.specs.Prelude.{ℕ, ◌+◌, ◌^◌, Bool, false, not, Option, None, Some, ◌&&◌, ◌||◌, List, [], ◌∷◌, ltb, eqb, length}
 use Rattle.std.specs.Float.Ieee.{le}
 use Rattle.floats.specs.Binary64.{zero64, one64}
 use Rattle.checks.specs.Checks.{Check, check, first}
 use Rattle.checks.specs.Tests.{kmer_outside, any_high, any_other, too_few_letters, window_below, window_above, threshold_bad}
 use Rattle.checks.specs.Tests.{min_start_below, too_many_letters, most_intervals}
-use Rattle.scans.specs.declared.Xdrop.{Xdrop}
-use Rattle.scans.specs.declared.Xdrop.TheVariants.{Off, Length}
 use Rattle.tables.specs.declared.GcOption.{GcOption}
 use Rattle.tables.specs.declared.GcOption.TheVariants.{Uniform, Fixed, Auto}
 use Rattle.longdust.specs.declared.LongdustOptions.{LongdustOptions}
@@ -19,9 +17,9 @@ gc_bad (Fixed x) = not (le zero64 x && le x one64)
 gc_bad Auto = false
 
 -- xdrop is 0 (none passes).
-unfoldable pub xdrop_bad : Xdrop → Bool
-xdrop_bad Off = false
-xdrop_bad (Length l) = eqb l 0
+unfoldable pub xdrop_bad : Option ℕ → Bool
+xdrop_bad None = false
+xdrop_bad (Some l) = eqb l 0
 
 -- A lent buffer is shorter than listed.
 unfoldable pub too_short_of : ℕ → ℕ → ℕ → Lent → Bool

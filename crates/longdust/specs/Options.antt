@@ -1,8 +1,7 @@
 -- The paper, 'Tables and the program': `LongdustOptions::default` of the Rust.
-use Rattle.std.specs.Prelude.{false, Float}
+use Rattle.std.specs.Prelude.{false, Some, Float}
 use Rattle.std.specs.Float.{binary64}
 use Rattle.std.specs.Float.Ieee.{of_bits}
-use Rattle.scans.specs.declared.Xdrop.TheVariants.{Length}
 use Rattle.tables.specs.declared.GcOption.TheVariants.{Uniform}
 use Rattle.longdust.specs.declared.LongdustOptions.{LongdustOptions}
 
@@ -17,7 +16,7 @@ defaults =
       score_threshold = threshold06;
       kmer = 7;
       gc = Uniform;
-      xdrop = Length 50;
+      xdrop = Some 50;
       min_start_cnt = 3;
       approx = false;
       forward_only = false;

@@ -12,7 +12,6 @@ ghost use Rattle.longdust.specs.Options.{defaults};
 pub use calls::process::process;
 pub use calls::process_tables::process_tables;
 pub use refusals::xdrop_bad;
-use scans::Xdrop;
 use tables::GcOption;
 
 // The options of a request, with the Rust's names.
@@ -22,7 +21,7 @@ pub struct LongdustOptions {
     pub score_threshold: f64,
     pub kmer: usize,
     pub gc: GcOption,
-    pub xdrop: Xdrop,
+    pub xdrop: Option<u32>,
     pub min_start_cnt: u16,
     pub approx: bool,
     pub forward_only: bool,
@@ -39,7 +38,7 @@ impl LongdustOptions {
             score_threshold: 0.6,
             kmer: 7,
             gc: GcOption::Uniform,
-            xdrop: Xdrop::Length(50),
+            xdrop: Some(50),
             min_start_cnt: 3,
             approx: false,
             forward_only: false,
@@ -48,6 +47,7 @@ impl LongdustOptions {
 }
 
 // The answer to an accepted request: how many intervals its mask has, and the flag.
+// A count alone: the mask stands at the front of the list that the caller lent.
 #[derive(Clone, Copy)]
 pub struct Answer {
     pub count: usize,

@@ -13,7 +13,6 @@ use checks::{
 use intervals::MarksOut;
 use letters::below_n_kmers;
 use mask::Workspace;
-use scans::Xdrop;
 use tables::GcOption;
 
 #[tactic(auto, unfolding(crate::specs::Checks::gc_bad))]
@@ -28,12 +27,12 @@ fn gc_bad(gc: GcOption) -> bool
 }
 
 #[tactic(auto, unfolding(crate::specs::Checks::xdrop_bad))]
-pub fn xdrop_bad(xdrop: Xdrop) -> bool
+pub fn xdrop_bad(xdrop: Option<u32>) -> bool
     ensures { result ≡ xdrop_bad xdrop }
 {
     match xdrop {
-        Xdrop::Off => false,
-        Xdrop::Length(l) => l == 0,
+        None => false,
+        Some(l) => l == 0,
     }
 }
 

@@ -1,10 +1,8 @@
 -- What the numbers of the calls for C stand for, and the number that such a call returns.
-use Rattle.std.specs.Prelude.{ℕ, zero, suc, Bool, not, cond, eqb, ℤ, pos, negsuc, Float, Result, Ok, Err}
+use Rattle.std.specs.Prelude.{ℕ, zero, suc, Bool, not, cond, eqb, ℤ, pos, negsuc, Float, Result, Ok, Err, Option, None, Some}
 use Rattle.std.specs.Float.{nan}
 use Rattle.checks.specs.declared.refusal.Refusal.{Refusal}
 use Rattle.floats.specs.Binary64.{zero64}
-use Rattle.scans.specs.declared.Xdrop.{Xdrop}
-use Rattle.scans.specs.declared.Xdrop.TheVariants.{Off, Length}
 use Rattle.tables.specs.declared.GcOption.{GcOption}
 use Rattle.tables.specs.declared.GcOption.TheVariants.{Uniform, Fixed, Auto}
 use Rattle.longdust.specs.declared.LongdustOptions.{LongdustOptions}
@@ -22,8 +20,8 @@ abbrev pub gc_choice : ℕ → Float → GcOption
 gc_choice gc_kind gc_value = cond (eqb gc_kind 0) Uniform (cond (eqb gc_kind 1) (Fixed gc_value) (cond (eqb gc_kind 2) Auto (Fixed nan)))
 
 -- 0 stands for none.
-abbrev pub xdrop_choice : ℕ → ℕ → Xdrop
-xdrop_choice xdrop_set xdrop_length = cond (eqb xdrop_set 0) Off (Length xdrop_length)
+abbrev pub xdrop_choice : ℕ → ℕ → Option ℕ
+xdrop_choice xdrop_set xdrop_length = cond (eqb xdrop_set 0) None (Some xdrop_length)
 
 abbrev pub options_of : ℕ → ℕ → Float → ℕ → Float → ℕ → ℕ → ℕ → ℕ → ℕ → LongdustOptions
 options_of kmer window_size threshold gc_kind gc_value xdrop_set xdrop_length min_start_cnt approx forward_only =

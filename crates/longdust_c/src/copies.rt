@@ -1,4 +1,5 @@
 // The call for masked copies.
+// Kinds cross as numbers: include/longdust.h lends them so.
 
 ghost use Rattle.std.specs.Prelude.{◌≡◌, ◌<◌, length};
 ghost use Rattle.buffers.specs.Fill.{put};

@@ -1,11 +1,13 @@
 // The call that fills the tables first.
+// A twin of `longdust_process_tables`: an export cannot be generic, and what both share would take more than seven parameters.
+// Kinds cross as numbers: include/longdust.h lends them so.
 
 ghost use Rattle.longdust_c.specs.Numbers.{options_of};
 ghost use Rattle.longdust.specs.Buffers.{buffers};
 ghost use Rattle.longdust.specs.Call.{Filled};
 ghost use Rattle.longdust_c.specs.Exported.{Exported};
 
-use crate::numbers::{flag_of, gc_choice, xdrop_choice};
+use crate::numbers::{gc_choice, returned_mask, xdrop_choice};
 use intervals::{Interval, MarksOut};
 use longdust::LongdustOptions;
 use mask::Workspace;
@@ -72,14 +74,5 @@ pub extern "C" fn longdust_process(
     };
     let mut out = MarksOut { list, marks };
     let answer = longdust::process(sequence, options, ln, f, codes, &mut work, &mut out);
-    match answer {
-        Ok(mask) => {
-            *in_range = flag_of(mask.in_range);
-            mask.count as i64
-        }
-        Err(refusal) => {
-            *in_range = 0;
-            -(refusal.number() as i64)
-        }
-    }
+    returned_mask(answer, in_range)
 }

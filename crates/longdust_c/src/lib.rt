@@ -1,4 +1,4 @@
-// The calls for C and Rust hosts: on numbers and slices, each slice a pointer and its number of elements (include/longdust.h).
+// The calls for C and Rust hosts: on numbers and slices, each slice a pointer and its number of elements (include/longdust.h). So some have more than seven parameters.
 
 #![tactic(auto)]
 

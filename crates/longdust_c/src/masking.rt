@@ -1,11 +1,13 @@
 // The call on filled tables.
+// A twin of `longdust_process`: an export cannot be generic, and what both share would take more than seven parameters.
+// Kinds cross as numbers: include/longdust.h lends them so.
 
 ghost use Rattle.longdust_c.specs.Numbers.{options_of};
 ghost use Rattle.longdust.specs.Buffers.{buffers};
 ghost use Rattle.longdust.specs.Call.{Kept};
 ghost use Rattle.longdust_c.specs.Exported.{Exported};
 
-use crate::numbers::{flag_of, gc_choice, xdrop_choice};
+use crate::numbers::{gc_choice, returned_mask, xdrop_choice};
 use intervals::{Interval, MarksOut};
 use longdust::{LongdustOptions, Tables};
 use mask::Workspace;
@@ -73,14 +75,5 @@ pub extern "C" fn longdust_process_tables(
     let mut out = MarksOut { list, marks };
     let tables = Tables { ln, f };
     let answer = longdust::process_tables(sequence, options, &tables, codes, &mut work, &mut out);
-    match answer {
-        Ok(mask) => {
-            *in_range = flag_of(mask.in_range);
-            mask.count as i64
-        }
-        Err(refusal) => {
-            *in_range = 0;
-            -(refusal.number() as i64)
-        }
-    }
+    returned_mask(answer, in_range)
 }

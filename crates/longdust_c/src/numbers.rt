@@ -1,12 +1,14 @@
 // What the numbers of the calls for C stand for, and the number that such a call returns.
+// Kinds cross as numbers: include/longdust.h lends them so.
 
 ghost use Rattle.std.specs.Prelude.{◌≡◌, ◌<◌, ◌^◌, IfOk};
 ghost use Rattle.checks.specs.Refusal.{number_of};
+ghost use Rattle.longdust_c.specs.Exported.{mask_count, mask_flag};
 ghost use Rattle.longdust_c.specs.Numbers.{gc_choice, xdrop_choice, masking_of, kind_of, count_or, count_of, flag};
 
 use checks::Refusal;
+use longdust::Answer;
 use masked_copy::Masking;
-use scans::Xdrop;
 use tables::GcOption;
 use tracks::Joined;
 
@@ -23,12 +25,12 @@ pub fn gc_choice(gc_kind: u32, gc_value: f64) -> GcOption
 }
 
 // The xdrop that two numbers stand for.
-pub fn xdrop_choice(xdrop_set: u32, xdrop_length: u32) -> Xdrop
+pub fn xdrop_choice(xdrop_set: u32, xdrop_length: u32) -> Option<u32>
     ensures { result ≡ xdrop_choice xdrop_set xdrop_length }
 {
     match xdrop_set {
-        0 => Xdrop::Off,
-        _ => Xdrop::Length(xdrop_length),
+        0 => None,
+        _ => Some(xdrop_length),
     }
 }
 
@@ -69,4 +71,22 @@ pub fn flag_of(in_range: bool) -> u32
     ensures { result ≡ flag in_range }
 {
     if in_range { 1 } else { 0 }
+}
+
+// The count of a mask and its flag, or minus the refusal's number and no flag.
+pub fn returned_mask(answer: Result<Answer, Refusal>, in_range: &mut u32) -> i64
+    requires { IfOk answer (λ mask. mask.count < 2 ^ 63) }
+    ensures number { result ≡ count_or (number_of answer) (mask_count answer) }
+    ensures flag { in_range.new ≡ flag (mask_flag answer) }
+{
+    match answer {
+        Ok(mask) => {
+            *in_range = flag_of(mask.in_range);
+            mask.count as i64
+        }
+        Err(refusal) => {
+            *in_range = 0;
+            -(refusal.number() as i64)
+        }
+    }
 }

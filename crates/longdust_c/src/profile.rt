@@ -1,4 +1,5 @@
 // The small profile's call: numbers and byte slices alone, in work space of its own.
+// Kinds cross as numbers: include/longdust.h lends them so.
 
 ghost use Rattle.std.specs.Prelude.{◌≡◌, ◌<◌, length};
 ghost use Rattle.buffers.specs.Fill.{put};

@@ -1,6 +1,6 @@
 -- Both strands' lists in the fronts of their slices, merged: what the merge asks, and that it leaves the mask.
 use mathlib.Core.Path.{◌≡◌, sym, ap₂, subst, ◌∙◌}
-use mathlib.Core.Bool.{Bool, true, false}
+use mathlib.Core.Bool.{Bool, false}
 use mathlib.Core.List.{List}
 use Prim.Native.Nat.{ℕ, ◌+◌, ◌/◌, ◌≤◌, ◌<◌}
 use native.Mathlib.Omega.{arith}
@@ -15,8 +15,6 @@ use Rattle.intervals.specs.Merge.{merge, merge_marked, WroteMarked, backwards}
 use Rattle.intervals.proofs.Shape.{ascending_inside}
 use Rattle.scans.specs.Setup.{Setup}
 use Rattle.step.specs.Step.{intervals_of}
-use Rattle.strand.specs.Terms.Running.{StrandList}
-use Rattle.step.proofs.Theorems.{strand_room}
 use Rattle.mask.specs.Mask.{mask_of, marked_mask_of}
 use Rattle.mask.specs.Terms.Both.{other_intervals, Held, Mergeable}
 use Rattle.mask.proofs.Masks.{mask_room, mask_merged, marked_merged, others_shape}
@@ -25,15 +23,7 @@ use Rattle.mask.proofs.Masks.{mask_room, mask_merged, marked_merged, others_shap
 pub reversed_whole : (s d d' : List ℕ) → d' ≡ put (reverse_complement s) d → length d ≡ length s → d' ≡ reverse_complement s
 reversed_whole s d d' e l = e ∙ put_all (reverse_complement s) d (l ∙ sym (reverse_complement_length s))
 
--- A strand's list as its run leaves it.
-pub scanned : (S : Setup) (codes : List ℕ) (list list' : List Interval) (count : ℕ) → (length codes + 1) / (S.kmer + 1) ≤ length list
-    → length list' ≡ length list → StrandList S codes list' count → Held (intervals_of S codes) list' count
-scanned S codes list list' count h l r = record { list_is = r.list_is; within = omega (arith, r.count_is, strand_room S codes) }
-
--- The other strand's list: none, or that of the reverse complement.
-pub other_none : (S : Setup) (b : Bool) (s : List ℕ) (xs : List Interval) → b ≡ true → Held (other_intervals S b s) xs 0
-other_none S b s xs e = record { list_is = rw e; within = omega arith }
-
+-- The other strand's list, that of the reverse complement.
 pub other_some : (S : Setup) (b : Bool) (s t : List ℕ) (xs : List Interval) (count : ℕ) → b ≡ false → t ≡ reverse_complement s
     → Held (intervals_of S t) xs count → Held (other_intervals S b s) xs count
 other_some S b s t xs count e r q = record { list_is = q.list_is ∙ rw (r, e); within = q.within }

@@ -10,7 +10,7 @@ ghost use Rattle.scans.specs.Terms.Run.{as_setup};
 ghost use Rattle.step.specs.Step.{intervals_of};
 ghost use Rattle.mask.specs.Lent.{SameBuffers};
 ghost use Rattle.mask.specs.Mask.{marked_mask_of};
-ghost use Rattle.mask.specs.Terms.Both.{Held, other_intervals, StrandRoom, WorkLent, OutLent, Freed, Mergeable};
+ghost use Rattle.mask.specs.Terms.Both.{Held, other_intervals, Runs, StrandRoom, ForwardRoom, ReverseRoom, OutRoom, Freed, Mergeable};
 
 use intervals::{Interval, MarksOut};
 use scans::{ForwardPosition, Setup};
@@ -37,7 +37,8 @@ fn strand_list(
     candidates: &mut [ForwardPosition],
     list: &mut [Interval],
 ) -> usize
-    requires { StrandRoom setup.now.params (length codes.now) (length queue.old)
+    requires runs { Runs setup.now (length codes.now) }
+    requires room { StrandRoom setup.now.params (length codes.now) (length queue.old)
         (length window_counts.old) (length scan_counts.old) (length candidates.old) (length list.old) }
     ensures list { Held (intervals_of (as_setup setup.now) codes.now) list.new result }
     ensures queue { Free setup.now.params.window_size queue.old queue.new }
@@ -62,7 +63,8 @@ fn strand_list(
 
 // The list of the sequence, in the front of `forward_list`; returns how many intervals it has.
 fn forward_strand(setup: &Setup, codes: &[u8], work: &mut Workspace) -> usize
-    requires { WorkLent setup.now.params (length codes.now) work.old }
+    requires runs { Runs setup.now (length codes.now) }
+    requires room { ForwardRoom setup.now.params (length codes.now) work.old }
     ensures list { Held (intervals_of (as_setup setup.now) codes.now) work.new.forward_list.now result }
     ensures freed { Freed setup.now.params (length codes.now) work.old work.new }
     ensures same_buffers { SameBuffers work.old work.new }
@@ -90,7 +92,8 @@ pub fn reverse_strand(
     codes: &[u8],
     work: &mut Workspace,
 ) -> usize
-    requires { WorkLent setup.now.params (length codes.now) work.old }
+    requires runs { Runs setup.now (length codes.now) }
+    requires room { ReverseRoom setup.now.params (length codes.now) work.old }
     ensures list { Held (other_intervals (as_setup setup.now) forward_only codes.now) work.new.reverse_list.now result }
     ensures forward { work.new.forward_list.now ≡ work.old.forward_list.now }
     ensures freed { Freed setup.now.params (length codes.now) work.old work.new }
@@ -118,6 +121,7 @@ pub fn reverse_strand(
 }
 
 // Joins both strands' lists, each in the front of its slice, with marks; answers how many intervals there are then.
+// Counts beside the lists: the runs leave them in slices that are lent longer.
 fn merge_strands(
     forward_list: &[Interval],
     forward_count: usize,
@@ -145,8 +149,10 @@ pub fn both_strands(
     work: &mut Workspace,
     out: &mut MarksOut,
 ) -> usize
-    requires lent { WorkLent setup.now.params (length codes.now) work.old }
-    requires room { OutLent setup.now.params (length codes.now) out.old }
+    requires runs { Runs setup.now (length codes.now) }
+    requires forward_room { ForwardRoom setup.now.params (length codes.now) work.old }
+    requires reverse_room { ReverseRoom setup.now.params (length codes.now) work.old }
+    requires room { OutRoom setup.now.params (length codes.now) out.old }
     ensures mask { WroteMarked (marked_mask_of (as_setup setup.now) forward_only codes.now)
         out.old.list.now out.new.list.now out.old.marks.now out.new.marks.now result }
     ensures freed { Freed setup.now.params (length codes.now) work.old work.new }

@@ -23,7 +23,7 @@ use Rattle.questions.specs.Terms.Found.{first_past, IsFirstPast, Summed}
 use Rattle.questions.specs.Terms.Walked.{Walks}
 use Rattle.questions.specs.declared.Walked.{Walked}
 use Rattle.questions.proofs.Ordered.{nonempty_at}
-use Rattle.questions.proofs.Searching.{leading_le, past_yes}
+use Rattle.questions.proofs.Searching.{of_test, leading_le, past_yes}
 
 total_blocks : (is : List Interval) (s : List ℕ) (f m : ℕ) → f + m ≤ length s → ((j : ℕ) → j < f + m → get_or s j 0 ≡ block is j)
     → sum (take m (drop f s)) ≡ covered_in is (1024 * f) (1024 * (f + m))
@@ -124,4 +124,4 @@ module _ (ps : List Interval) (d : List ℕ) where
   pub summing_end : {next from j : ℕ} {l : List ℕ} → Summing ps d next from j l → length d ≤ j → l ≡ tabulate (block ps) (length d)
   summing_end s h = fill_end s.fills h ∙ put_all (tabulate (block ps) (length d)) d (sym (tabulate_length (block ps) (length d)))
 
-pub ruleset of_parts = (whole_fits, three_parts, parts_fit)
+pub ruleset of_parts = (of_test, whole_fits, three_parts, parts_fit)

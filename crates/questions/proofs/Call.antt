@@ -17,13 +17,12 @@ use Rattle.intervals.proofs.Shape.{ascending_more}
 use Rattle.intervals.proofs.Usual.{usual_agrees}
 use Rattle.questions.specs.declared.Question.{Question}
 use Rattle.questions.specs.Batch.{blocks, block, no_question, summary_of, any_bad}
-use Rattle.questions.specs.Usual.{Usual}
 use Rattle.questions.specs.Terms.Found.{Summed, AllAskable}
 use Rattle.questions.proofs.Answering.{good_at}
 
 -- A list that passed both tests.
-pub list_usual : (n : ℕ) (is : List Interval) → too_many_letters n ≡ false → usual n is ≡ true → Usual is
-list_usual n is h u = ascending_more n 2147483647 1 0 is (ltb-false 2147483647 n h) ((usual_agrees n is).0 u)
+pub list_usual : (n : ℕ) (is : List Interval) → too_many_letters n ≡ false → usual n is ≡ true → usual 2147483647 is ≡ true
+list_usual n is h u = (usual_agrees 2147483647 is).1 (ascending_more n 2147483647 1 0 is (ltb-false 2147483647 n h) ((usual_agrees n is).0 u))
 
 module _ (n : ℕ) (is : List Interval) (s : List ℕ) (room : blocks n ≤ length s) where
   summed : (b : ℕ) → b ≤ n → Summed is (put (summary_of n is) s) b

@@ -10,7 +10,7 @@ use Rattle.questions.specs.Answers.{answer, none, nearest}
 use Rattle.questions.specs.Usual.{Usual}
 use Rattle.questions.specs.Promised.{distance}
 use Rattle.questions.specs.Terms.Found.{first_past, IsFirstPast}
-use Rattle.questions.proofs.Searching.{past_yes}
+use Rattle.questions.proofs.Searching.{of_test, past_yes}
 use Rattle.questions.proofs.Nearest.{left_distance, right_distance, nearest_is, left_nearest, right_nearest}
 
 pub no_interval : (ps : List Interval) (x : ℕ) → length ps ≡ 0 → none ≡ nearest x ps
@@ -67,4 +67,4 @@ module _ (ps : List Interval) (x : ℕ) (u : Usual ps) {j : ℕ} (f : IsFirstPas
       ap (λ (k : ℕ). answer k g) (sym z)
       ∙ nearest_right (omega arith) (e ∙ ap (λ (k : ℕ). start_at k - (x + 1)) (sym z)) (λ l. absurd (omega arith))
 
-pub ruleset of_nearest = (no_interval, end_before, nearest_first, nearest_last, nearest_left, nearest_right)
+pub ruleset of_nearest = (of_test, no_interval, end_before, nearest_first, nearest_last, nearest_left, nearest_right)

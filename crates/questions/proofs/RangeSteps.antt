@@ -9,6 +9,7 @@ use Rattle.questions.specs.Answers.{answer, none, first_and_count, all_that, wit
 use Rattle.questions.specs.Usual.{Usual}
 use Rattle.questions.specs.Promised.{consecutive}
 use Rattle.questions.specs.Terms.Found.{first_past, first_from}
+use Rattle.questions.proofs.Searching.{of_test}
 use Rattle.questions.proofs.Ranges.{within_run, partly_left, partly_right, partly_none, partly_two, run_some, run_none}
 
 module _ (ps : List Interval) (u : Usual ps) where
@@ -59,6 +60,6 @@ module _ (ps : List Interval) (u : Usual ps) where
         pub over_none : f ≤ l → g ≤ r → none ≡ all_that (partly a b) is
         over_none m n = sym (ap first_and_count (partly_none is u a b h (omega arith) (omega arith)) ∙ run_none 0 0 (omega arith))
 
-pub ruleset of_within = (within_some, within_none)
+pub ruleset of_within = (of_test, within_some, within_none)
 
-pub ruleset of_partly = (over_left, over_left_only, over_two, over_right, over_none)
+pub ruleset of_partly = (of_test, over_left, over_left_only, over_two, over_right, over_none)

@@ -11,9 +11,10 @@ use borrow.Author.Tests.{leb-true, leb-false, le-leb, lt-ltb, ltb-true, ltb-fals
 use Rattle.std.specs.List.Sorted.{IsPartitionedBy, IsPartitionPoint}
 use Rattle.std.proofs.lemmas.List.{get_or_default}
 use Rattle.intervals.specs.declared.Interval.{Interval}
-use Rattle.intervals.specs.Interval.{interval}
+use Rattle.intervals.specs.Interval.{interval, usual}
 use Rattle.intervals.proofs.Order.{lt_or_le}
 use Rattle.intervals.proofs.Shape.{canonical_size}
+use Rattle.intervals.proofs.Usual.{usual_agrees}
 use Rattle.questions.specs.Usual.{Usual}
 use Rattle.intervals.specs.Terms.Leading.{leading, ends_by}
 use Rattle.questions.specs.Terms.Found.{begins_before, first_past, first_from, IsFirstPast}
@@ -70,6 +71,10 @@ module _ (is : List Interval) (x : ℕ) (u : Usual is) where
       let e : x ≤ (at is F).start = ltb-false (at is F).start x (leading_no (begins_before x) is (omega arith)) in
       let n = nonempty_at 2147483647 0 is F u (omega arith) in
       ⊎_elim (λ (q : F ≡ k). subst (λ (j : ℕ). x ≤ (at is j).start) q e) (λ q. omega (arith, apart_at 2147483647 0 is F k u q l)) (eq-or-lt_of_le h)
+
+-- A list that passed the test is of the usual kind.
+pub of_test : (is : List Interval) → usual 2147483647 is ≡ true → Usual is
+of_test is h = (usual_agrees 2147483647 is).0 h
 
 -- A list of the usual kind has few enough intervals for an index of 32 bits.
 pub usual_few : (ps : List Interval) → Usual ps → length ps ≤ 1073741824

@@ -26,7 +26,4 @@ module _ (is : List Interval) (a b : ℕ) (h : a < b) where
     pub share_small : (10000 * m) / (b - a) < 10001
     share_small = (div-lt_iff_lt-mul {k = b - a} {x = 10000 * m} {y = 10001} (omega arith)).1 (omega (arith, covered_at_most is a b))
 
-    pub remainder_small : (10000 * m) % (b - a) < b - a
-    remainder_small = mod-lt (10000 * m) (omega arith)
-
 pub ruleset of_share = (share_is, share_small)

@@ -3,14 +3,13 @@
 
 #![tactic(auto)]
 
-ghost use Rattle.std.specs.Prelude.{◌≡◌, ◌^◌, ◌+◌, ◌-◌, ◌≤◌, ◌<◌, length, sum, unwrap_or, OnOk, OnErr, IfOk};
+ghost use Rattle.std.specs.Prelude.{◌≡◌, ◌^◌, ◌+◌, ◌-◌, ◌≤◌, ◌<◌, length, sum, true, unwrap_or, OnOk, OnErr, IfOk};
 ghost use Rattle.buffers.specs.Fill.{put, tabulate};
-ghost use Rattle.intervals.specs.Interval.{interval, covered_in};
+ghost use Rattle.intervals.specs.Interval.{interval, covered_in, usual};
 ghost use Rattle.questions.specs.Answers.{none, nearest, all_that, within, inside, partly, share, answer_to};
 ghost use Rattle.questions.specs.Batch.{blocks, block, summary_of, results_of, bad_question, any_bad, refusal, list_refusal};
 ghost use Rattle.checks.specs.Refusal.{number_of};
 ghost use Rattle.questions.specs.Terms.Walked.{Walks};
-ghost use Rattle.questions.specs.Usual.{Usual, Usual_prop};
 ghost use Rattle.questions.specs.Terms.Found.{IsFirstPast, first_from, Summed, Askable, AllAskable};
 
 use checks::{Refusal, too_many_letters};
@@ -46,7 +45,7 @@ impl Answer {
 #[derive(Clone, Copy)]
 struct UsualList<'a> {
     list: &'a [Interval],
-    ghost usual: { Usual list.now } by { Usual_prop list.now },
+    ghost usual: { usual 2147483647 list.now ≡ true },
 }
 
 impl<'a> UsualList<'a> {
@@ -235,6 +234,7 @@ impl<'a> UsualList<'a> {
         }
     }
 
+    // C has the kind as a number in the question.
     #[tactic(auto, unfolding(crate::specs::Answers::answer_to))]
     fn answer_one(&self, summary: &[u32], kind: u32, a: u32, b: u32) -> Answer
         requires askable { Askable self.now.list.now summary.now kind a b }
@@ -289,6 +289,7 @@ fn total_letters(blocks: &[u32]) -> u32
     blocks.iter().sum()
 }
 
+// C has the kind as a number in the question.
 fn bad_question(n: usize, kind: u32, a: u32, b: u32) -> bool
     ensures { result ≡ bad_question n kind a b }
 {

@@ -1,13 +1,11 @@
 -- What the words of a record ask.
-use Rattle.std.specs.Prelude.{ℕ, zero, suc, Float, cond, eqb}
-use Rattle.scans.specs.declared.Xdrop.{Xdrop}
-use Rattle.scans.specs.declared.Xdrop.TheVariants.{Off, Length}
+use Rattle.std.specs.Prelude.{ℕ, zero, suc, Float, cond, eqb, Option, None, Some}
 use Rattle.tables.specs.declared.GcOption.{GcOption}
 use Rattle.tables.specs.declared.GcOption.TheVariants.{Uniform, Fixed, Auto}
 
-abbrev pub xdrop_of : ℕ → ℕ → Xdrop
-xdrop_of zero length = Off
-xdrop_of (suc set) length = Length length
+abbrev pub xdrop_of : ℕ → ℕ → Option ℕ
+xdrop_of zero length = None
+xdrop_of (suc set) length = Some length
 
 abbrev pub gc_kind : ℕ → Float → GcOption
 gc_kind zero fixed = Uniform

@@ -44,7 +44,7 @@ fn fills(lent: bool, k: usize, w: usize) -> bool
     !lent & (k <= 12) & (w <= 64)
 }
 
-// Fills the tables by their formulas where the record lends none.
+// Fills the tables by their formulas where the record lends none, which `lent` says, a yes or no.
 pub fn fill_tables(
     lent: bool,
     sequence: &[u8],

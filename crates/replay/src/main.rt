@@ -16,6 +16,7 @@ mod words;
 ghost use Rattle.std.specs.Prelude.{take};
 ghost use Rattle.std.specs.Io.KnownBytes.{Consumes};
 ghost use Rattle.io.specs.Counts.{IsPrefixLen};
+ghost use Rattle.replay.specs.Words.{Follows};
 
 use intervals::MarksOut;
 use longdust::Tables;
@@ -26,7 +27,10 @@ use words::{Malformed, Words};
 const TEXT_ROOM: usize = 65536;
 
 // Reads a record, answers its request and compares.
-fn replay_record(words: &mut Words) -> Result<bool, Malformed> {
+#[tactic(auto, using(crate::proofs::Following::following))]
+fn replay_record(words: &mut Words) -> Result<bool, Malformed>
+    ensures { Follows words.old.rest.now words.new.rest.now }
+{
     let mut ln = [1e300f64; call::LN_ROOM];
     let mut f = [1e300f64; call::F_ROOM];
     let mut letters = [0xeeu8; call::LETTERS_ROOM];
@@ -79,11 +83,14 @@ fn replay(rt: &impl Print, text: &[u8]) -> io::Result<()> {
 }
 
 // Reads until the list is full, the reader ends or a read fails, and answers how many bytes that is.
+// A loop of its own: `contigs` reads on after an interruption and tells of a failure, and `track` keeps the letters alone.
+// A loop of its own: `contigs` reads on after an interruption and tells of a failure, and `track` keeps the letters alone.
 fn read_list<R: Read>(reader: &mut R, list: &mut [u8]) -> usize
     ensures prefix_len { IsPrefixLen result list.new }
     ensures bytes { Consumes (R.remaining reader.old) (R.remaining reader.new) (take result list.new) }
 {
     let mut count = 0;
+    // No `for`: each read says how far the next turn begins.
     while count < list.len() {
         match reader.read(&mut list[count..]) {
             Ok(n) => {

@@ -2,6 +2,7 @@
 
 ghost use Rattle.std.specs.Prelude.{◌≡◌, ◌&&◌, ltb, eqb, length, get_or};
 ghost use Rattle.intervals.specs.Interval.{interval};
+ghost use Rattle.replay.specs.Words.{Follows};
 
 use crate::words::{Malformed, Words};
 use checks::Refusal;
@@ -30,12 +31,15 @@ fn has_mark(marks: &[u8], i: usize, mark: u32) -> bool
 }
 
 // Reads `count` intervals with their marks; whether they are the first ones of a list.
+#[tactic(auto, using(crate::proofs::Following::following))]
 fn intervals(
     words: &mut Words,
     count: u32,
     list: &[Interval],
     marks: &[u8],
-) -> Result<bool, Malformed> {
+) -> Result<bool, Malformed>
+    ensures { Follows words.old.rest.now words.new.rest.now }
+{
     let mut same = true;
     for i in 0..count as usize {
         let start = words.number(u32::MAX)?;
@@ -47,12 +51,15 @@ fn intervals(
 }
 
 // Reads the recorded answer, refusal, flag, count, intervals and marks; whether the answer is the recorded one.
+#[tactic(auto, using(crate::proofs::Following::following))]
 pub fn compare(
     words: &mut Words,
     answer: Result<Answer, Refusal>,
     list: &[Interval],
     marks: &[u8],
-) -> Result<bool, Malformed> {
+) -> Result<bool, Malformed>
+    ensures { Follows words.old.rest.now words.new.rest.now }
+{
     let number = words.number(13)?;
     if number != 0 {
         return Ok(matches!(answer, Err(refusal) if refusal.number() == number));

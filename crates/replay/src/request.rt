@@ -2,13 +2,14 @@
 
 ghost use Rattle.std.specs.Prelude.{◌≡◌, ◌≤◌, length, IfOk};
 ghost use Rattle.replay.specs.Request.{xdrop_of, gc_kind, letter_of};
+ghost use Rattle.replay.specs.Words.{Follows};
 
 use crate::words::{self, Malformed, Words};
 use longdust::LongdustOptions;
-use scans::Xdrop;
 use tables::GcOption;
 
 // What stands before the tables and the letters: `short` is the number of the short slice, `lent` whether tables are lent.
+// `lent` is a yes or no on which no value hangs: an enum of two names would say no more.
 #[derive(Clone, Copy)]
 pub struct Request {
     pub options: LongdustOptions,
@@ -16,15 +17,17 @@ pub struct Request {
     pub lent: bool,
 }
 
-fn xdrop(set: u32, length: u32) -> Xdrop
+// The list has this kind as a number.
+fn xdrop(set: u32, length: u32) -> Option<u32>
     ensures { result ≡ xdrop_of set length }
 {
     if set == 0 {
-        return Xdrop::Off;
+        return None;
     }
-    Xdrop::Length(length)
+    Some(length)
 }
 
+// The list has this kind as a number.
 fn gc(kind: u32, fixed: f64) -> GcOption
     ensures { result ≡ gc_kind kind fixed }
 {
@@ -36,8 +39,10 @@ fn gc(kind: u32, fixed: f64) -> GcOption
 }
 
 // Reads the words before the tables.
+#[tactic(auto, using(crate::proofs::Following::following))]
 pub fn head(words: &mut Words) -> Result<Request, Malformed>
-    ensures { IfOk result (λ r. (r.options.kmer ≤ 4294967295) × (r.options.window_size ≤ 4294967295)) }
+    ensures follows { Follows words.old.rest.now words.new.rest.now }
+    ensures lengths { IfOk result (λ r. (r.options.kmer ≤ 4294967295) × (r.options.window_size ≤ 4294967295)) }
 {
     let kmer = words.number(u32::MAX)? as usize;
     let window_size = words.number(u32::MAX)? as usize;
@@ -69,7 +74,10 @@ pub fn head(words: &mut Words) -> Result<Request, Malformed>
 }
 
 // Reads a table: the number of runs, and for each run how often its entry stands and the entry, as far as there is room.
-fn table(words: &mut Words, table: &mut [f64]) -> Result<(), Malformed> {
+#[tactic(auto, using(crate::proofs::Following::following))]
+fn table(words: &mut Words, table: &mut [f64]) -> Result<(), Malformed>
+    ensures { Follows words.old.rest.now words.new.rest.now }
+{
     let runs = words.number(66)?;
     let mut filled = 0;
     for _ in 0..runs {
@@ -83,12 +91,10 @@ fn table(words: &mut Words, table: &mut [f64]) -> Result<(), Malformed> {
 }
 
 // Reads both tables if they are lent.
-pub fn tables(
-    words: &mut Words,
-    lent: bool,
-    ln: &mut [f64],
-    f: &mut [f64],
-) -> Result<(), Malformed> {
+#[tactic(auto, using(crate::proofs::Following::following))]
+pub fn tables(words: &mut Words, lent: bool, ln: &mut [f64], f: &mut [f64]) -> Result<(), Malformed>
+    ensures { Follows words.old.rest.now words.new.rest.now }
+{
     if lent {
         table(words, ln)?;
         table(words, f)?;
@@ -104,8 +110,10 @@ fn letter(byte: u8) -> u8
 }
 
 // Reads how many letters there are, which it answers, and the letters.
+#[tactic(auto, using(crate::proofs::Following::following))]
 pub fn sequence(words: &mut Words, letters: &mut [u8]) -> Result<usize, Malformed>
-    ensures { IfOk result (λ n. n ≤ length letters.new) }
+    ensures follows { Follows words.old.rest.now words.new.rest.now }
+    ensures length { IfOk result (λ n. n ≤ length letters.new) }
 {
     let n = words.number(u32::MAX)? as usize;
     if letters.len() < n {

@@ -1,12 +1,12 @@
 // The words of the list. Every word is followed by one byte, a space or at the end of a line a newline.
 
-ghost use Rattle.std.specs.Prelude.{◌≡◌, ◌≤◌, ◌<◌, ◌+◌, true, length, take, drop, get_or, nat_eq, IfOk, OnOk, OnErr, IfSome};
+ghost use Rattle.std.specs.Prelude.{◌≡◌, ◌≤◌, ◌<◌, ◌+◌, true, cond, length, take, drop, get_or, nat_eq, IfOk, OnOk, OnErr, IfSome};
 ghost use Rattle.std.specs.Option.{unwrap_or};
 ghost use Rattle.std.specs.Float.{binary64};
 ghost use Rattle.std.specs.Float.Ieee.{of_bits};
-ghost use Rattle.replay.specs.Words.{digit_of, ends_word};
+ghost use Rattle.replay.specs.Words.{digit_of, ends_word, Reads, ReadsNumber, ReadsBits, ReadsFloat, Follows};
 
-// The list does not have its form; the number that a word began with, where one was read.
+// The list does not have its form; the number that a word began with, 0 where none was read: it is printed as it is.
 #[derive(Clone, Copy)]
 pub struct Malformed {
     pub number: u32,
@@ -69,7 +69,10 @@ impl<'a> Words<'a> {
     }
 
     // The next word; it has a byte at least.
-    fn word(&mut self) -> Result<&'a [u8], Malformed> {
+    fn word(&mut self) -> Result<&'a [u8], Malformed>
+        ensures ok { IfOk result (λ word. Reads self.old.rest.now self.new.rest.now word.now) }
+        ensures err { OnErr result (self.new.rest.now ≡ self.old.rest.now) }
+    {
         match self.rest.iter().position(|byte| ends_word(*byte)) {
             None | Some(0) => Err(MALFORMED),
             Some(n) => self.bytes(n),
@@ -78,7 +81,10 @@ impl<'a> Words<'a> {
 
     // A decimal number of at most `most`.
     pub fn number(&mut self, most: u32) -> Result<u32, Malformed>
-        ensures { IfOk result (λ n. n ≤ most) }
+        ensures most { IfOk result (λ n. n ≤ most) }
+        ensures ok { IfOk result (λ n. ReadsNumber self.old.rest.now self.new.rest.now n) }
+        ensures err { OnErr result (self.new.rest.now ≡ self.old.rest.now) }
+        ensures follows { Follows self.old.rest.now self.new.rest.now }
     {
         let rest = self.rest;
         let mut number: u64 = 0;
@@ -101,27 +107,38 @@ impl<'a> Words<'a> {
         Err(MALFORMED)
     }
 
-    pub fn flag(&mut self) -> Result<bool, Malformed> {
+    // A number that is 0 or 1.
+    pub fn flag(&mut self) -> Result<bool, Malformed>
+        ensures ok { IfOk result (λ set. ReadsNumber self.old.rest.now self.new.rest.now (cond set 1 0)) }
+        ensures err { OnErr result (self.new.rest.now ≡ self.old.rest.now) }
+        ensures follows { Follows self.old.rest.now self.new.rest.now }
+    {
         Ok(self.number(1)? == 1)
     }
 
     // The bits of a float: at most 16 hex digits from the top.
-    fn bits(&mut self) -> Result<u64, Malformed> {
+    fn bits(&mut self) -> Result<u64, Malformed>
+        ensures ok { IfOk result (λ bits. ReadsBits self.old.rest.now self.new.rest.now bits) }
+        ensures follows { Follows self.old.rest.now self.new.rest.now }
+    {
         let word = self.word()?;
         if 16 < word.len() {
             return Err(MALFORMED);
         }
         let mut bits: u64 = 0;
-        for (i, byte) in word.iter().enumerate() {
-            match digit(*byte) {
-                Some(digit) => bits |= digit << (60 - 4 * i),
+        for i in 0..16usize {
+            match digit(if i < word.len() { word[i] } else { b'0' }) {
+                Some(digit) => bits = bits * 16 + digit,
                 None => return Err(MALFORMED),
             }
         }
         Ok(bits)
     }
 
-    pub fn float(&mut self) -> Result<f64, Malformed> {
+    pub fn float(&mut self) -> Result<f64, Malformed>
+        ensures ok { IfOk result (λ x. ReadsFloat self.old.rest.now self.new.rest.now x) }
+        ensures follows { Follows self.old.rest.now self.new.rest.now }
+    {
         Ok(float(self.bits()?))
     }
 }

@@ -5,15 +5,16 @@ use mathlib.Core.List.{List, [], ◌∷◌, ◌++◌, append_assoc, append-nil}
 use native.Mathlib.Numerals.{add-one}
 use native.Mathlib.Omega.{arith}
 use lib.ListN.{length, take, drop, get_or, length-append, take-append-drop}
-use lib.Seq.{take_all, take-suc}
+use lib.Seq.{take-suc}
 use Rattle.intervals.specs.declared.Interval.{Interval}
 use Rattle.intervals.specs.Interval.{interval}
 use Rattle.intervals.specs.Terms.Bounds.{Inside}
 use Rattle.report.specs.Text.{line, lines, report}
-use Rattle.report.specs.Written.{Written}
+use Rattle.report.specs.declared.text.Text.{Text}
+use Rattle.report.specs.Adds.{Adds}
 use Rattle.report.specs.Terms.Fits.{Fits}
 use Rattle.report.proofs.Decimal.{length_decimal}
-use Rattle.report.proofs.Writing.{none, next, written_as, fits_next}
+use Rattle.report.proofs.Writing.{none, next, adds_as, fits_next}
 
 lines_append : (is js : List Interval) → lines (is ++ js) ≡ lines is ++ lines js
 unfolding lines
@@ -38,40 +39,31 @@ lines_shorter is i =
     ∙ length-append (lines (take i is)) (lines (drop i is)) in
     omega arith
 
--- The text d has become d': it holds the lines of the first i intervals.
-pub record Listing (ps : List Interval) (d : List ℕ) (from : ℕ) (d' : List ℕ) (at i : ℕ) : Type 0 where
+-- The text t has become t': the lines of the first i intervals were written.
+pub record Listing (ps : List Interval) (t t' : Text) (i : ℕ) : Type 0 where
   pub inside : i ≤ length ps
-  pub long : length d' ≡ length d
-  pub written : Written (lines (take i ps)) d from d' at
+  pub added : Adds (lines (take i ps)) t t'
 
-pub list_none : (ps : List Interval) (d : List ℕ) (from : ℕ) → Listing ps d from d from 0
+pub list_none : (ps : List Interval) (t : Text) → Listing ps t t 0
 unfolding lines
-list_none ps d from = record { inside = omega arith; long = refl; written = none d from }
+list_none ps t = record { inside = omega arith; added = none t }
 
-module _ {ps : List Interval} {d : List ℕ} {from : ℕ} {d' : List ℕ} {at i : ℕ} (k : Listing ps d from d' at i) where
-  next_fits : i < length ps → Fits (lines ps) d from → Fits (lines (take i ps) ++ line (get_or ps i (interval 0 0))) d from
+module _ {ps : List Interval} {t t' : Text} {i : ℕ} (k : Listing ps t t' i) where
+  next_fits : i < length ps → Fits (lines ps) t → Fits (lines (take i ps) ++ line (get_or ps i (interval 0 0))) t
   next_fits h f =
       let e = ap (λ (l : List ℕ). length l) (lines_next ps i h) in
       let s = lines_shorter ps (i + 1) in
       record { room = omega arith }
 
-  pub list_fits : i < length ps → Fits (lines ps) d from → Fits (line (get_or ps i (interval 0 0))) d' at
-  list_fits h f = fits_next (next_fits h f) k.long k.written
+  pub list_fits : i < length ps → Fits (lines ps) t → Fits (line (get_or ps i (interval 0 0))) t'
+  list_fits h f = fits_next (next_fits h f) k.added
 
-  pub list_next : {d'' : List ℕ} {end : ℕ} → i < length ps → Fits (lines ps) d from → length d'' ≡ length d'
-      → Written (line (get_or ps i (interval 0 0))) d' at d'' end → Listing ps d from d'' end (i + 1)
-  list_next h f l w =
+  pub list_next : {t'' : Text} → i < length ps → Fits (lines ps) t → Adds (line (get_or ps i (interval 0 0))) t' t'' → Listing ps t t'' (i + 1)
+  list_next h f a =
       record {
         inside = omega arith;
-        long = l ∙ k.long;
-        written = written_as (sym (lines_next ps i h)) (next (next_fits h f) k.written w);
+        added = adds_as (sym (lines_next ps i h)) (next (next_fits h f) k.added a);
       }
-
-  pub listed : length ps ≤ i → Written (lines ps) d from d' at
-  listed h =
-      written_as
-      (ap (λ (js : List Interval). lines js) (take_all i ps (omega arith)))
-      k.written
 
 -- The length of a report of n letters, with fewer than 10,000 intervals and 100,000 letters.
 length_lines : (n : ℕ) (is : List Interval) → n < 100000 → Inside n is → length (lines is) ≤ 12 * length is

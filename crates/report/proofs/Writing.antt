@@ -1,19 +1,21 @@
 -- Texts written one after the other into a lent text.
 use Prim.Native.Nat.{ℕ, ◌+◌, ◌≤◌}
-use mathlib.Core.Path.{◌≡◌, sym, ap, ap₂, ◌∙◌}
+use mathlib.Core.Path.{◌≡◌, refl, sym, ap, ap₂, ◌∙◌}
 use mathlib.Core.List.{List, [], ◌++◌, append_assoc}
 use native.Mathlib.Nat.{add-zero}
 use native.Mathlib.Omega.{arith}
 use lib.ListN.{length, take, drop, length-append, take-append-drop}
 use lib.Seq.{take_at, drop-drop, length-take-le}
 use Rattle.buffers.specs.Fill.{put_at}
-use Rattle.buffers.proofs.Put.{put_at_none, put_at_next}
+use Rattle.buffers.proofs.Put.{put_at_none, put_at_next, put_at_length}
+use Rattle.report.specs.declared.text.Text.{Text}
 use Rattle.report.specs.Written.{Written}
+use Rattle.report.specs.Adds.{Adds}
 use Rattle.report.specs.Terms.Fits.{Fits}
 
 -- Nothing was written yet.
-pub none : (d : List ℕ) (from : ℕ) → Written [] d from d from
-none d from = record { end_is = sym (add-zero from); text_is = sym (put_at_none from d) }
+pub none : (t : Text) → Adds [] t t
+none t = record { written = record { end_is = sym (add-zero t.len); text_is = sym (put_at_none t.len t.bytes.now) }; same = refl }
 
 -- A text that was written, from what stands before its end and after it.
 pub written_by : {xs d d' : List ℕ} {from end : ℕ} → from ≤ length d → end ≤ length d' → take end d' ≡ take from d ++ xs
@@ -35,24 +37,35 @@ take_written {xs} {d} {d'} {from} {end} h w =
     ap (λ (l : List ℕ). take end l) (w.text_is ∙ sym (append_assoc (take from d) xs (drop (length xs) (drop from d))))
     ∙ take_at (take from d ++ xs) _ end (length-append (take from d) xs ∙ omega (arith, length-take-le from d h, w.end_is))
 
+-- A text keeps its length.
+pub added_length : {xs : List ℕ} {t t' : Text} → Fits xs t → Adds xs t t' → length t'.bytes.now ≡ length t.bytes.now
+added_length {xs} {t} h a = ap (λ (l : List ℕ). length l) a.written.text_is ∙ put_at_length t.len xs t.bytes.now h.room
+
 -- A second text after the first.
-pub next : {xs ys d d' d'' : List ℕ} {from at end : ℕ} → Fits (xs ++ ys) d from → Written xs d from d' at → Written ys d' at d'' end
-    → Written (xs ++ ys) d from d'' end
-next {xs} {ys} {d} {from = from} h a b =
+pub next : {xs ys : List ℕ} {t t' t'' : Text} → Fits (xs ++ ys) t → Adds xs t t' → Adds ys t' t'' → Adds (xs ++ ys) t t''
+next {xs} {ys} {t} h a b =
     record {
-      end_is = b.end_is ∙ omega (arith, a.end_is, length-append xs ys);
-      text_is =
-          b.text_is
-          ∙ ap₂ (λ (n : ℕ) (l : List ℕ). put_at n ys l) a.end_is a.text_is
-          ∙ put_at_next from xs ys d (omega (arith, h.room));
+      written =
+          record {
+            end_is = b.written.end_is ∙ omega (arith, a.written.end_is, length-append xs ys);
+            text_is =
+                b.written.text_is
+                ∙ ap₂ (λ (n : ℕ) (l : List ℕ). put_at n ys l) a.written.end_is a.written.text_is
+                ∙ put_at_next t.len xs ys t.bytes.now (omega (arith, h.room));
+          };
+      same = b.same ∙ a.same;
     }
 
-pub written_as : {xs ys d d' : List ℕ} {from end : ℕ} → xs ≡ ys → Written xs d from d' end → Written ys d from d' end
-written_as e w = rw e at w
+pub adds_as : {xs ys : List ℕ} {t t' : Text} → xs ≡ ys → Adds xs t t' → Adds ys t t'
+adds_as e a = rw e at a
 
-pub fits_as : {xs ys d : List ℕ} {from : ℕ} → xs ≡ ys → Fits ys d from → Fits xs d from
+pub fits_as : {xs ys : List ℕ} {t : Text} → xs ≡ ys → Fits ys t → Fits xs t
 fits_as e h = rw e h
 
--- The second of two texts fits once the first is written.
-pub fits_next : {xs ys d d' : List ℕ} {from at : ℕ} → Fits (xs ++ ys) d from → length d' ≡ length d → Written xs d from d' at → Fits ys d' at
-fits_next {xs} {ys} h l w = record { room = omega (arith, length-append xs ys, w.end_is) }
+-- The first of two texts fits, and the second once the first is written.
+fits_first : (xs ys : List ℕ) {t : Text} → Fits (xs ++ ys) t → Fits xs t
+fits_first xs ys h = record { room = omega (arith, h.room, length-append xs ys) }
+
+pub fits_next : {xs ys : List ℕ} {t t' : Text} → Fits (xs ++ ys) t → Adds xs t t' → Fits ys t'
+fits_next {xs} {ys} h a =
+    record { room = omega (arith, h.room, length-append xs ys, a.written.end_is, added_length (fits_first xs ys h) a) }

@@ -2,4 +2,5 @@ pub mod Ascii
 pub mod Text
 pub mod Letters
 pub mod Written
+pub mod Adds
 pub mod Terms

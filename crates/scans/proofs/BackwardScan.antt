@@ -518,21 +518,21 @@ module _ (s : RunSetup) (r : Ring) {window_counts : List ℕ} (w : WindowCounted
         omega (arith, h.counted.counted x, count_drop x (a.low - n) q, w.counted x);
   }
 
-  part_before : PartBefore a.low r.len (length s.ln.now) (length s.f.now) part window_counts counts
-  part_before = record {
+  part_before : s.params.window_size < length s.f.now → PartBefore a.low r.len (length s.ln.now) (length s.f.now) part window_counts counts
+  part_before f_long = record {
     some = t.some;
     inside = t.inside;
     low_in = low_in;
     small = omega (arith, w.len_in, w.small);
     ln_long = omega (arith, w.len_in, w.ln_long);
-    f_long = omega (arith, w.len_in, s.f_long);
+    f_long = omega (arith, w.len_in, f_long);
     coded = t.coded (windowed_queued w h.counted.long);
     counts_long = omega (arith, w.counts_long, h.counted.long);
     room = room;
   }
 
-  pub part_ready : PartBefore a.low r.len (length s.ln.now) (length s.f.now) part window_counts counts × (a.found ≡ 0 → NoneBest (backward_of a))
-  part_ready = (part_before, λ e. record { none = e; is_zero = h.from_zero e; level = h.level })
+  pub part_ready : s.params.window_size < length s.f.now → PartBefore a.low r.len (length s.ln.now) (length s.f.now) part window_counts counts × (a.found ≡ 0 → NoneBest (backward_of a))
+  part_ready f_long = (part_before f_long, λ e. record { none = e; is_zero = h.from_zero e; level = h.level })
 
   newer_stands : (u : ℕ) → u < length part → Stands q (decoded (drop u part)) (a.low - length (drop u part))
   newer_stands u l =

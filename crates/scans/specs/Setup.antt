@@ -1,11 +1,9 @@
 -- The paper, 'Records' and 'Step and scans': the numbers and the two tables that a run goes by.
-use Rattle.std.specs.Prelude.{ℕ, zero, suc, ◌^◌, Bool, cond, List, get_or, ℤ, pos, Float}
+use Rattle.std.specs.Prelude.{ℕ, zero, suc, ◌^◌, Bool, cond, List, get_or, ℤ, pos, Float, Option, None, Some}
 use Rattle.std.specs.Float.{nan}
 use Rattle.std.specs.Float.Ieee.{lt, to_signed}
 use Rattle.floats.specs.Arithmetic.{◌⊕◌, ◌⊖◌, ◌⊗◌, ◌⊘◌}
 use Rattle.floats.specs.Binary64.{zero64, number}
-use Rattle.scans.specs.declared.Xdrop.{Xdrop}
-use Rattle.scans.specs.declared.Xdrop.TheVariants.{Off, Length}
 
 pub record Setup : Type 0 where
   pub kmer : ℕ  -- k
@@ -29,11 +27,11 @@ abbrev pub kmers : Setup → ℕ
 kmers S = 4 ^ S.kmer
 
 -- The drop limit is xdrop times T; none: w times T.
-abbrev pub drop_places : Xdrop → ℕ → ℕ
-drop_places Off w = w
-drop_places (Length l) w = l
+abbrev pub drop_places : Option ℕ → ℕ → ℕ
+drop_places None w = w
+drop_places (Some l) w = l
 
-unfoldable pub drop_limit : Xdrop → ℕ → Float → Float
+unfoldable pub drop_limit : Option ℕ → ℕ → Float → Float
 drop_limit xdrop w t = t ⊗ number (drop_places xdrop w)
 
 -- max_test: the first i in 1..w with sum(ln - T) - f[i] > 0 gives (i times ln[i]) / T, cut towards zero to a signed 32-bit number; none gives 0.

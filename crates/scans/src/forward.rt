@@ -13,7 +13,7 @@ use crate::{Ring, Setup};
 pub const SLACK: f64 = 1e-6;
 
 // The sum of a forward scan, its best score, one past the index that had it (0: none), and whether the scan has stopped.
-// Numbers and a flag, no Option: the state is made anew at each entry, and so stays in registers.
+// A number, as the definition has it: both that ask for it compare it with a count of entries, where 0 is none. Whether it stopped is asked once, and no value hangs on it.
 #[derive(Clone, Copy)]
 pub struct ForwardState {
     pub s: f64,
@@ -56,6 +56,7 @@ impl ForwardState {
 }
 
 // A forward scan that began at entry `start` goes on over a straight part of the ring, whose first entry is `from`.
+// The part is a slice, and does not tell where in the window it begins.
 fn forward_part(
     setup: &Setup,
     state: ForwardState,
@@ -71,13 +72,15 @@ fn forward_part(
     ensures { ForwardPart (as_setup setup.now) limit start from (decoded part.now) state result
         scan_counts.old scan_counts.new }
 {
-    let p = setup.params;
+    let t = setup.params.score_threshold;
+    let ln = setup.ln;
+    let f = setup.f;
     let mut st = state;
     for (i, entry) in part.iter().enumerate() {
         let at = from + i;
-        let v = count_entry(scan_counts, setup.ln, *entry);
-        let s = st.s + (v - p.score_threshold);
-        let sl = s - setup.f[at + 1 - start];
+        let v = count_entry(scan_counts, ln, *entry);
+        let s = st.s + (v - t);
+        let sl = s - f[at + 1 - start];
         st = st.judged(s, sl, at);
         if sl > limit {
             return st.stopped();

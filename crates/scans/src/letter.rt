@@ -1,6 +1,7 @@
 // The extension and the back check of a letter.
 
-ghost use Rattle.std.specs.Prelude.{◌≡◌, ◌<◌, ◌≤◌, length};
+ghost use Rattle.std.specs.Prelude.{◌≡◌, List, ◌<◌, ◌≤◌, length, Float};
+ghost use Rattle.scans.specs.Terms.Numbers.{setup_of};
 ghost use Rattle.scans.specs.Scans.{if_backward};
 ghost use Rattle.scans.specs.Terms.Window.{Extends};
 ghost use Rattle.scans.specs.Terms.Run.{as_setup, entries_of, WindowCounted};
@@ -12,7 +13,7 @@ use crate::{Ring, Setup};
 #[tactic(auto, unfolding(crate::specs::Scans::extends))]
 pub fn extend(setup: &Setup, len: usize, kmer: u32, scan_counts: &mut [u16]) -> bool
     requires { (0 < len) × (len ≤ setup.now.params.window_size) × (setup.now.params.window_size ≤ 65535)
-        × (kmer < length scan_counts.old) }
+        × (setup.now.params.window_size < length setup.now.ln.now) × (setup.now.params.window_size < length setup.now.f.now) × (kmer < length scan_counts.old) }
     ensures { Extends (as_setup setup.now) scan_counts.old len kmer result scan_counts.new }
 {
     let p = setup.params;
@@ -34,7 +35,7 @@ pub fn extend(setup: &Setup, len: usize, kmer: u32, scan_counts: &mut [u16]) -> 
 #[tactic(auto, using(crate::proofs::BackCheck::of_checking))]
 pub fn if_backward(setup: &Setup, ring: &Ring, window_counts: &[u16]) -> bool
     requires { WindowCounted setup.now ring.now window_counts.now }
-    ensures { result ≡ if_backward (as_setup setup.now) (entries_of ring.now) }
+    ensures { (f : List Float) → result ≡ if_backward (setup_of setup.now.params setup.now.ln.now f) (entries_of ring.now) }
 {
     let p = setup.params;
     let steps = p.max_steps(ring.len);

@@ -30,13 +30,6 @@ pub use limits::{drop_limit, is_usual, max_test};
 pub use queue::ring_index;
 pub use run::{Ring, Setup};
 
-// The backward scan stops where its score lies more than this many thresholds below the best; `Off`: as many as the window has places.
-#[derive(Clone, Copy)]
-pub enum Xdrop {
-    Off,
-    Length(u32),
-}
-
 // The numbers that a run goes by.
 #[derive(Clone, Copy)]
 pub struct Params {

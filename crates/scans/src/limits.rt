@@ -5,16 +5,16 @@ ghost use Rattle.scans.specs.Setup.{drop_limit, max_test};
 ghost use Rattle.scans.specs.Scans.{max_steps};
 ghost use Rattle.scans.specs.Terms.Shape.{usual_to};
 
-use crate::{Params, Xdrop};
+use crate::Params;
 
 // How far below the best a backward scan's score may lie: xdrop, or the window, times the threshold.
 #[tactic(auto, unfolding(crate::specs::Setup::drop_limit))]
-pub fn drop_limit(xdrop: Xdrop, window: u32, threshold: f64) -> f64
+pub fn drop_limit(xdrop: Option<u32>, window: u32, threshold: f64) -> f64
     ensures { result ≡ drop_limit xdrop window threshold }
 {
     match xdrop {
-        Xdrop::Off => threshold * (window as f64),
-        Xdrop::Length(l) => threshold * (l as f64),
+        None => threshold * (window as f64),
+        Some(l) => threshold * (l as f64),
     }
 }
 

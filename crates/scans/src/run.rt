@@ -1,19 +1,15 @@
 // What the steps of a run have in common: its numbers and tables, and the ring that holds the window.
 
 ghost use Rattle.std.specs.Prelude.{◌<◌, ◌≤◌, length};
-ghost use Rattle.scans.specs.Terms.Shape.{Shaped};
 
 use crate::Params;
 
-// What a run goes by: its numbers and its filled tables, which reach to the window's length, and are of the usual shape where the numbers say so.
+// What a run goes by: its numbers and its filled tables. How far the tables reach, and of what shape they are, is no ghost field: the calls ask different things of them.
 #[derive(Clone, Copy)]
 pub struct Setup<'a> {
     pub params: Params,
     pub ln: &'a [f64],
     pub f: &'a [f64],
-    ghost ln_long: { params.window_size < length ln.now },
-    ghost f_long: { params.window_size < length f.now },
-    ghost shaped: { Shaped params ln.now f.now },
 }
 
 // The window's entries in their ring: `len` of them, the oldest at `head`.

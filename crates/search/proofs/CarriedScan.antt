@@ -1,8 +1,9 @@
 -- The carried scan: one place more (`carried_next`), the find that it tells without a forward scan (`carried_forward`), and how a find begins it (`found_carried`). For any float bits.
 use mathlib.Core.Path.{◌≡◌, refl, sym, ap, ap₂, ◌∙◌, subst}
+use Rattle.std.specs.Prelude.{Option, None}
 use Prim.Native.Nat.{ℕ, ◌+◌, ◌-◌, ◌≤◌, ◌<◌}
 use native.Mathlib.Omega.{arith}
-use mathlib.Core.Bool.{Bool, true, false, cond, not, true≢false}
+use mathlib.Core.Bool.{Bool, true, false, cond, not}
 use mathlib.Core.List.{List, [], ◌∷◌, ◌++◌, append-nil}
 use lib.ListN.{length, drop, length-append, length-drop}
 use lib.Seq.{append_snoc, drop-append-le, ext_get_or}
@@ -20,6 +21,7 @@ use Rattle.scans.specs.Counts.{raise, cleared}
 use Rattle.scans.specs.Scans.{value, ForwardSums, forward_start, forward_judged, Forward, forward_from, dust_forward}
 use Rattle.scans.specs.Terms.Window.{counted_value, CountsEntry}
 use Rattle.scans.specs.Terms.Parts.{whole_forward}
+use Rattle.search.specs.Terms.Certified.{Certified}
 use Rattle.search.specs.Terms.Carry.{Summed, Carried, newest_score}
 use Rattle.scans.proofs.Test.{by_test}
 use Rattle.scans.proofs.Values.{raised_value}
@@ -30,9 +32,9 @@ use Rattle.scans.proofs.WholeScan.{sum, score, judged, whole, whole_step, never_
 pub counted_unique : (m : ℕ) (counts counts' : List ℕ) (q : List Place) → Counted m counts q → Counted m counts' q → counts ≡ counts'
 counted_unique m counts counts' q c d = ext_get_or 0 counts counts' (c.long ∙ sym d.long) (λ i h. c.counted i ∙ sym (d.counted i))
 
--- A certificate that is off says nothing.
-pub uncertified : {S : Setup} {q : List Place} {j : ℕ} {c : Carry} → Summed S (drop j q) c → c.certificate.on ≡ false → Carried S q j c
-uncertified sums off = record { sums = sums; certified = λ _. record { bounds = λ on. absurd (true≢false (sym on ∙ off)) } }
+-- Without a certificate.
+pub uncertified : {S : Setup} {q : List Place} {j : ℕ} {c : Carry} → Summed S (drop j q) c → c.certificate ≡ None → Carried S q j c
+uncertified {S} {q} {j} sums off = record { sums = sums; certified = λ _. subst (λ (d : Option Certificate). Certified S q j d) (sym off) tt }
 
 module _ (S : Setup) where
   whole_counted : (seen es : List Place) (l i : ℕ) (a : ForwardSums) (counts : List ℕ) → Below (kmers S) es → Counted (kmers S) counts seen → Counted (kmers S) (whole S es l i a counts).counts (seen ++ es)
@@ -50,7 +52,7 @@ zero_self : T (le zero64 zero64)
 zero_self = le_sure zero_near zero_near (omega arith)
 
 -- ---- One place more: its value is added, and a score as high as the best is the new best. `counts` are those of the places before, and d is the new certificate.
-abbrev pub carried_on : Setup → ℕ → List ℕ → Place → Carry → Certificate → Carry
+abbrev pub carried_on : Setup → ℕ → List ℕ → Place → Carry → Option Certificate → Carry
 carried_on S l counts e c d =
     let sl : Float = newest_score S l counts e c in
     record { on = c.on; s = c.s ⊕ (value S counts e ⊖ S.score_threshold); best = cond (le c.best sl) sl c.best; certificate = d }
@@ -70,7 +72,7 @@ module _ (S : Setup) (es : List Place) (e : Place) where
     whole_counts : W.counts ≡ counts
     whole_counts = counted_unique (kmers S) W.counts counts es (whole_forward_counted S es b) n
 
-    pub carried_next : (d : Certificate) → Summed S (es ++ e ∷ []) (carried_on S (length es + 1) counts e c d)
+    pub carried_next : (d : Option Certificate) → Summed S (es ++ e ∷ []) (carried_on S (length es + 1) counts e c d)
     carried_next d =
         record {
           s_is = λ on. ap (λ (w : Forward). w.sums.s) whole_snoc ∙ judged_s S W.sums (sum S W.sums W.counts e) (score S W.sums W.counts e (length es + 1)) (length es) ∙ rw (k.s_is on, whole_counts);
@@ -78,7 +80,7 @@ module _ (S : Setup) (es : List Place) (e : Place) where
         }
 
 -- The code's step: v is the value of the counted place.
-pub carried_step : (S : Setup) (l : ℕ) (e : Place) (c : Carry) (d : Certificate) (counts counts' : List ℕ) (v : Float) → CountsEntry S.ln counts e v counts' → BelowAt (length counts) e → (t : Bool)
+pub carried_step : (S : Setup) (l : ℕ) (e : Place) (c : Carry) (d : Option Certificate) (counts counts' : List ℕ) (v : Float) → CountsEntry S.ln counts e v counts' → BelowAt (length counts) e → (t : Bool)
     → le c.best (c.s ⊕ (v ⊖ S.score_threshold) ⊖ f_at S l) ≡ t
     → record { on = c.on; s = c.s ⊕ (v ⊖ S.score_threshold); best = cond t (c.s ⊕ (v ⊖ S.score_threshold) ⊖ f_at S l) c.best; certificate = d } ≡ carried_on S l counts e c d
 carried_step S l e c d counts counts' v k b t h =

@@ -1,7 +1,9 @@
 -- A certificate that is kept letter by letter, as the code does it: the newest place adds nothing to the near ones (`kept_still`, `kept_fresh`), or is so far from its last that T alone outweighs them (`kept_repeated`).
 use mathlib.Core.Path.{◌≡◌, refl, sym, ap, ◌∙◌, subst}
-use mathlib.Core.Bool.{false, ◌&&◌, true≢false}
+use mathlib.Core.Bool.{◌&&◌}
 use mathlib.Core.List.{List, [], ◌∷◌, ◌++◌}
+use Rattle.std.specs.Prelude.{Option, Some, None}
+use Rattle.std.proofs.lemmas.Option.{IfSome_then}
 use Prim.Native.Nat.{ℕ, suc, ◌+◌, ◌-◌, ◌≤◌, ◌<◌}
 use native.Mathlib.Omega.{arith}
 use lib.ListN.{length, get_or, drop, length-append, length-drop}
@@ -22,6 +24,7 @@ use Rattle.scans.specs.Terms.Counted.{Counted}
 use Rattle.scans.specs.Terms.Window.{counted_value}
 use Rattle.scans.specs.Terms.Units.{distance}
 use Rattle.search.specs.Terms.Certified.{LowUnits, StartUnits, Certifiable, Bounds, Certified, certificate_step}
+use Rattle.scans.proofs.Test.{by_test}
 use Rattle.scans.proofs.Counting.{hit_self, count_snoc, below_left, below_right}
 use Rattle.scans.proofs.Exact.{added}
 use Rattle.scans.proofs.Gain.{InRange, added_ranged}
@@ -30,30 +33,24 @@ use Rattle.scans.proofs.Shape.{usual_range}
 use Rattle.search.proofs.CertificateLow.{adds_none, adds_first, more_later, low_fresh, low_repeated}
 use Rattle.search.proofs.CertificateStart.{start_left, start_joined}
 
-pub none_certified : {S : Setup} {q : List Place} {j : ℕ} {c : Certificate} → c.on ≡ false → Certified S q j c
-none_certified off = record { bounds = λ on. absurd (true≢false (sym on ∙ off)) }
-
 -- The oldest place leaves; it is older than the start.
-pub certified_left : {S : Setup} (e : Place) (q : List Place) → Below (kmers S) (e ∷ q) → suc (length q) ≤ S.window_size → {j : ℕ} {c : Certificate} → Certified S (e ∷ q) (suc j) c → Certified S q j c
-certified_left {S} e q b l {j} {c} k =
+pub certified_left : (S : Setup) (e : Place) (q : List Place) → Below (kmers S) (e ∷ q) → suc (length q) ≤ S.window_size → (j : ℕ) (c : Option Certificate) → Certified S (e ∷ q) (suc j) c → Certified S q j c
+certified_left S e q b l j c k =
+    IfSome_then c k (λ d B.
+    let near_in : d.near ≤ length q = omega (arith, B.units.j_before, B.units.low.order) in
+    let same : suc (length q) - d.near - 1 ≡ length q - d.near = omega arith in
     record {
-      bounds = λ on.
-          let B = k.bounds on in
-          let near_in : c.near ≤ length q = omega (arith, B.units.j_before, B.units.low.order) in
-          let same : suc (length q) - c.near - 1 ≡ length q - c.near = omega arith in
-          record {
-            setup = B.setup;
-            joined = B.joined;
-            low_from = B.low_from - 1;
-            few = B.few;
-            near_in = near_in;
-            units =
-                subst (λ (i : ℕ). StartUnits S q j c.left B.joined (B.low_from - 1) i c.h c.u c.gap) same
-                (start_left S (usual_range B.setup.usual) B.setup e q b l B.units);
-            u_below = B.u_below;
-            gap_above = B.gap_above;
-          };
-    }
+      setup = B.setup;
+      joined = B.joined;
+      low_from = B.low_from - 1;
+      few = B.few;
+      near_in = near_in;
+      units =
+          subst (λ (i : ℕ). StartUnits S q j d.left B.joined (B.low_from - 1) i d.h d.u d.gap) same
+          (start_left S (usual_range B.setup.usual) B.setup e q b l B.units);
+      u_below = B.u_below;
+      gap_above = B.gap_above;
+    })
 
 -- What a place adds, by the counts of the window with it.
 pub window_added : (S : Setup) (counts : List ℕ) (q₀ : List Place) (e : Place) → ((x : ℕ) → get_or counts x 0 ≡ count x (q₀ ++ e ∷ [])) → counted_value S.ln counts e ≡ added S q₀ e
@@ -116,20 +113,18 @@ module _ (S : Setup) (q₀ : List Place) (e : Place) (below : Below (kmers S) (q
       subst (λ (x : Float). StartUnits S q j left (suc k.joined) k.low_from near_from h u (c.gap ⊖ (x ⊖ v))) (sym w_is)
       (subst (λ (x : Float). StartUnits S q j left (suc k.joined) k.low_from near_from h u (c.gap ⊖ (added S q₀ e ⊖ x))) (sym v_added) (start_joined S R k.setup q₀ b room e be before few low)) in
       let same : near_from ≡ length q - (c.near + 1) = omega arith in
-      record {
-        bounds = λ on.
-            let tests : T (lt u (neg distance) && le distance gap) = subst T (sym on) tt in
-            record {
-              setup = k.setup;
-              joined = suc k.joined;
-              low_from = k.low_from;
-              few = omega (arith, k.few);
-              near_in = omega (arith, k.near_in);
-              units = subst (λ (i : ℕ). StartUnits S q j left (suc k.joined) k.low_from i h u gap) same after;
-              u_below = and_l (lt u (neg distance)) (le distance gap) tests;
-              gap_above = and_r (lt u (neg distance)) (le distance gap) tests;
-            };
-      }
+      let c' : Certificate = record { left = left; near = c.near + 1; h = h; u = u; gap = gap } in
+      by_test (λ (d : Option Certificate). Certified S q j d) (lt u (neg distance) && le distance gap) (Some c') None
+      (λ tests. record {
+        setup = k.setup;
+        joined = suc k.joined;
+        low_from = k.low_from;
+        few = omega (arith, k.few);
+        near_in = omega (arith, k.near_in);
+        units = subst (λ (i : ℕ). StartUnits S q j left (suc k.joined) k.low_from i h u gap) same after;
+        u_below = and_l (lt u (neg distance)) (le distance gap) tests;
+        gap_above = and_r (lt u (neg distance)) (le distance gap) tests;
+      }) (λ _. tt)
 
   fresh : more near_from ≡ 0 → Certified S q j (certificate_step t c.h v w c)
   fresh z = step c.h (low_fresh S R k.setup q₀ b room e be k.units.low few v v_ranged v_high z)

@@ -1,7 +1,8 @@
 -- The certificate and the carried scan of a window in a ring: the newest entry joins them (`next_still`, `next_fresh`, `next_repeated`, `carries_on`).
 use mathlib.Core.Path.{◌≡◌, refl, sym, ap, ◌∙◌, subst}
-use mathlib.Core.Bool.{Bool, true, false, cond, ◌&&◌}
+use mathlib.Core.Bool.{Bool, true, cond, ◌&&◌}
 use mathlib.Core.List.{List, [], ◌∷◌, ◌++◌}
+use Rattle.std.specs.Prelude.{Option, Some}
 use Prim.Native.Nat.{ℕ, ◌+◌, ◌-◌, ◌^◌, ◌/◌, ◌<◌}
 use native.Mathlib.Omega.{arith}
 use lib.ListN.{length, get_or, drop, length-drop}
@@ -58,7 +59,7 @@ module _ (p : Params) (ring : List ℕ) (head len : ℕ) (wc : List ℕ) (ln : L
     entry_place q₀ e joins = ap decode is ∙ sym (newest_place W J.some q₀ e joins)
 
     -- ---- The carried scan.
-    pub carries_on : (f : List Float) (start : ℕ) → start < len → (c : Carry) (d : Certificate) → CertifiesOn (setup_of p ln f) q c.certificate d counts
+    pub carries_on : (f : List Float) (start : ℕ) → start < len → (c : Carry) (d : Option Certificate) → CertifiesOn (setup_of p ln f) q c.certificate d counts
         → (counts' : List ℕ) (v : Float) → CountsEntry ln counts (decode entry) v counts' → (t : Bool) → le c.best (c.s ⊕ (v ⊖ p.score_threshold) ⊖ get_or f (len - start) nan) ≡ t
         → (q₀ : List Place) (e : Place) → q ≡ q₀ ++ e ∷ []
         → CarriesOn (setup_of p ln f) q₀ e start c
@@ -87,35 +88,28 @@ module _ (p : Params) (ring : List ℕ) (head len : ℕ) (wc : List ℕ) (ln : L
 
   -- ---- The certificate.
   module _ (c : Certificate) where
-    module _ (lasts : (c.on && ltb 0 c.left) && ltb c.near len ≡ true) where
-      tests : T ((c.on && ltb 0 c.left) && ltb c.near len)
+    module _ (lasts : ltb 0 c.left && ltb c.near len ≡ true) where
+      tests : T (ltb 0 c.left && ltb c.near len)
       tests = subst T (sym lasts) tt
 
-      on : c.on ≡ true
-      on = go c.on (and_l c.on (ltb 0 c.left) (and_l (c.on && ltb 0 c.left) (ltb c.near len) tests))
-        where
-          go : (b : Bool) → T b → b ≡ true
-          go true t = refl
-          go false t = absurd t
-
       pub near_in : c.near < len
-      near_in = ltb→lt c.near len (and_r (c.on && ltb 0 c.left) (ltb c.near len) tests)
+      near_in = ltb→lt c.near len (and_r (ltb 0 c.left) (ltb c.near len) tests)
 
       pub step_asks : (0 < c.left) × (c.near < 65535)
-      step_asks = let w = W in (ltb→lt 0 c.left (and_r c.on (ltb 0 c.left) (and_l (c.on && ltb 0 c.left) (ltb c.near len) tests)), omega (arith, near_in, w.len_in, w.small))
+      step_asks = let w = W in (ltb→lt 0 c.left (and_l (ltb 0 c.left) (ltb c.near len) tests), omega (arith, near_in, w.len_in, w.small))
 
       module _ (entry : ℕ) (is : entry ≡ newest_in ring head len) (v w : Float) (v_is : (p : Params) (f : List Float) → v ≡ value (setup_of p ln f) counts (decode entry)) (w_is : w ≡ counted_value ln wc (decode entry)) where
         -- A law of `kept-..`, for the window as it was before.
-        next_by : (f : List Float) (h : Float) {r : Certificate} → r ≡ certificate_step p.score_threshold h v w c
+        next_by : (f : List Float) (h : Float) {r : Option Certificate} → r ≡ certificate_step p.score_threshold h v w c
             → ((q₀ : List Place) (e : Place) (j : ℕ) → q ≡ q₀ ++ e ∷ [] → Counted (4 ^ p.kmer) counts (drop j q₀) → Bounds (setup_of p ln f) q₀ j c
             → Certified (setup_of p ln f) (q₀ ++ e ∷ []) j (certificate_step p.score_threshold h v w c))
-            → CertifiesOn (setup_of p ln f) q c r counts
+            → CertifiesOn (setup_of p ln f) q (Some c) r counts
         next_by f h {r} z law =
             let S : Setup = setup_of p ln f in
             record {
               keeps = λ q₀ e j joins n k.
-                  subst (λ (x : Certificate). Certified S q j x) (sym z)
-                  (subst (λ (l : List Place). Certified S l j (certificate_step p.score_threshold h v w c)) (sym joins) (law q₀ e j joins n (k.bounds on)));
+                  subst (λ (x : Option Certificate). Certified S q j x) (sym z)
+                  (subst (λ (l : List Place). Certified S l j (certificate_step p.score_threshold h v w c)) (sym joins) (law q₀ e j joins n k));
             }
 
         module _ (f : List Float) (q₀ : List Place) (e : Place) (j : ℕ) (joins : q ≡ q₀ ++ e ∷ []) (n : Counted (4 ^ p.kmer) counts (drop j q₀)) (k : Bounds (setup_of p ln f) q₀ j c) where
@@ -134,21 +128,21 @@ module _ (p : Params) (ring : List ℕ) (head len : ℕ) (wc : List ℕ) (ln : L
           w_here : w ≡ added S q₀ e
           w_here = w_is ∙ ap (λ (z : Place). counted_value ln wc z) (entry_place entry is q₀ e joins) ∙ window_added S wc q₀ e (λ x. W.counted x ∙ ap (λ (z : List Place). count x z) joins)
 
-        pub next_still : le v zero64 ≡ true → {r : Certificate} → r ≡ certificate_step p.score_threshold c.h v w c → (f : List Float) → CertifiesOn (setup_of p ln f) q c r counts
+        pub next_still : le v zero64 ≡ true → {r : Option Certificate} → r ≡ certificate_step p.score_threshold c.h v w c → (f : List Float) → CertifiesOn (setup_of p ln f) q (Some c) r counts
         next_still none z f =
             next_by f c.h z (λ q₀ e j joins n k.
             kept_still (setup_of p ln f) q₀ e (all f q₀ e j joins n k) (room f q₀ e j joins n k) j counts n c k step_asks.0 v w (v_here f q₀ e j joins n k) (w_here f q₀ e j joins n k) (subst T (sym none) tt))
 
         module _ (l : ℕ) (since : Since ring head len c.near l) where
-          pub next_fresh : l ≡ 0 → {r : Certificate} → r ≡ certificate_step p.score_threshold c.h v w c → (f : List Float) → CertifiesOn (setup_of p ln f) q c r counts
+          pub next_fresh : l ≡ 0 → {r : Option Certificate} → r ≡ certificate_step p.score_threshold c.h v w c → (f : List Float) → CertifiesOn (setup_of p ln f) q (Some c) r counts
           next_fresh zero z f =
               next_by f c.h z (λ q₀ e j joins n k.
               let at : len - 1 - c.near ≡ length q₀ - c.near = omega (arith, before_long W J.some q₀ e joins) in
               kept_fresh (setup_of p ln f) q₀ e (all f q₀ e j joins n k) (room f q₀ e j joins n k) j counts n c k step_asks.0 v w (v_here f q₀ e j joins n k) (w_here f q₀ e j joins n k)
               (none_counted W J.some q₀ e joins (length q₀ - c.near) (subst (NoneFrom ring head len) at (since.none zero))))
 
-          pub next_repeated : (l ≡ 0 → ⊥) → le (c.h ⊕ v ⊕ distance) (number l ⊗ p.score_threshold) ≡ true → {r : Certificate} → r ≡ certificate_step p.score_threshold (c.h ⊕ v) v w c
-              → (f : List Float) → CertifiesOn (setup_of p ln f) q c r counts
+          pub next_repeated : (l ≡ 0 → ⊥) → le (c.h ⊕ v ⊕ distance) (number l ⊗ p.score_threshold) ≡ true → {r : Option Certificate} → r ≡ certificate_step p.score_threshold (c.h ⊕ v) v w c
+              → (f : List Float) → CertifiesOn (setup_of p ln f) q (Some c) r counts
           next_repeated some test z f =
               next_by f (c.h ⊕ v) z (λ q₀ e j joins n k.
               let at : len + 1 - l ≡ length q₀ + 2 - l = omega (arith, before_long W J.some q₀ e joins) in

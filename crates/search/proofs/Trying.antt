@@ -80,7 +80,7 @@ module _ (S : Setup) (q : List Place) (cs : List Candidate) (n : ℕ) where
       pub trying_found : 0 < length q → st.found ≡ length q → (carry : Carry) → carry ≡ begun_carry st.s st.best → (before : List ℕ) → Answers S q (whole before) (record { found = place + 1; carry = carry }) counts'
       trying_found entries e carry y before =
           let sums = found_carried S q place c.max_score entries (sym found_is ∙ e) carry (ap (λ (z : Carry). z.s) y ∙ ap (λ (z : ForwardSums). z.s) k.sums_are) (ap (λ (z : Carry). z.best) y ∙ ap (λ (z : ForwardSums). z.best) k.sums_are) in
-          let carried : Carried S q place carry = uncertified sums (ap (λ (z : Carry). z.certificate.on) y) in
+          let carried : Carried S q place carry = uncertified sums (ap (λ (z : Carry). z.certificate) y) in
           let is : whole before ≡ record { find = at place; counts = counts' } = tried_here before ∙ rw (eq-eqb st.found (length q) e) in
           rw is
           (record {

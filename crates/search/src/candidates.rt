@@ -106,7 +106,7 @@ impl Search {
         scan_counts: &mut [u16],
     ) -> Self
         requires windowed { WindowCounted setup.now ring.now window_counts.now }
-        requires counts_long { length scan_counts.old ≡ 4 ^ setup.now.params.kmer }
+        requires f_long { (setup.now.params.window_size < length setup.now.f.now) × (length scan_counts.old ≡ 4 ^ setup.now.params.kmer) }
         requires searches { Searches (4 ^ setup.now.params.kmer) (entries_of ring.now) self scan_counts.old }
         ensures { NextCandidate (as_setup setup.now) (entries_of ring.now) self result
             scan_counts.old scan_counts.new }
@@ -135,6 +135,7 @@ pub fn scan_backward(
         (candidates_in result.noted candidates.new) }
 {
     let mut seek = Search::new(ring.len);
+    // A `while`: how many turns there are, the scan alone tells.
     while seek.on {
         seek = seek.next(setup, ring, window_counts, scan_counts);
         if seek.fresh {

@@ -6,7 +6,7 @@ ghost use Rattle.letters.specs.Terms.Entry.{decode};
 ghost use Rattle.scans.specs.Terms.Run.{as_setup, entries_of, NewestJoins};
 ghost use Rattle.search.specs.Terms.Carry.{no_carry, begun_carry, CarriesOn, carried_ahead};
 
-use crate::{Carry, Certificate, Scanned};
+use crate::{Carry, Scanned};
 use scans::{Ring, Setup, count_entry, window_value};
 
 impl Carry {
@@ -18,7 +18,7 @@ impl Carry {
             on: false,
             s: 0.0,
             best: 0.0,
-            certificate: Certificate::none(),
+            certificate: None,
         }
     }
 
@@ -30,31 +30,8 @@ impl Carry {
             on: true,
             s: s,
             best: best,
-            certificate: Certificate::none(),
+            certificate: None,
         }
-    }
-
-    // The scan c in this one's place, field by field: taken whole, its unused bytes too would go through memory at each letter.
-    pub fn replaced(mut self, c: Carry) -> Self
-        ensures { result ≡ c }
-    {
-        self.on = c.on;
-        self.s = c.s;
-        self.best = c.best;
-        self.certificate.on = c.certificate.on;
-        self.certificate.left = c.certificate.left;
-        self.certificate.near = c.certificate.near;
-        self.certificate.h = c.certificate.h;
-        self.certificate.u = c.certificate.u;
-        self.certificate.gap = c.certificate.gap;
-        self
-    }
-
-    // No scan is carried any more.
-    pub fn ended(self) -> Self
-        ensures { result ≡ no_carry }
-    {
-        self.replaced(Carry::none())
     }
 
     // The newest entry joins the scan from `start` on and its certificate, and is counted.
@@ -67,13 +44,15 @@ impl Carry {
         scan_counts: &mut [u16],
     ) -> Self
         requires joining { NewestJoins setup.now ring.now window_counts.now scan_counts.old }
-        requires start_lt_len { start < ring.now.len }
+        requires start_lt_len { (start < ring.now.len) × (setup.now.params.window_size < length setup.now.f.now) }
         ensures { (q₀ : List Place) (e : Place) → entries_of ring.now ≡ q₀ ++ e ∷ []
             → CarriesOn (as_setup setup.now) q₀ e start self result scan_counts.old
             scan_counts.new }
     {
-        let certificate = self.certificate;
-        self.certificate = certificate.next(setup, ring, window_counts, scan_counts);
+        self.certificate = match self.certificate {
+            Some(certificate) => certificate.next(setup, ring, window_counts, scan_counts),
+            None => None,
+        };
         let v = count_entry(scan_counts, setup.ln, ring.newest());
         self.s = self.s + (v - setup.params.score_threshold);
         let sl = self.s - setup.f[ring.len - start];
@@ -97,7 +76,7 @@ impl Carry {
             on: sl >= self.best,
             s: s,
             best: sl,
-            certificate: Certificate::none(),
+            certificate: None,
         }
     }
 }

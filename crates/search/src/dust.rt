@@ -2,6 +2,7 @@
 
 ghost use Rattle.std.specs.Prelude.{◌≡◌, ◌-◌, ◌^◌, ◌<◌, ◌≤◌, length, replicate};
 ghost use Rattle.scans.specs.Scans.{dust_backward};
+ghost use Rattle.scans.specs.Terms.Shape.{Shaped};
 ghost use Rattle.scans.specs.Terms.Window.{window, Roomy};
 ghost use Rattle.scans.specs.Terms.Run.{as_setup, entries_of, WindowCounted};
 ghost use Rattle.search.specs.Terms.Carry.{Carried, Answers};
@@ -25,6 +26,8 @@ fn read_in_vain(noted: usize, low: usize, len: usize) -> usize
 
 // One past the index in the window from which a forward scan ends best at the newest entry, 0 where there is none, from cleared counts.
 // A carried scan is that of entries `start` to the newest but one.
+// Out of line, so that the loops of the scans and the loop of the letters each have the registers.
+#[inline(never)]
 pub fn dust_backward(
     setup: &Setup,
     carry: Carry,
@@ -39,6 +42,7 @@ pub fn dust_backward(
     requires len_nonzero { (0 < ring.now.len) × (scan_counts.old ≡ replicate (4 ^ setup.now.params.kmer) 0) }
     requires carried { Carried (as_setup setup.now)
         (window ring.now.queue.now ring.now.head (ring.now.len - 1)) start carry }
+    requires shaped { Shaped setup.now.params setup.now.ln.now setup.now.f.now }
     ensures { let S = as_setup setup.now in let q = entries_of ring.now in
         Answers S q (dust_backward S q) result.scanned scan_counts.new }
 {

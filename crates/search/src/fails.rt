@@ -2,7 +2,7 @@
 
 ghost use Rattle.std.specs.Prelude.{◌^◌, ◌<◌, ◌≤◌, length, drop};
 ghost use Rattle.scans.specs.Terms.Counted.{Counted};
-ghost use Rattle.scans.specs.Terms.Shape.{Usual};
+ghost use Rattle.scans.specs.Terms.Shape.{Shaped, Usual};
 ghost use Rattle.scans.specs.Terms.Run.{as_setup, entries_of, TablesReach};
 ghost use Rattle.search.specs.Terms.Search.{SearchedAll};
 ghost use Rattle.search.specs.Terms.Fails.{FallsShort, TellsNone};
@@ -29,12 +29,14 @@ fn newest_fall_short(
     ensures { FallsShort (as_setup setup.now) (entries_of ring.now) oldest newest result scan_counts.new }
 {
     let f = setup.f;
+    let ln = setup.ln;
+    let t = setup.params.score_threshold;
     let whole = f[ring.len - newest];
     let mut sum = 0.0;
     for i in (newest + 1..ring.len).rev() {
         let entry = ring.queue[ring.index(i)];
-        let v = window_value(scan_counts, setup.ln, entry);
-        sum = sum + (v - setup.params.score_threshold);
+        let v = window_value(scan_counts, ln, entry);
+        sum = sum + (v - t);
         if sum < whole - f[i - newest] - DISTANCE {
             return true;
         }
@@ -47,6 +49,7 @@ fn newest_fall_short(
 pub fn none_ends(setup: &Setup, searched: Searched, ring: &Ring, scan_counts: &mut [u16]) -> bool
     requires tables_reach { TablesReach setup.now ring.now (length scan_counts.old) }
     requires len_nonzero { (0 < ring.now.len) × (ring.now.len ≤ setup.now.params.window_size) }
+    requires shaped { Shaped setup.now.params setup.now.ln.now setup.now.f.now }
     requires searched_all { SearchedAll (as_setup setup.now) (entries_of ring.now) searched scan_counts.old }
     ensures { TellsNone (as_setup setup.now) (entries_of ring.now) result scan_counts.new }
 {

@@ -1,8 +1,9 @@
 // The certificate of a carried scan's start, kept letter by letter.
 
-ghost use Rattle.std.specs.Prelude.{◌≡◌, ◌<◌, IfSome, unwrap_or};
-ghost use Rattle.scans.specs.Terms.Run.{as_setup, entries_of, NewestJoins};
-ghost use Rattle.search.specs.Terms.Certified.{no_certificate, certificate_step, Since, CertifiesOn};
+ghost use Rattle.std.specs.Prelude.{◌≡◌, List, ◌<◌, Some, IfSome, unwrap_or, Float};
+ghost use Rattle.scans.specs.Terms.Numbers.{setup_of};
+ghost use Rattle.scans.specs.Terms.Run.{entries_of, NewestJoins};
+ghost use Rattle.search.specs.Terms.Certified.{certificate_step, Since, CertifiesOn};
 
 use crate::Certificate;
 use scans::{Ring, Setup, raised_value, window_value};
@@ -26,49 +27,39 @@ fn entries_since(ring: &Ring, near: usize) -> Option<usize>
 }
 
 impl Certificate {
-    // Nothing is certain.
-    pub fn none() -> Self
-        ensures { result ≡ no_certificate }
-    {
-        Self {
-            on: false,
-            left: 0,
-            near: 0,
-            h: 0.0,
-            u: 0.0,
-            gap: 0.0,
-        }
-    }
     // One letter: the newest entry has the ln entries v, by the scan counts, and w, by the window counts; h is the near entries' new sum.
-    fn stepped(self, t: f64, h: f64, v: f64, w: f64) -> Self
+    // None where the gap, or the bound u of the far scores, comes too near 0.
+    fn stepped(self, t: f64, h: f64, v: f64, w: f64) -> Option<Self>
         requires { (0 < self.left) × (self.near < 65535) }
         ensures { result ≡ certificate_step t h v w self }
     {
         let u = self.u + (v - t);
         let gap = self.gap - (w - v);
-        Self {
-            on: (u < -DISTANCE) & (DISTANCE <= gap),
-            left: self.left - 1,
-            near: self.near + 1,
-            h: h,
-            u: u,
-            gap: gap,
+        if (u < -DISTANCE) & (DISTANCE <= gap) {
+            return Some(Self {
+                left: self.left - 1,
+                near: self.near + 1,
+                h: h,
+                u: u,
+                gap: gap,
+            });
         }
+        None
     }
 
-    // The certificate with the newest entry, which the scan counts have not.
+    // The certificate with the newest entry, which the scan counts have not; none where nothing is certain any more.
     pub fn next(
         self,
         setup: &Setup,
         ring: &Ring,
         window_counts: &[u16],
         scan_counts: &[u16],
-    ) -> Self
+    ) -> Option<Self>
         requires { NewestJoins setup.now ring.now window_counts.now scan_counts.now }
-        ensures { CertifiesOn (as_setup setup.now) (entries_of ring.now) self result scan_counts.now }
+        ensures { (f : List Float) → CertifiesOn (setup_of setup.now.params setup.now.ln.now f) (entries_of ring.now) (Some self) result scan_counts.now }
     {
-        if !(self.on & (0 < self.left) & (self.near < ring.len)) {
-            return Certificate::none();
+        if !((0 < self.left) & (self.near < ring.len)) {
+            return None;
         }
         let t = setup.params.score_threshold;
         let entry = ring.newest();
@@ -85,7 +76,7 @@ impl Certificate {
                 if h + DISTANCE <= (n as f64) * t {
                     return self.stepped(t, h, v, w);
                 }
-                Certificate::none()
+                None
             }
         }
     }

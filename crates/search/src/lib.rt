@@ -21,20 +21,19 @@ pub use carried::nothing;
 pub use dust::dust_backward;
 pub use kept::DISTANCE;
 
-// The sum and the best score of the last find's forward scan, carried on to the newest entry while `on`.
-// `on` is a flag among the fields, here and in the certificate, since they are set one by one at each letter: an Option would go through memory whole.
+// The sum and the best score of the last find's forward scan, carried on to the newest entry while `on`, with a certificate of its start, if there is one.
+// `on` is a flag: as an Option, random letters took a tenth longer and E. coli 7 %.
 #[derive(Clone, Copy)]
 pub struct Carry {
     pub on: bool,
     pub s: f64,
     pub best: f64,
-    pub certificate: Certificate,
+    pub certificate: Option<Certificate>,
 }
 
-// While it is on, the start of the carried scan is what a backward scan finds, wherever that scan is best at the newest entry.
+// While there is one, the start of the carried scan is what a backward scan finds, wherever that scan is best at the newest entry.
 #[derive(Clone, Copy)]
 pub struct Certificate {
-    pub on: bool,
     // How many letters it may still last.
     pub left: usize,
     // How many of the newest entries are near.
@@ -48,7 +47,7 @@ pub struct Certificate {
 }
 
 // One past the index found, 0 for none, and the scan that is carried on.
-// A number, as the carry is there whether something was found or not, and is set field by field.
+// A number, as a scan has it, and as the first letter of a find is worked out from it: an Option would be taken apart at each use.
 #[derive(Clone, Copy)]
 pub struct Scanned {
     pub found: usize,

@@ -18,10 +18,12 @@ fn scan_quickly(
     scan_counts: &mut [u16],
 ) -> BackwardState
     requires windowed { WindowCounted setup.now ring.now window_counts.now }
-    requires len_nonzero { (0 < ring.now.len) × (scan_counts.old ≡ replicate (4 ^ setup.now.params.kmer) 0) }
+    requires len_nonzero { (0 < ring.now.len) × (setup.now.params.window_size < length setup.now.f.now)
+        × (scan_counts.old ≡ replicate (4 ^ setup.now.params.kmer) 0) }
     ensures { ScansQuick (as_setup setup.now) (entries_of ring.now) (rest_of result scan_counts.new) }
 {
     let mut st = BackwardState::new(ring.len);
+    // A `while`: how many turns there are, the scan alone tells.
     while st.goes_on() {
         st = backward_on(setup, true, st, ring, window_counts, scan_counts);
     }
@@ -74,7 +76,8 @@ pub fn find_quickly(
     scan_counts: &mut [u16],
 ) -> Scanned
     requires windowed { WindowCounted setup.now ring.now window_counts.now }
-    requires len_nonzero { (0 < ring.now.len) × (scan_counts.old ≡ replicate (4 ^ setup.now.params.kmer) 0) }
+    requires len_nonzero { (0 < ring.now.len) × (setup.now.params.window_size < length setup.now.f.now)
+        × (scan_counts.old ≡ replicate (4 ^ setup.now.params.kmer) 0) }
     requires carried { Carried (as_setup setup.now)
         (window ring.now.queue.now ring.now.head (ring.now.len - 1)) start carry }
     ensures { FindsQuickly (as_setup setup.now) (entries_of ring.now) result scan_counts.new }

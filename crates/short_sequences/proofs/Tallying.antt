@@ -7,10 +7,10 @@ use native.Mathlib.Numerals.{add-one}
 use native.Mathlib.Omega.{arith}
 use borrow.Author.Tests.{eqb-true, eqb-false}
 use lib.Dec.{eqb}
-use lib.ListN.{length, take, drop, get_or, set, replicate, length-set, length-replicate}
+use lib.ListN.{length, take, get_or, set, replicate, length-set, length-replicate}
 use Rattle.std.proofs.lemmas.List.{get_or-replicate}
 use lib.Seq.{ext_get_or, take-suc, take_all, length-take-le, get_or-set_same, get_or-set_other}
-use Rattle.buffers.specs.Fill.{put, tabulate, tabulate_from}
+use Rattle.buffers.specs.Fill.{tabulate, tabulate_from}
 use Rattle.buffers.proofs.Tabulate.{tabulate_length, tabulate_at}
 use Rattle.intervals.proofs.Counted.{covered_at_most}
 use Rattle.std.specs.Prelude.{Option, None, Some, IfSome}
@@ -203,11 +203,6 @@ module _ (m : ℕ) where
   unfolding refused_of tallies_of
   tallying_end {i} a h =
       (a.refused_are ∙ ap (λ (l : List (List ℕ)). count_of is_refused l) (all_taken i h), a.tallies_are ∙ ap (λ (l : List (List ℕ)). tallies_over m l) (all_taken i h))
-
--- The tallies over the front of a buffer.
-pub tallies_put : (m : ℕ) (d part : List ℕ) → part ≡ tallies_of m → part ++ drop (m + 1) d ≡ put (tallies_of m) d
-unfolding tallies_of
-tallies_put m d part e = ap₂ (λ (xs : List ℕ) (n : ℕ). xs ++ drop n d) e (sym (tallies_length m (sequences_of m)))
 
 -- ---- The tallies and the refused sum to 5^m.
 total_none : (n i : ℕ) → total (tabulate_from (λ c. count_of (leads_to c) []) n i) ≡ 0

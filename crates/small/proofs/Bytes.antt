@@ -4,28 +4,13 @@ use mathlib.Core.List.{List, [], ◌∷◌, ◌++◌, append_assoc}
 use Prim.Native.Nat.{ℕ, ◌+◌, ◌*◌, ◌≤◌, ◌<◌}
 use native.Mathlib.Numerals.{add-one}
 use native.Mathlib.Omega.{arith}
-use lib.ListN.{length, take, get_or, set}
+use lib.ListN.{length, take, get_or}
 use lib.Seq.{take_all, take-suc, length-take-le}
 use Rattle.buffers.specs.Fill.{put, put_at}
-use Rattle.buffers.proofs.Put.{put_at_next, put_next, put_at_store, put_at_more}
+use Rattle.buffers.proofs.Put.{put_next}
 use Rattle.intervals.specs.declared.Interval.{Interval}
 use Rattle.intervals.specs.Interval.{interval}
-use Rattle.small.specs.Bytes.{four_bytes, pair_bytes, bytes_of}
-
--- Four stores.
-pub four_stored : (at a b c e : ℕ) (d : List ℕ) → at + 4 ≤ length d
-    → set (set (set (set d at a) (at + 1) b) (at + 2) c) (at + 3) e ≡ put_at at (a ∷ b ∷ c ∷ e ∷ []) d
-four_stored at a b c e d h =
-    ap (λ (l : List ℕ). set (set (set l (at + 1) b) (at + 2) c) (at + 3) e) (put_at_store at a d (omega arith))
-    ∙ ap (λ (l : List ℕ). set (set l (at + 2) c) (at + 3) e) (put_at_more at (a ∷ []) b d (omega arith))
-    ∙ ap (λ (l : List ℕ). set l (at + 3) e) (put_at_more at (a ∷ b ∷ []) c d (omega arith))
-    ∙ put_at_more at (a ∷ b ∷ c ∷ []) e d (omega arith)
-
--- A number after another.
-pub pair_written : (at s e : ℕ) (d d₁ d₂ : List ℕ) → at + 8 ≤ length d → d₁ ≡ put_at at (four_bytes s) d → d₂ ≡ put_at (at + 4) (four_bytes e) d₁
-    → d₂ ≡ put_at at (pair_bytes (interval s e)) d
-pair_written at s e d d₁ d₂ h p q =
-    q ∙ ap (λ (l : List ℕ). put_at (at + 4) (four_bytes e) l) p ∙ put_at_next at (four_bytes s) (four_bytes e) d (omega arith)
+use Rattle.small.specs.Bytes.{pair_bytes, bytes_of}
 
 bytes_append : (is js : List Interval) → bytes_of (is ++ js) ≡ bytes_of is ++ bytes_of js
 unfolding bytes_of
@@ -78,5 +63,5 @@ module _ {ps : List Interval} {d : List ℕ} where
   writing_end {i} a h =
       a.now ∙ ap (λ (is : List Interval). put (bytes_of is) d) (take_all i ps (omega arith))
 
--- The laws by which `write_number`, `write_list` are proved.
-pub ruleset bytes = (four_stored, writing_start, writing_turn)
+-- The laws by which `write_list` is proved.
+pub ruleset bytes = (writing_start, writing_turn)

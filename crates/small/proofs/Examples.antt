@@ -6,7 +6,7 @@ use Prim.Native.Nat.{ℕ}
 use lib.Ieee.{of_bits, lt}
 use Rattle.checks.specs.Tests.{any_byte, threshold_bad}
 use Rattle.intervals.specs.Interval.{interval}
-use Rattle.scans.specs.declared.Xdrop.TheVariants.{Length}
+use Rattle.std.specs.Prelude.{Some}
 use Rattle.tables.specs.declared.GcOption.TheVariants.{Uniform}
 use Rattle.longdust.specs.declared.LongdustOptions.{LongdustOptions}
 use Rattle.longdust.specs.Options.{threshold06}
@@ -26,7 +26,7 @@ options k w xdrop =
       score_threshold = threshold06;
       kmer = k;
       gc = Uniform;
-      xdrop = Length xdrop;
+      xdrop = Some xdrop;
       min_start_cnt = 3;
       approx = false;
       forward_only = false;

@@ -1,14 +1,13 @@
 -- What a request inside the profile has: the masking calls accept it in the work space, and its output has room.
-use mathlib.Core.Path.{◌≡◌, refl, sym, ◌∙◌}
+use mathlib.Core.Path.{◌≡◌, refl}
 use mathlib.Core.Bool.{Bool, false, cond, true≢false}
-use mathlib.Core.Logic.{⊎_elim}
 use mathlib.Core.List.{List}
-use Prim.Native.Nat.{ℕ, ◌+◌, ◌*◌, ◌/◌, ◌^◌, ◌≤◌, ◌<◌}
+use Prim.Native.Nat.{ℕ, ◌+◌, ◌*◌, ◌^◌, ◌≤◌, ◌<◌}
 use native.Mathlib.Nat.{pow-le-pow_right, div-lt_iff_lt-mul}
 use native.Mathlib.Omega.{arith}
 use lib.Dec.{ltb}
 use lib.ListN.{length, get_or}
-use borrow.Author.Tests.{lt-ltb, le-ltb, ltb-false}
+use borrow.Author.Tests.{le-ltb, ltb-false}
 use Rattle.checks.specs.Checks.{check}
 use Rattle.checks.specs.Tests.{most_intervals}
 use Rattle.scans.proofs.Test.{neither}
@@ -19,18 +18,9 @@ use Rattle.longdust.specs.Checks.{gc_bad, too_short_of}
 use Rattle.longdust.specs.Checks.{refusal as call_refusal}
 use Rattle.longdust.specs.Terms.Inner.{Bounds, Enough}
 use Rattle.longdust.proofs.Accept.{admitted}
-use Rattle.intervals.proofs.Order.{lt_or_le}
 use Rattle.small.specs.Profile.{not_uniform, outside, checks, refusal}
 use Rattle.small.specs.Terms.Run.{lent, Asked}
 use Rattle.checks.proofs.Passing.{passes}
-
--- An eighth of the bytes against so many entries.
-pub eighth : (x r : ℕ) → ltb (x / 8) r ≡ ltb x (8 * r)
-eighth x r =
-    ⊎_elim
-    (λ h. lt-ltb (x / 8) r h ∙ sym (lt-ltb x (8 * r) (omega arith)))
-    (λ h. le-ltb (x / 8) r h ∙ sym (le-ltb x (8 * r) (omega arith)))
-    (lt_or_le (x / 8) r)
 
 uniform_passes : (gc : GcOption) → not_uniform gc ≡ false → gc_bad gc ≡ false
 unfolding not_uniform gc_bad

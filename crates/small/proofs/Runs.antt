@@ -2,10 +2,7 @@
 use Prim.Native.Nat.{ℕ, ◌+◌, ◌*◌, ◌≤◌}
 use mathlib.Core.Path.{◌≡◌, ap, ap₂, subst, ◌∙◌}
 use mathlib.Core.List.{List}
-use Rattle.std.specs.Prelude.{Result, Ok, Err}
-use Rattle.checks.specs.declared.refusal.Refusal.{Refusal}
-use Rattle.checks.specs.Refusal.{number_of}
-use Rattle.checks.proofs.Refusing.{number_positive}
+use Rattle.std.specs.Prelude.{Ok}
 use native.Mathlib.Omega.{arith}
 use lib.ListN.{length, take, replicate, length-take, length-replicate}
 use lib.Seq.{take_at}
@@ -23,9 +20,7 @@ use Rattle.tables.specs.Tables.{ln_table, f_table}
 use Rattle.tables.proofs.Tables.{ln_table_length, f_table_length}
 use Rattle.scans.specs.declared.ForwardPosition.{ForwardPosition}
 use Rattle.longdust.specs.declared.LongdustOptions.{LongdustOptions}
-use Rattle.longdust.specs.declared.Lent.{Lent}
 use Rattle.longdust.specs.declared.Answer.{Answer}
-use Rattle.longdust.specs.Checks.{refusal}
 use Rattle.longdust.specs.Mask.{mask}
 use Rattle.longdust.specs.Buffers.{Buffers, buffers, lengths}
 use Rattle.longdust.specs.Call.{ln_read, f_read, listed, Kept, Filled, Answered}
@@ -56,12 +51,6 @@ module _ (o : LongdustOptions) (s : List ℕ) {b b' : Buffers} {a : Answer} (A :
 
 -- The run in the work space, on tables that serve it, is not refused.
 module _ {o : LongdustOptions} {s : List ℕ} (q : Asked o s) {b b' : Buffers} (e : lengths b ≡ lent) where
-  accepts : {r : Result Answer Refusal} → Answered Kept o s b b' r → number_of r ≡ 0
-  accepts A = A.number ∙ ap (λ (l : Lent). refusal o s l) e ∙ q.accepted
-
-  never : {d : Refusal} → Answered Kept o s b b' (Err d) → ⊥
-  never {d} A = omega (arith, number_positive d, accepts A)
-
   module _ {a : Answer} (A : Answered Kept o s b b' (Ok a)) (t : Serve o s b.ln b.f) where
     mask_served : mask o s (ln_read o b') (f_read o b') ≡ filled_mask o s
     mask_served =
@@ -100,9 +89,6 @@ module _ (ln f : List Float) (cs : List ForwardPosition) (fl rl xs : List Interv
     pub ran : Serve o s ln f → {a : Answer} {xs' : List Interval} → Answered Kept o s (fresh ln f cs fl rl xs) b' (Ok a) → b'.list ≡ xs'
         → Ran o s xs xs' a.count
     ran t {a} A h = subst (λ (z : List Interval). Ran o s xs z a.count) h (ran_lent q fresh_lent A t)
-
-    pub not_refused : {d : Refusal} → Answered Kept o s (fresh ln f cs fl rl xs) b' (Err d) → ⊥
-    not_refused A = never q fresh_lent A
 
 -- An accepted request of the profile: the list that the run leaves, and what is written of it.
 module _ {o : LongdustOptions} {s : List ℕ} {xs xs' : List Interval} {count : ℕ} (run : Ran o s xs xs' count) (room : ℕ) (e : small_refusal o s room ≡ 0) where

@@ -2,12 +2,11 @@
 
 #![tactic(auto)]
 
-ghost use Rattle.std.specs.Prelude.{◌≡◌, ◌+◌, ◌*◌, ◌≤◌, ◌<◌, ltb, length, IfOk, OnOk, OnErr};
-ghost use Rattle.buffers.specs.Fill.{put, put_at};
+ghost use Rattle.std.specs.Prelude.{◌≡◌, ◌*◌, ◌≤◌, ◌<◌, ltb, length, IfOk, OnOk, OnErr};
+ghost use Rattle.buffers.specs.Fill.{put};
 ghost use Rattle.checks.specs.Tests.{most_intervals};
-ghost use Rattle.intervals.specs.Interval.{interval};
 ghost use Rattle.small.specs.Profile.{not_uniform, outside, refusal};
-ghost use Rattle.small.specs.Bytes.{four_bytes, bytes_of, pair_bytes};
+ghost use Rattle.small.specs.Bytes.{bytes_of, pair_bytes};
 ghost use Rattle.checks.specs.Refusal.{number_of};
 ghost use Rattle.small.specs.Call.{filled_mask};
 ghost use Rattle.small.specs.Terms.Run.{Asked, FilledTo, Serve, Ran};
@@ -82,22 +81,13 @@ fn check(sequence: &[u8], options: LongdustOptions, room: usize) -> Result<(), R
 }
 
 // ---- The bytes.
-// Writes the four bytes of a number, lowest first.
-#[tactic(auto, using(crate::proofs::Bytes::bytes))]
-fn write_number(x: u32, out: &mut [u8], at: usize)
-    requires { at + 4 ≤ length out.old }
-    ensures { out.new ≡ put_at at (four_bytes x) out.old }
+// Writes start and end, four bytes each, lowest first: a list's entry is two numbers, and no method writes both.
+fn write_pair(interval: Interval, out: &mut [u8])
+    requires { length out.old ≡ 8 }
+    ensures { out.new ≡ pair_bytes interval }
 {
-    out[at..at + 4].copy_from_slice(&x.to_le_bytes());
-}
-
-// Writes start and end.
-fn write_pair(start: u32, end: u32, out: &mut [u8], at: usize)
-    requires { at + 8 ≤ length out.old }
-    ensures { out.new ≡ put_at at (pair_bytes (interval start end)) out.old }
-{
-    write_number(start, out, at);
-    write_number(end, out, at + 4);
+    out[..4].copy_from_slice(&interval.start.to_le_bytes());
+    out[4..].copy_from_slice(&interval.end.to_le_bytes());
 }
 
 // Writes the intervals of the list to the front of the output.
@@ -106,10 +96,8 @@ fn write_list(list: &[Interval], out: &mut [u8])
     requires { 8 * length list.now ≤ length out.old }
     ensures { out.new ≡ put (bytes_of list.now) out.old }
 {
-    let mut i = 0;
-    while i < list.len() {
-        write_pair(list[i].start, list[i].end, out, 8 * i);
-        i += 1;
+    for (i, interval) in list.iter().enumerate() {
+        write_pair(*interval, &mut out[8 * i..8 * i + 8]);
     }
 }
 

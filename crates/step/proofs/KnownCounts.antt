@@ -130,7 +130,7 @@ oldest S e q (pos (suc j)) true c counts b within k =
       touched = k.touched;
       live = k.live;
       counted = k.counted;
-      carried = record { sums = k.carried.sums; certified = λ on. certified_left e q b within (k.carried.certified on) };
+      carried = record { sums = k.carried.sums; certified = λ on. certified_left S e q b within j c.certificate (k.carried.certified on) };
     })
 oldest S e q (negsuc j) true c counts b l k = absurd (pos-ne-negsuc 0 j (sym (k.from refl)))
 

@@ -114,14 +114,15 @@ module _ {S : Setup} {q : List Place} {w : Window} {counts : List ℕ} where
   passes_off off = record { off = λ _. (refl, refl); same = λ _. refl; on = λ on. absurd (true≢false (sym on ∙ off)) }
 
 -- A carried scan can go on to an entry that has entered.
-pub passing : {p : Params} {ln f : List Float} {w : Window} {e : ℕ} {ring window_counts counts : List ℕ} → Entered p ln f w e ring window_counts counts
-    → length counts ≡ 4 ^ p.kmer → Passing p w ring window_counts (length ln) counts
-passing {w = w} {ring = ring} n c =
+pub passing : {p : Params} {ln f : List Float} {w : Window} {e n_f : ℕ} {ring window_counts counts : List ℕ} → Entered p ln f w e ring window_counts counts
+    → length counts ≡ 4 ^ p.kmer → p.window_size < n_f → Passing p w ring window_counts (length ln) n_f counts
+passing {w = w} {ring = ring} n c f =
     let k = n.known in
     let h = n.windowed in
     let q = window ring w.head (w.len - 1) in
     let j = whole w.last_q in
     record {
+      f_long = f;
       joining = λ on. record {
         windowed = h;
         some = n.some;

@@ -8,6 +8,8 @@ ghost use Rattle.step.specs.Terms.Finding.{saved_in, Found, Saving};
 use intervals::Interval;
 
 // Its start and end, each -1 at first, and how many intervals are saved.
+// No Option: the specification compares and subtracts these numbers, -1 too.
+// The list does not stand beside its count: the run's state is a value, and the list is lent.
 #[derive(Clone, Copy)]
 pub struct Open {
     pub start: i64,

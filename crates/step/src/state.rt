@@ -4,6 +4,7 @@ ghost use Rattle.std.specs.Prelude.{◌≡◌, true, List, ◌/◌, ◌^◌, ◌
 ghost use Rattle.std.specs.Int.Signed.{le_z};
 ghost use Rattle.letters.specs.Terms.Rolling.{entry_of};
 ghost use Rattle.intervals.specs.declared.Interval.{Interval};
+ghost use Rattle.scans.specs.Terms.Numbers.{setup_of};
 ghost use Rattle.scans.specs.Terms.Run.{as_setup};
 ghost use Rattle.scans.specs.Terms.Window.{window, Windowed};
 ghost use Rattle.step.specs.Terms.KnownCounts.{KnownCounts, Passing, sought, extended_of, answered_by};
@@ -76,9 +77,9 @@ impl State {
         scan_counts: &mut [u16],
     ) -> Self
         requires { Next setup.now.params codes.now (length setup.now.ln.now) self queue.old window_counts.old (length scan_counts.old) }
-        ensures { KnownCounts (as_setup setup.now)
+        ensures { (f : List Float) → KnownCounts (setup_of setup.now.params setup.now.ln.now f)
             (window queue.old self.window.head self.window.len) self.window scan_counts.old
-            → Enters setup.now.params codes.now setup.now.ln.now setup.now.f.now self result queue.old scan_counts.old
+            → Enters setup.now.params codes.now setup.now.ln.now f self result queue.old scan_counts.old
             queue.new window_counts.new scan_counts.new }
     {
         let i = self.i;
@@ -114,7 +115,7 @@ impl State {
         scan_counts: &mut [u16],
     ) -> Self
         requires i_bound { self.i < 2147483648 }
-        requires passing { Passing setup.now.params self.window queue.now window_counts.now (length setup.now.ln.now) scan_counts.old }
+        requires passing { Passing setup.now.params self.window queue.now window_counts.now (length setup.now.ln.now) (length setup.now.f.now) scan_counts.old }
         ensures { PassedOn setup.now.params setup.now.ln.now setup.now.f.now queue.now self result scan_counts.old
             scan_counts.new }
     {
@@ -164,7 +165,7 @@ impl State {
 
     // Whether extend is tried at letter i: i = end, window score > 0, and last_q = 0 or i - start >= len.
     fn extend_tried(self, setup: &Setup) -> bool
-        requires { (self.i < 2147483648) × (self.window.len ≤ setup.now.params.window_size) × (self.window.len < 65536) }
+        requires { (self.i < 2147483648) × (self.window.len < length setup.now.f.now) × (self.window.len < 65536) }
         ensures { result ≡ tried_by setup.now.params setup.now.f.now self }
     {
         let len = self.window.len;
@@ -177,7 +178,7 @@ impl State {
     // Extends from letter i's k-mer if that is tried, and answers whether it succeeded.
     fn extends(self, setup: &Setup, kmer: u32, scan_counts: &mut [u16]) -> bool
         requires { (self.i < 2147483648) × (0 < self.window.len) × (self.window.len ≤ setup.now.params.window_size) × (setup.now.params.window_size ≤ 65535)
-            × (kmer < length scan_counts.old) }
+            × (setup.now.params.window_size < length setup.now.ln.now) × (setup.now.params.window_size < length setup.now.f.now) × (kmer < length scan_counts.old) }
         ensures { Extended setup.now.params setup.now.ln.now setup.now.f.now self kmer scan_counts.old result
             scan_counts.new }
     {
@@ -196,7 +197,8 @@ impl State {
         scan_counts: &mut [u16],
     ) -> Look
         requires i_bound { (self.i < 2147483648) × (0 < self.window.len) × (self.kmer.value < 16777216)
-            × (entry_of setup.now.params.kmer self.kmer / 2 < 4 ^ setup.now.params.kmer) × (length scan_counts.old ≡ 4 ^ setup.now.params.kmer) }
+            × (entry_of setup.now.params.kmer self.kmer / 2 < 4 ^ setup.now.params.kmer) × (length scan_counts.old ≡ 4 ^ setup.now.params.kmer)
+            × (setup.now.params.window_size < length setup.now.f.now) }
         requires windowed { Windowed setup.now.params queue.now self.window.head self.window.len window_counts.now (length setup.now.ln.now) }
         requires self_value { is_searched setup.now.params.min_start_cnt window_counts.now (newest_of setup.now.params self) ≡ true }
         ensures { (saved : List Interval) → Looks (as_setup setup.now) self.i

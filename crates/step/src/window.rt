@@ -16,6 +16,7 @@ use scans::{Ring, Setup};
 
 // The window's float sum, last_q, and where its entries stand in the ring: `len` of them, the oldest at `head`.
 // Unless `live`, all scan counts are 0; `carry` is the forward scan from last_q on.
+// No Option: the specification computes with last_q, -1 too, and `live` says something of the counts, not whether there is a value.
 #[derive(Clone, Copy)]
 pub struct Window {
     pub sum: f64,
@@ -104,7 +105,7 @@ impl Window {
         self.sum = sum_without(self.sum, entry, setup.ln, window_counts);
         if self.live & is_at(last_q, 0) {
             scans::lower_entry(scan_counts, entry);
-            self.carry = self.carry.ended();
+            self.carry = search::Carry::none();
         }
         self.last_q = last_q_without(last_q);
         self.head = scans::ring_index(setup.params.window_size, head, 1);
@@ -160,7 +161,7 @@ impl Window {
         window_counts: &[u16],
         scan_counts: &mut [u16],
     ) -> Self
-        requires { Passing setup.now.params self queue.now window_counts.now (length setup.now.ln.now) scan_counts.old }
+        requires { Passing setup.now.params self queue.now window_counts.now (length setup.now.ln.now) (length setup.now.f.now) scan_counts.old }
         ensures { Passes (as_setup setup.now) (window queue.now self.head self.len) self result
             scan_counts.old scan_counts.new }
     {
@@ -171,10 +172,9 @@ impl Window {
                 head: self.head,
                 len: self.len,
             };
-            let carry = self
+            self.carry = self
                 .carry
                 .next(setup, from, &ring, window_counts, scan_counts);
-            self.carry = self.carry.replaced(carry);
         }
         self
     }
@@ -184,7 +184,7 @@ impl Window {
         ensures { result ≡ (extended_of self).window }
     {
         self.live = true;
-        self.carry = self.carry.ended();
+        self.carry = search::Carry::none();
         self
     }
 
@@ -193,11 +193,11 @@ impl Window {
         ensures { result ≡ (answered_by self found carry).window }
     {
         self.live = found != 0;
-        self.carry = self.carry.replaced(carry);
+        self.carry = carry;
         self
     }
 
-    // Clears the scan counts.
+    // Clears the scan counts that can be above 0; `fill` would clear all of them at each search.
     pub fn clear(self, queue: &[u32], scan_counts: &mut [u16])
         requires queued { Queued queue.now self.head self.len (length scan_counts.old) }
         requires clearing { Clearing self (window queue.now self.head self.len) scan_counts.old }

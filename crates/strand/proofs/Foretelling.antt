@@ -5,7 +5,7 @@ use mathlib.Core.Bool.{Bool, true, false, not, true≢false}
 use mathlib.Core.List.{List}
 use Prim.Native.Nat.{ℕ, ◌-◌, ◌^◌, ◌<◌}
 use native.Mathlib.Omega.{arith}
-use lib.ListN.{drop}
+use lib.ListN.{length, drop}
 use lib.Ieee.{Float}
 use Rattle.scans.specs.declared.Params.{Params}
 use Rattle.scans.specs.Terms.Counted.{Counted, Touched}
@@ -27,10 +27,10 @@ module _ {p : Params} {ln f : List Float} {w : Window} {ring window_counts count
     on : w.carry.on ≡ true
     on = is_on w.carry.on going
 
-    pub asks : (l < w.len) × (w.carry.on ≡ true) × Counted (4 ^ p.kmer) counts (drop l (window ring w.head (w.len - 1)))
+    pub asks : (l < w.len) × (w.carry.on ≡ true) × (p.window_size < length f) × Counted (4 ^ p.kmer) counts (drop l (window ring w.head (w.len - 1)))
     asks =
         let k = a.known in
-        (omega (arith, l_is, k.inside (k.live on), older_long a.windowed, a.some), on, subst (λ (j : ℕ). Counted (4 ^ p.kmer) counts (drop j (window ring w.head (w.len - 1)))) (sym l_is) (k.counted on))
+        (omega (arith, l_is, k.inside (k.live on), older_long a.windowed, a.some), on, a.f_long, subst (λ (j : ℕ). Counted (4 ^ p.kmer) counts (drop j (window ring w.head (w.len - 1)))) (sym l_is) (k.counted on))
 
     pub told_none : (counts' : List ℕ) (r : Option Scanned) → IfNone r (Touched counts' (drop l (window ring w.head w.len))) → IfNone r (Clearing w (window ring w.head w.len) counts')
     told_none counts' (Some r) t = tt

@@ -73,12 +73,12 @@ unfolding queue decoded
 begun_known S ring counts h = rw h known_unread
 
 module _ {p : Params} {codes : List ℕ} {ln f : List Float} {ring window_counts counts : List ℕ} {list : List Interval} where
-  pub inv_start : {n_window_counts n_counts n_candidates n_list : ℕ} {a : State}
-      → StrandLent p (length codes) (length ring) n_window_counts n_counts n_candidates n_list → p.window_size < length ln
+  pub inv_start : {n_f n_window_counts n_counts n_candidates n_list : ℕ} {a : State}
+      → StrandLent p (length codes) (length ln) n_f (length ring) n_window_counts n_counts n_candidates n_list
       → (a ≡ unread) × (window_counts ≡ replicate n_window_counts 0) × (counts ≡ replicate n_counts 0)
       → Before p codes ln f a ring window_counts counts list
   unfolding run run_from queue decoded
-  inv_start l long (e, hw, hc) =
+  inv_start l (e, hw, hc) =
       let S = setup_of p ln f in
       let window_clear = cleared_is l.window_counts_are hw in
       let clear = cleared_is l.part.counts_is hc in
@@ -94,7 +94,7 @@ module _ {p : Params} {codes : List ℕ} {ln f : List Float} {ring window_counts
             small = l.small;
             head_in = omega (arith, l.wide);
             len_in = omega arith;
-            ln_long = long;
+            ln_long = l.ln_long;
             counts_long = rw window_clear (length-replicate (4 ^ p.kmer) 0);
             below = λ j m. absurd (let b : ⊥ = omega (arith, m) in b);
             counted = rw window_clear (cleared_counted (4 ^ p.kmer)).counted;
@@ -202,7 +202,8 @@ module _ {p : Params} {codes : List ℕ} {ln f : List Float} {a : State} {ring�
   entered_as e = subst (λ (z : List ℕ). Entered p ln f r.window (entry_of p.kmer r.kmer) ring window_counts z) (sym e) entered
 
   -- Nothing more.
-  pub look_passing : look ≡ Pass → length counts₁ ≡ 4 ^ p.kmer → Passing p r.window ring window_counts (length ln) counts₁
+  pub look_passing : {n_f : ℕ} → look ≡ Pass → length counts₁ ≡ 4 ^ p.kmer → p.window_size < n_f
+      → Passing p r.window ring window_counts (length ln) n_f counts₁
   look_passing e = passing (entered_as (looked_counts (k []) e))
 
   pub before_passed : {a' : State} {counts' : List ℕ} → look ≡ Pass → PassedOn p ln f ring r a' counts₁ counts' → Before p codes ln f a' ring window_counts counts' list
@@ -224,8 +225,8 @@ module _ {p : Params} {codes : List ℕ} {ln f : List Float} {a : State} {ring�
     abbrev entered_still : Entered p ln f r.window (entry_of p.kmer r.kmer) ring window_counts counts₁
     entered_still = entered_as (looked_counts (k []) e)
 
-    pub scan_asking : length counts₁ ≡ 4 ^ p.kmer → Asking p ln f r.window ring window_counts counts₁
-    scan_asking c = record { some = entered.some; windowed = entered.windowed; known = entered_still.known; counts_is = c }
+    pub scan_asking : length counts₁ ≡ 4 ^ p.kmer → p.window_size < length f → Asking p ln f r.window ring window_counts counts₁
+    scan_asking c h = record { some = entered.some; windowed = entered.windowed; known = entered_still.known; counts_is = c; f_long = h }
 
     answer_seeks : {b : Scanned} {counts' : List ℕ} → ScanAnswer (setup_of p ln f) r.window ring b counts'
         → SeeksAt p ln f r ring counts (answered_by r.window b.found b.carry) counts'

@@ -3,6 +3,7 @@
 ghost use Rattle.std.specs.Prelude.{◌≡◌, List, ℕ, ◌+◌, ◌-◌, ◌<◌, IfSome, IfNone, length};
 ghost use Rattle.scans.specs.Counts.{cleared};
 ghost use Rattle.scans.specs.Terms.Run.{as_setup, entries_of, WindowCounted};
+ghost use Rattle.scans.specs.Terms.Shape.{Shaped};
 ghost use Rattle.scans.specs.Terms.Window.{window};
 ghost use Rattle.search.specs.Terms.Fails.{TellsNone};
 ghost use Rattle.step.specs.Terms.KnownCounts.{Clearing};
@@ -32,8 +33,10 @@ pub fn renewed(
     window_counts: &[u16],
     scan_counts: &mut [u16],
 ) -> Option<LowSince>
-    requires i_bound { (i < 2147483648) × (r.scanned.found ≡ 0 → scan_counts.old ≡ cleared (as_setup setup.now)) }
+    requires i_bound { (i < 2147483648) × (setup.now.params.window_size < length setup.now.f.now)
+        × (r.scanned.found ≡ 0 → scan_counts.old ≡ cleared (as_setup setup.now)) }
     requires windowed { WindowCounted setup.now ring.now window_counts.now }
+    requires shaped { Shaped setup.now.params setup.now.ln.now setup.now.f.now }
     ensures known { (codes : List ℕ) → entries_of ring.now ≡ (run_to (as_setup setup.now) codes (i + 1)).window
         → IfSome low (KnownLow (as_setup setup.now) codes i) → IfSome result (KnownLow (as_setup setup.now) codes (i + 1)) }
     ensures counts_are { scan_counts.new ≡ scan_counts.old }
@@ -57,7 +60,8 @@ fn tells(
     window_counts: &[u16],
     scan_counts: &mut [u16],
 ) -> bool
-    requires i_bound { (i < 2147483648) × (scan_counts.old ≡ cleared (as_setup setup.now)) }
+    requires i_bound { (i < 2147483648) × (setup.now.params.window_size < length setup.now.f.now)
+        × (scan_counts.old ≡ cleared (as_setup setup.now)) }
     requires windowed { WindowCounted setup.now ring.now window_counts.now }
     requires asks_low { IfSome low (AsksLow (as_setup setup.now) (entries_of ring.now) ring.now.len i) }
     ensures { TellsNone (as_setup setup.now) (entries_of ring.now) result
@@ -80,7 +84,8 @@ fn certain(
     window_counts: &[u16],
     scan_counts: &mut [u16],
 ) -> Option<Scanned>
-    requires { Asking setup.now.params setup.now.ln.now setup.now.f.now w queue.now window_counts.now scan_counts.old }
+    requires asking { Asking setup.now.params setup.now.ln.now setup.now.f.now w queue.now window_counts.now scan_counts.old }
+    requires shaped { Shaped setup.now.params setup.now.ln.now setup.now.f.now }
     ensures told { IfSome result (λ r. ScanAnswer (as_setup setup.now) w queue.now r scan_counts.new) }
     ensures untold { IfNone result (Clearing w (window queue.now w.head w.len) scan_counts.new) }
 {
@@ -107,6 +112,7 @@ pub fn foretell(
 ) -> Option<Scanned>
     requires i_bound { st.i < 2147483648 }
     requires asking { Asking setup.now.params setup.now.ln.now setup.now.f.now st.window queue.now window_counts.now scan_counts.old }
+    requires shaped { Shaped setup.now.params setup.now.ln.now setup.now.f.now }
     requires asks_low { IfSome low (AsksLow (as_setup setup.now) (window queue.now st.window.head st.window.len) st.window.len st.i) }
     ensures told { IfSome result (λ r. ScanAnswer (as_setup setup.now) st.window queue.now r scan_counts.new) }
     ensures untold { IfNone result (scan_counts.new ≡ cleared (as_setup setup.now)) }

@@ -13,6 +13,7 @@ mod skim;
 
 ghost use Rattle.std.specs.Prelude.{◌≡◌, IfSome, length, replicate};
 ghost use Rattle.scans.specs.Terms.Run.{as_setup};
+ghost use Rattle.scans.specs.Terms.Shape.{Shaped};
 ghost use Rattle.step.specs.Terms.Entering.{unread};
 ghost use Rattle.strand.specs.Terms.LowStarts.{KnownLow};
 ghost use Rattle.strand.specs.Terms.Running.{PartLent, StrandLent, Before, Reached, StrandList};
@@ -50,13 +51,15 @@ fn until_scan(
     scan_counts: &mut [u16],
     list: &mut [Interval],
 ) -> State
-    requires part_lent { PartLent setup.now.params (length codes.now) (length scan_counts.old) (length list.old) }
+    requires part_lent { PartLent setup.now.params (length codes.now) (length setup.now.f.now) (length scan_counts.old) (length list.old) }
     requires before { Before setup.now.params codes.now setup.now.ln.now setup.now.f.now from.state queue.old window_counts.old scan_counts.old list.old }
+    requires shaped { Shaped setup.now.params setup.now.ln.now setup.now.f.now }
     requires known_low { IfSome from.low (KnownLow (as_setup setup.now) codes.now from.state.i) }
     ensures { Reached setup.now.params codes.now setup.now.ln.now setup.now.f.now from.state.i result
         queue.new window_counts.new scan_counts.new list.new }
 {
     let mut st = from.state;
+    // A `loop`: a turn may read many letters, and the state says where it stands.
     loop {
         st = skim(setup, st, codes, queue, window_counts, scan_counts);
         if st.i >= codes.len() {
@@ -95,9 +98,10 @@ pub fn inner_process(
     candidates: &mut [scans::ForwardPosition],
     list: &mut [Interval],
 ) -> usize
-    requires { StrandLent setup.now.params (length codes.now) (length queue.old)
+    requires lent { StrandLent setup.now.params (length codes.now) (length setup.now.ln.now) (length setup.now.f.now) (length queue.old)
         (length window_counts.old) (length scan_counts.old) (length candidates.old)
         (length list.old) }
+    requires shaped { Shaped setup.now.params setup.now.ln.now setup.now.f.now }
     ensures { StrandList (as_setup setup.now) codes.now list.new result }
 {
     // In a place of its own, where no store through a lent slice can lie, the numbers stay in registers.
@@ -107,6 +111,7 @@ pub fn inner_process(
         state: begin(window_counts, scan_counts),
         low: None,
     };
+    // A `loop`, as in `until_scan`, whose turns end with a scan.
     loop {
         let st = until_scan(setup, at, codes, queue, window_counts, scan_counts, list);
         if st.i >= codes.len() {

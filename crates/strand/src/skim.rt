@@ -16,7 +16,7 @@ fn skim_as<const LIVE: bool>(
     window_counts: &mut [u16],
     scan_counts: &mut [u16],
 ) -> State
-    requires kmer_bound { (setup.now.params.kmer ≤ 12) × (length codes.now < 2147483648)
+    requires kmer_bound { (setup.now.params.kmer ≤ 12) × (length codes.now < 2147483648) × (setup.now.params.window_size < length setup.now.f.now)
         × (length scan_counts.old ≡ 4 ^ setup.now.params.kmer) }
     requires read { Read setup.now.params codes.now setup.now.ln.now setup.now.f.now from queue.old window_counts.old scan_counts.old }
     requires clear { LIVE ≡ false → from.window.live ≡ false }
@@ -48,7 +48,7 @@ pub fn skim(
     window_counts: &mut [u16],
     scan_counts: &mut [u16],
 ) -> State
-    requires kmer_bound { (setup.now.params.kmer ≤ 12) × (length codes.now < 2147483648)
+    requires kmer_bound { (setup.now.params.kmer ≤ 12) × (length codes.now < 2147483648) × (setup.now.params.window_size < length setup.now.f.now)
         × (length scan_counts.old ≡ 4 ^ setup.now.params.kmer) }
     requires read { Read setup.now.params codes.now setup.now.ln.now setup.now.f.now from queue.old window_counts.old scan_counts.old }
     ensures { Skimmed setup.now.params codes.now setup.now.ln.now setup.now.f.now from result queue.old

@@ -1,15 +1,12 @@
 -- Signed numbers as differences of two naturals: `Is z a b` says that z is a - b.
-use mathlib.Core.Path.{◌≡◌, refl, sym, ap, ap₂, ◌∙◌, subst}
+use mathlib.Core.Path.{◌≡◌, refl, sym, ap, subst}
 use mathlib.Core.Bool.{Bool, true, false, not}
 use mathlib.Core.Logic.{◌↔◌}
 use Prim.Native.Nat.{ℕ, suc, ◌+◌, ◌-◌, ◌≤◌, ◌<◌}
 use native.Mathlib.Omega.{arith}
 use lib.Dec.{T, ltb, ltb→lt, lt→ltb, nleb→lt}
 use lib.IntN.{ℤ, pos, negsuc, ◌-ℤ◌}
-use lib.Signed.{lt_z, le_z, mag, ◌≤ℤ◌, ◌<ℤ◌}
-use mir.Syntax.{w64}
-use mir.Val.{SFits, to_z, of_z}
-use mir.ValLaws.{to_z_pos, to_z-of_z}
+use lib.Signed.{lt_z, le_z, ◌≤ℤ◌, ◌<ℤ◌}
 use borrow.Author.Tests.{ltb-true, ltb-false, lt-ltb, le-ltb}
 use Rattle.floats.proofs.Whole.{Is, is_as, is_sub, is_le, le_is}
 use Rattle.strongest.specs.Strongest.{excess}
@@ -83,18 +80,3 @@ pub lt_le : (x y : ℤ) → x <ℤ y → x ≤ℤ y
 lt_le x y h =
     let a = (is_lt x y (up x) (down x) (up y) (down y) (parts x) (parts y)).0 h in
     (is_le x y (up x) (down x) (up y) (down y) (parts x) (parts y)).1 (omega arith)
-
--- ---- A difference of two small numbers in 64 signed bits.
-module _ (a b : ℕ) (h : a < 9007199254740992) (k : b < 9007199254740992) where
-  same_difference : (to_z w64 a -ℤ to_z w64 b) ≡ pos a -ℤ pos b
-  same_difference = ap₂ (λ (x y : ℤ). x -ℤ y) (to_z_pos w64 a (omega arith)) (to_z_pos w64 b (omega arith))
-
-  small : (z : ℤ) → Is z a b → mag z < 9223372036854775808
-  small (pos i) e = omega arith
-  small (negsuc i) e = omega arith
-
-  pub difference_fits : SFits w64 (to_z w64 a -ℤ to_z w64 b)
-  difference_fits = subst (λ (z : ℤ). SFits w64 z) (sym same_difference) (record { sfits = small (pos a -ℤ pos b) (difference_is a b) })
-
-  pub difference_read : to_z w64 (of_z w64 (to_z w64 a -ℤ to_z w64 b)) ≡ pos a -ℤ pos b
-  difference_read = to_z-of_z w64 (to_z w64 a -ℤ to_z w64 b) difference_fits ∙ same_difference

@@ -26,7 +26,7 @@ pub enum GcOption {
 }
 
 // Classes of k-mers: how much more often than 1 in 4^k a k-mer of the class is expected, and how
-// many k-mers the class has. Entries from `classes` on are 0.
+// many k-mers the class has. Entries from `classes` on are 0. Two arrays of thirteen, as the specification has the record.
 #[derive(Clone, Copy)]
 pub struct Density {
     pub ratio: [f64; 13],

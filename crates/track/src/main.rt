@@ -3,32 +3,35 @@
 
 #![tactic(auto)]
 
-ghost use Rattle.std.specs.Prelude.{ℕ, ◌≤◌, ◌≡◌, List, length, IfOk};
+ghost use Rattle.std.specs.Prelude.{ℕ, ◌≤◌, ◌≡◌, List, length, OnOk};
 ghost use Rattle.std.specs.Io.KnownBytes.{Consumes};
 ghost use Rattle.report.specs.Terms.Held.{Held};
 ghost use Rattle.contig.specs.Run.{letters_room};
 
+use report::Text;
 use std::io::{ErrorKind, Read, Result};
 
 const BLOCK: usize = 65536;
 
-// Reads until the reader ends or there is no more room, and answers how many letters are held: those of the bytes that left the
-// reader. A loop has to be shown to end: this one would after 2^64 - 1 reads.
-fn read_letters<R: Read>(reader: &mut R, letters: &mut [u8]) -> Result<usize>
-    requires { length letters.old ≡ letters_room }
-    ensures held { IfOk result (λ count. (bytes : List ℕ) × Consumes (R.remaining reader.old) (R.remaining reader.new) bytes
-        × Held bytes letters.new count) }
-    ensures count_le_letters_room { IfOk result (λ count. count ≤ letters_room) }
+// Reads until the reader ends or there is no more room; the text holds then the letters of the bytes that left the reader. A loop has
+// to be shown to end: this one would after 2^64 - 1 reads.
+// A loop of its own: `contigs` and `replay` keep all bytes.
+fn read_letters<R: Read>(reader: &mut R, letters: &mut Text) -> Result<()>
+    requires { length letters.old.bytes.now ≡ letters_room }
+    ensures held { OnOk result ((bytes : List ℕ) × Consumes (R.remaining reader.old) (R.remaining reader.new) bytes
+        × Held bytes letters.new.bytes.now letters.new.len) }
+    ensures len_le_letters_room { OnOk result (letters.new.len ≤ letters_room) }
+    ensures room { OnOk result (length letters.new.bytes.now ≡ letters_room) }
 {
     let mut block = [0u8; BLOCK];
-    let mut count = 0;
+    letters.len = 0;
     for _ in 0..u64::MAX {
-        if letters.len() <= count {
-            return Ok(count);
+        if letters.bytes.len() <= letters.len {
+            return Ok(());
         }
         match reader.read(&mut block) {
-            Ok(0) => return Ok(count),
-            Ok(n) => count = report::keep_letters(&block[..n], letters, count),
+            Ok(0) => return Ok(()),
+            Ok(n) => letters.keep_letters(&block[..n]),
             Err(e) => {
                 if e.kind() != ErrorKind::Interrupted {
                     return Err(e);
@@ -36,16 +39,24 @@ fn read_letters<R: Read>(reader: &mut R, letters: &mut [u8]) -> Result<usize>
             }
         }
     }
-    Ok(count)
+    Ok(())
 }
 
 fn main(rt: HostRuntime) {
     let mut letters = [0u8; contig::LETTERS_ROOM];
     let mut text = [0u8; contig::TEXT_ROOM];
+    let mut letters = Text {
+        bytes: &mut letters,
+        len: 0,
+    };
+    let mut text = Text {
+        bytes: &mut text,
+        len: 0,
+    };
     match read_letters(&mut rt.stdin(), &mut letters) {
-        Ok(count) => {
-            let end = contig::write_held(&letters, count, &mut text);
-            if let Err(e) = rt.write_all(&text[..end]) {
+        Ok(()) => {
+            contig::write_held(&letters, &mut text);
+            if let Err(e) = rt.write_all(text.written()) {
                 report::say(&rt, "track: standard output", e);
             }
         }

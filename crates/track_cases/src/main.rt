@@ -2,12 +2,17 @@
 
 #![tactic(auto)]
 
+use report::Text;
 use std::io;
 
 fn print_text(rt: &impl Print, bytes: &[u8]) -> io::Result<()> {
     let mut text = [0u8; contig::TEXT_ROOM];
-    let end = contig::write_text(bytes, &mut text);
-    rt.write_all(&text[..end])
+    let mut text = Text {
+        bytes: &mut text,
+        len: 0,
+    };
+    contig::write_text(bytes, &mut text);
+    rt.write_all(text.written())
 }
 
 fn main(rt: HostRuntime) -> io::Result<()> {

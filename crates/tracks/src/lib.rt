@@ -38,6 +38,7 @@ fn wanted(kind: Joined, ours: bool, theirs: bool) -> bool
 }
 
 // How a list goes on from a letter: whether it covers it, and up to where that stays so.
+// `covers` is a yes or no beside a letter that is there either way, so an `Option` would have to hold it twice.
 #[derive(Clone, Copy)]
 struct Side {
     covers: bool,

@@ -1,5 +1,5 @@
 -- Terms of contracts: the scan that makes the certificate of a start, backwards from the newest place, and what it knows of the places read by exact scores.
-use Rattle.std.specs.Prelude.{◌≡◌, Bool, true, false, cond, ◌&&◌, ◌||◌, List, ◌⊎◌, ℕ, suc, ◌+◌, ◌-◌, ◌*◌, ◌^◌, ◌≤◌, ◌<◌, length, get_or, drop, T, Float}
+use Rattle.std.specs.Prelude.{◌≡◌, Bool, cond, ◌&&◌, ◌||◌, List, ◌⊎◌, Option, Some, None, IfSome, IfNone, ℕ, suc, ◌+◌, ◌-◌, ◌*◌, ◌^◌, ◌≤◌, ◌<◌, length, get_or, drop, T, Float}
 use Rattle.std.specs.Float.{nan, binary64}
 use Rattle.std.specs.Float.Ieee.{fits, lt, le, neg}
 use Rattle.floats.specs.Arithmetic.{◌⊕◌, ◌⊖◌}
@@ -22,7 +22,7 @@ use Rattle.scans.specs.Terms.Numbers.{setup_of}
 use Rattle.scans.specs.Terms.Counted.{Counted}
 use Rattle.scans.specs.Terms.Parts.{Ringed}
 use Rattle.scans.specs.Terms.Units.{margin, distance, unevenness, gain, loss}
-use Rattle.search.specs.Terms.Certified.{loss_ahead, strayed, Kept, LowUnits, Certifiable, Bounds, Certified}
+use Rattle.search.specs.Terms.Certified.{loss_ahead, strayed, Kept, LowUnits, Certifiable, Bounds}
 
 abbrev pub larger : Float → Float → Float
 larger a b = cond (lt a b) b a
@@ -38,11 +38,11 @@ rounding = 16384 * unevenness
 abbrev pub AtLeast : Float → ℕ → ℕ → Type 0
 AtLeast x P N = P + neg64 x ≤ pos64 x + N + rounding
 
--- s is the sum over the places.
+-- s is the sum over the places. Not a field of a type: the sum is a value, and the places are lent.
 abbrev pub Summed : Setup → List Place → Float → Type 0
 Summed S es s = After (length es) s (gain S es) (length es * pos64 S.score_threshold)
 
--- A ring of w numbers, tables for which certificates are kept, and a drop limit from 0 to 2^20.
+-- A ring of w numbers, tables for which certificates are kept, and a drop limit from 0 to 2^20. Not a field of a type: setup, ring and counts are lent one by one.
 pub record Making (p : Params) (ring : List ℕ) (head len : ℕ) (ln f : List Float) (counts_length : ℕ) : Type 0 where
   pub ringed : Ringed ring head len (length ln) (length f) counts_length
   pub ring_is : length ring ≡ p.window_size
@@ -91,13 +91,13 @@ pub record Reads (S : Setup) (q : List Place) (a : Reading) : Type 0 where
   pub far_kept : Kept 0 a.far
 
 abbrev pub no_middle : ℕ → Middle
-no_middle len = record { on = true; near = len; h = zero64; u = neg two_to20; peak = neg two_to20 }
+no_middle len = record { near = len; h = zero64; u = neg two_to20; peak = neg two_to20 }
 
-abbrev pub middle_of : Middle → Reading → Float → Float → Middle
+-- With one place more; none where no certificate can be made.
+abbrev pub middle_of : Middle → Reading → Float → Float → Option Middle
 middle_of b a ahead reach =
-    cond (le (b.peak ⊖ ahead) reach) (record { on = b.on; near = b.near; h = b.h; u = b.u; peak = larger b.peak ahead })
-    (cond (lt a.high (neg distance)) (record { on = b.on; near = a.near; h = a.sum; u = a.far; peak = neg two_to20 })
-    (record { on = false; near = b.near; h = b.h; u = b.u; peak = b.peak }))
+    cond (le (b.peak ⊖ ahead) reach) (Some (record { near = b.near; h = b.h; u = b.u; peak = larger b.peak ahead }))
+    (cond (lt a.high (neg distance)) (Some (record { near = a.near; h = a.sum; u = a.far; peak = neg two_to20 })) None)
 
 -- Of the places from index `from` on: those from `low_from` on are low; the others stay within the drop limit of all newer ones, in scores with the f entries of m places more.
 pub record Steady (S : Setup) (q : List Place) (m from : ℕ) (b : Middle) : Type 0 where
@@ -114,7 +114,7 @@ pub record ReadsNewer (S : Setup) (q : List Place) (start m : ℕ) (r : Newer) (
   pub counted : Counted (kmers S) counts (drop r.reading.at q)
   pub reads : Reads S q r.reading
   pub before : start < r.reading.at
-  pub steady : r.middle.on ≡ true → (r.reading.at ≡ suc start) × Steady S q m (suc start) r.middle
+  pub steady : IfSome r.middle (λ b. (r.reading.at ≡ suc start) × Steady S q m (suc start) b)
 
 -- ---- The places older than the start.
 abbrev pub older_of : Older → ℕ → Float → Float → Float → Older
@@ -137,16 +137,17 @@ pub record ReadsOlder (S : Setup) (q : List Place) (start : ℕ) (r : Older) (co
   pub older : T (le distance r.gap) → OlderUnits S q start r.at r.gap
 
 -- ---- The certificate.
-abbrev pub certificate_of : Middle → ℕ → ℕ → Float → Certificate
-certificate_of b m len gap = record { on = lt b.u (neg distance) && le distance gap; left = m; near = len - b.near; h = b.h; u = b.u; gap = gap }
+-- None where the gap, or the bound u of the low scores, is too near 0.
+abbrev pub certificate_of : Middle → ℕ → ℕ → Float → Option Certificate
+certificate_of b m len gap = cond (lt b.u (neg distance) && le distance gap) (Some (record { left = m; near = len - b.near; h = b.h; u = b.u; gap = gap })) None
 
--- The counts are those of the places from r's oldest on; a certificate that is on is one of the start.
+-- The counts are those of the places from r's oldest on; a certificate that is made is one of the start.
 pub record Attempts (S : Setup) (q : List Place) (start : ℕ) (r : Attempt) (counts : List ℕ) : Type 0 where
   pub inside : r.at ≤ length q
   pub counted : Counted (kmers S) counts (drop r.at q)
-  pub made : r.certificate.on ≡ true → (r.at ≤ start) × Bounds S q start r.certificate
+  pub made : IfSome r.certificate (λ c. (r.at ≤ start) × Bounds S q start c)
 
 -- A certificate that is made leaves the counts of the places from the start on; else they are cleared.
-pub record Certifies (S : Setup) (q : List Place) (j : ℕ) (c : Certificate) (counts : List ℕ) : Type 0 where
-  pub made : c.on ≡ true → Certified S q j c × Counted (kmers S) counts (drop j q)
-  pub none : c.on ≡ false → counts ≡ cleared S
+pub record Certifies (S : Setup) (q : List Place) (j : ℕ) (c : Option Certificate) (counts : List ℕ) : Type 0 where
+  pub made : IfSome c (λ b. Bounds S q j b × Counted (kmers S) counts (drop j q))
+  pub none : IfNone c (counts ≡ cleared S)

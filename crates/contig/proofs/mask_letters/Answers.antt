@@ -1,4 +1,3 @@
-use mathlib.Core.Path.{◌≡◌, ap, ◌∙◌}
 use borrow.Author.Rules.{rules}
 use Rattle.std.proofs.lemmas.Result.{err_from_is_err_and}
 use Rattle.contig.proofs.Run.{ran_refusal, ran_list, ran_shape}

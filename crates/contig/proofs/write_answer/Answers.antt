@@ -1,20 +1,20 @@
 use mathlib.Core.Path.{◌∙◌}
 use native.Mathlib.Omega.{arith}
 use Rattle.checks.proofs.Refusing.{number_positive}
-use Rattle.report.proofs.Writing.{written_as}
+use Rattle.report.proofs.Writing.{adds_as}
 use Rattle.contig.proofs.Printed.{too_many, refusal_fits, refused, accepted, report_fits}
 use Rattle.contig.proofs.write_answer.Goals as goal
 
 -- `write_answer` meets its contract: the three cases of what is printed.
 pub returns-then-letters-gt-MOST_LETTERS-clause-written : goal.returns-then-letters-gt-MOST_LETTERS-clause-written
-returns-then-letters-gt-MOST_LETTERS-clause-written c = written_as (too_many _ (omega arith)) c.write_size_refusal.ensures
+returns-then-letters-gt-MOST_LETTERS-clause-written c = adds_as (too_many _ (omega arith)) c.write_size_refusal.ensures
 
 pub write_refusal-requires : goal.write_refusal-requires
 write_refusal-requires c = refusal_fits _ _ (omega arith) c.requires
 
 pub returns-in-Err-clause-written : goal.returns-in-Err-clause-written
 returns-in-Err-clause-written c =
-    written_as
+    adds_as
     (refused _ (omega arith) (omega (arith, c.number.ensures, number_positive c.in-Err.refusal)) (c.number.ensures ∙ c.in-Err.ensures.refusal))
     c.write_refusal.ensures
 
@@ -22,4 +22,4 @@ pub write_report-requires : goal.write_report-requires
 write_report-requires c = let A = c.in-Ok.ensures in report_fits _ (omega arith) A.refusal A.list A.shape _ c.requires
 
 pub returns-in-Ok-clause-written : goal.returns-in-Ok-clause-written
-returns-in-Ok-clause-written c = let A = c.in-Ok.ensures in written_as (accepted _ (omega arith) A.refusal A.list) c.write_report.ensures
+returns-in-Ok-clause-written c = let A = c.in-Ok.ensures in adds_as (accepted _ (omega arith) A.refusal A.list) c.write_report.ensures

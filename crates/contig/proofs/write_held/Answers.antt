@@ -1,4 +1,4 @@
-use Rattle.report.proofs.Writing.{written_as}
+use Rattle.report.proofs.Writing.{adds_as}
 use Rattle.contig.proofs.Printed.{printed_held}
 use Rattle.contig.proofs.write_held.Goals as goal
 
@@ -7,4 +7,4 @@ pub returns-clause-written : goal.returns-clause-written
 returns-clause-written c =
     let W = c.write_answer.ensures in
     let h = c.requires.0 in
-    λ bytes k. written_as (printed_held h k) W.written
+    λ bytes k. adds_as (printed_held h k) W.written

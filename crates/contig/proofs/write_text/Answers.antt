@@ -6,5 +6,5 @@ use Rattle.contig.proofs.write_text.Goals as goal
 pub returns-clause-written : goal.returns-clause-written
 returns-clause-written c =
     let W = c.write_held.ensures in
-    let K = c.keep_letters-count.ensures in
+    let K = c.keep_letters.ensures in
     W.written _ (K.held [] (held_nothing _))

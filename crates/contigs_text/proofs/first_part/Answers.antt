@@ -7,14 +7,14 @@ use Rattle.contigs_text.proofs.first_part.Goals as goal
 
 -- `first_part` meets its contract: the file is too large, has a fault, or all of its text is left.
 pub returns-then-file-gt-MOST_BYTES-clause-part : goal.returns-then-file-gt-MOST_BYTES-clause-part
-returns-then-file-gt-MOST_BYTES-clause-part c = (λ list. part_all (size_fits _ c.requires) c.write_size_refusal-end.ensures (too_many _ (omega arith)) refl)
+returns-then-file-gt-MOST_BYTES-clause-part c = (λ list. part_all (size_fits c.args.text.now c.requires) c.write_size_refusal.ensures (too_many _ (omega arith)) refl)
 
-pub write_refusal-end-requires : goal.write_refusal-end-requires
-write_refusal-end-requires c = refusal_fits _ _ (search rules) c.requires
+pub write_refusal-requires : goal.write_refusal-requires
+write_refusal-requires c = refusal_fits _ c.args.text.now (search rules) c.requires
 
 pub returns-in-Some-clause-part : goal.returns-in-Some-clause-part
 returns-in-Some-clause-part c =
-    (λ list. part_all (refusal_fits _ _ (search rules) c.requires) c.write_refusal-end.ensures (faulty _ (omega arith) _ (c.number.ensures ∙ c.in-Some.ensures) (rw c.number.ensures (fault_positive c.in-Some.fault))) refl)
+    (λ list. part_all (refusal_fits _ c.args.text.now (search rules) c.requires) c.write_refusal.ensures (faulty _ (omega arith) _ (c.number.ensures ∙ c.in-Some.ensures) (rw c.number.ensures (fault_positive c.in-Some.fault))) refl)
 
-pub returns-in-None-clause-part : goal.returns-in-None-clause-part
-returns-in-None-clause-part c = (λ list. part_as (faultless _ (omega arith) 0 c.in-None.ensures refl list) (part_none _ _ 0 (omega arith)))
+pub returns-clause-part : goal.returns-clause-part
+returns-clause-part c = (λ list. part_as (faultless _ (omega arith) 0 c.in_default.ensures refl list) (part_none _ _ (omega arith)))

@@ -11,37 +11,37 @@ use Rattle.report.proofs.Letters.{held_nothing}
 use Rattle.contigs_text.proofs.Fitting.{refused_fits, too_long_fits}
 use Rattle.contigs_text.proofs.Opening.{part_none, part_as, part_all, no_lines, held_many, held_few, held_all, too_long, refused, accepted}
 use Rattle.contigs_text.proofs.open_record.Goals as goal
-use Rattle.contigs_text.proofs.open_record.Goals.{After-keep_letters-n, After-mask_letters}
+use Rattle.contigs_text.proofs.open_record.Goals.{After-keep_letters, After-mask_letters}
 
 -- What the buffer holds, the letters of the record's lines, and its size.
-held : (c : After-keep_letters-n) → Held c.args.lines.now c.keep_letters-n.new.letters c.keep_letters-n.result
-held c = c.keep_letters-n.ensures.held [] (held_nothing c.args.letters.now)
+held : (c : After-keep_letters) → let h = c.keep_letters.new.self in Held c.args.lines.now h.bytes.now h.len
+held c = c.keep_letters.ensures.held [] (held_nothing c.args.letters.now)
 
-room : (c : After-keep_letters-n) → length c.keep_letters-n.new.letters ≡ 32769
-room c = c.keep_letters-n.auto.letters ∙ c.requires.letters_len
+room : (c : After-keep_letters) → length c.keep_letters.new.self.bytes.now ≡ 32769
+room c = c.keep_letters.ensures.room ∙ c.requires.letters_len
 
-inside : (c : After-keep_letters-n) → c.keep_letters-n.result ≤ length c.keep_letters-n.new.letters
-inside c = c.keep_letters-n.ensures.prefix_len.0
+inside : (c : After-keep_letters) → let h = c.keep_letters.new.self in h.len ≤ length h.bytes.now
+inside c = c.keep_letters.ensures.prefix_len.0
 
 -- There are few letters of the record, and the run is on them.
 few : (c : After-mask_letters) → length (letters_of c.args.lines.now) ≤ 32768
-few c = let k = (goal.at.After-mask_letters c).After-keep_letters-n in held_few (held k) (room k) (inside k) (omega arith)
+few c = let k = (goal.at.After-mask_letters c).After-keep_letters in held_few (held k) (room k) (inside k) (omega arith)
 
-all : (c : After-mask_letters) → take c.keep_letters-n.result c.keep_letters-n.new.letters ≡ letters_of c.args.lines.now
-all c = let k = (goal.at.After-mask_letters c).After-keep_letters-n in held_all (held k) (room k) (inside k) (omega arith)
+all : (c : After-mask_letters) → let h = c.keep_letters.new.self in take h.len h.bytes.now ≡ letters_of c.args.lines.now
+all c = let k = (goal.at.After-mask_letters c).After-keep_letters in held_all (held k) (room k) (inside k) (omega arith)
 
 pub returns-then-n-gt-MOST_LETTERS-clause-written : goal.returns-then-n-gt-MOST_LETTERS-clause-written
 returns-then-n-gt-MOST_LETTERS-clause-written c =
-    let k = (goal.at.returns-then-n-gt-MOST_LETTERS-clause-written c).After-keep_letters-n in
-    part_all (too_long_fits c.requires.line_fits) c.write_too_long-end.ensures (too_long _ _ (held_many (held k) (room k) (inside k) (omega arith))) (no_lines _ [])
+    let k = (goal.at.returns-then-n-gt-MOST_LETTERS-clause-written c).After-keep_letters in
+    part_all (too_long_fits c.requires.line_fits) c.write_too_long.ensures (too_long _ _ (held_many (held k) (room k) (inside k) (omega arith))) (no_lines _ [])
 
-pub write_refused-end-requires : goal.write_refused-end-requires
-write_refused-end-requires c = refused_fits c.requires.line_fits _ (search rules)
+pub write_refused-requires : goal.write_refused-requires
+write_refused-requires c = refused_fits c.requires.line_fits _ (search rules)
 
 pub returns-in-Err-clause-written : goal.returns-in-Err-clause-written
 returns-in-Err-clause-written c =
     let k = (goal.at.returns-in-Err-clause-written c).After-mask_letters in
-    part_all (refused_fits c.requires.line_fits _ (search rules)) c.write_refused-end.ensures
+    part_all (refused_fits c.requires.line_fits _ (search rules)) c.write_refused.ensures
     (refused c.args.name.now _ (few k) (omega (arith, c.number.ensures, number_positive c.in-Err.refusal)) (c.number.ensures ∙ rw (all k) at c.in-Err.ensures.refusal))
     (no_lines _ [])
 
@@ -50,4 +50,4 @@ returns-in-Ok-clause-written c =
     let k = (goal.at.returns-in-Ok-clause-written c).After-mask_letters in
     let r = rw (all k) at c.in-Ok.ensures.refusal in
     let w = rw (all k) at c.in-Ok.ensures.list in
-    part_as (accepted c.args.name.now _ (few k) r w) (part_none _ _ _ (omega (arith, c.requires.line_fits.room)))
+    part_as (accepted c.args.name.now _ (few k) r w) (part_none _ _ (omega (arith, c.requires.line_fits.room)))

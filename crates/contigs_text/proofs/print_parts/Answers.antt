@@ -1,22 +1,28 @@
+use mathlib.Core.Path.{◌∙◌}
 use mathlib.Core.List.{[]}
 use native.Mathlib.Omega.{arith}
-use borrow.Author.Tests.{not-false}
-use Rattle.contigs_text.proofs.Printing.{part_end, send_first, send_next}
+use Rattle.contigs_text.proofs.Printing.{part_long, part_end, print_first, print_next}
 use Rattle.contigs_text.proofs.print_parts.Goals as goal
 
-pub loop-count-init : goal.loop-count-init
-loop-count-init g c =
-    let E = c.first_part-now.ensures in
+pub written-requires : goal.written-requires
+written-requires g c =
+    let P = c.first_part-next.ensures.part [] in
+    omega (arith, part_end c.args.text.now P, part_long c.args.text.now P)
+
+pub loop-next-init : goal.loop-next-init
+loop-next-init g c =
+    let E = c.first_part-next.ensures in
+    let P = E.part c.args.list.now in
     record {
-      sending = send_first _ (E.standing _ c.requires.list_len) (E.part _) E.file_len_bound;
-      end_within = omega (arith, part_end (E.part []), c.first_part-now.auto.text);
+      printing = print_first c.args.text.now c.requires.text_len (E.standing _ c.requires.list_len) P E.file_len_bound (rw c.written.ensures at c.in_ok-write_all.ensures.bytes);
+      long = part_long c.args.text.now P ∙ c.requires.text_len;
     }
 
-pub loop-count-preserved : goal.loop-count-preserved
-loop-count-preserved g c =
-    let I = c.loop-count.invariant in
-    let M = c.next_part-now.ensures in
+pub loop-next-preserved : goal.loop-next-preserved
+loop-next-preserved g c =
+    let I = c.loop-next.invariant in
+    let M = c.next_part-next.ensures in
     record {
-      sending = send_next _ _ _ I.sending c.in_ok-write_all.ensures.bytes (not-false _ c.if-not-now.false) M (omega (arith, I.end_within));
-      end_within = omega (arith, part_end M.part, c.next_part-now.auto.text);
+      printing = print_next c.loop-next.text I.long (rw c.in-Some.is at I.printing) M (rw c.written-in-Some.ensures at c.in_ok-write_all-2.ensures.bytes);
+      long = part_long c.loop-next.text M.part ∙ I.long;
     }

@@ -1,15 +1,14 @@
--- The part in the text is all that the writer does not hold yet of what was printed.
-use Prim.Native.Nat.{◌≤◌}
-use lib.ListN.{length}
-use Rattle.contigs_text.specs.Parts.{steps_if}
-use Rattle.contigs_text.proofs.Printing.{Sending}
+-- What the writer was handed and what is left is the file's text.
+use Rattle.std.specs.Prelude.{◌≡◌, length}
+use Rattle.contigs_text.specs.Parts.{text_room, steps_if}
+use Rattle.contigs_text.proofs.Printing.{Printing}
 use Rattle.contigs_text.proofs.print_parts.Given as goal
 
-abbrev pub invariant-loop-count : goal.invariant-loop-count
-invariant-loop-count g l = record {
-  sending : Sending l.file l.list l.count l.now (g.W.Write.contents l.initial.out) (g.W.Write.contents l.out) l.text;
-  end_within : l.now.end ≤ length l.text;
+abbrev pub invariant-loop-next : goal.invariant-loop-next
+invariant-loop-next g l = record {
+  printing : Printing l.file l.list l.count l.next (g.W.Write.contents l.fn.out) (g.W.Write.contents l.out);
+  long : length l.text.bytes.now ≡ text_room;
 }
 
-abbrev pub decreases-loop-count : goal.decreases-loop-count
-decreases-loop-count g l = steps_if l.now.more l.file l.now.place
+abbrev pub decreases-loop-next : goal.decreases-loop-next
+decreases-loop-next g l = steps_if l.file l.next

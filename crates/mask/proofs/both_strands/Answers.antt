@@ -14,8 +14,8 @@ held c = subst (λ (l : List Interval). Held (intervals_of (as_setup c.args.setu
 
 pub merge_strands-requires : goal.merge_strands-requires
 merge_strands-requires c =
-    mergeable (as_setup c.args.setup.now) c.args.forward_only c.args.codes.now c.requires.lent.runs.kmer_some (held (goal.at.merge_strands-requires c).After-reverse_strand-reverse_count) c.reverse_strand-reverse_count.ensures.list c.args.out.now.list.now c.args.out.now.marks.now c.requires.room.list c.requires.room.marks
+    mergeable (as_setup c.args.setup.now) c.args.forward_only c.args.codes.now c.requires.runs.kmer_some (held (goal.at.merge_strands-requires c).After-reverse_strand-reverse_count) c.reverse_strand-reverse_count.ensures.list c.args.out.now.list.now c.args.out.now.marks.now c.requires.room.list c.requires.room.marks
 
 pub returns-clause-mask : goal.returns-clause-mask
 returns-clause-mask c =
-    merged_wrote (as_setup c.args.setup.now) c.args.forward_only c.args.codes.now c.requires.lent.runs.kmer_some (held (goal.at.returns-clause-mask c).After-reverse_strand-reverse_count) c.reverse_strand-reverse_count.ensures.list c.merge_strands.ensures.mask
+    merged_wrote (as_setup c.args.setup.now) c.args.forward_only c.args.codes.now c.requires.runs.kmer_some (held (goal.at.returns-clause-mask c).After-reverse_strand-reverse_count) c.reverse_strand-reverse_count.ensures.list c.merge_strands.ensures.mask

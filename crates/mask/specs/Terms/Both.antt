@@ -7,7 +7,9 @@ use Rattle.intervals.specs.declared.output.MarksOut.{MarksOut}
 use Rattle.intervals.specs.Terms.Bounds.{Inside}
 use Rattle.intervals.specs.Merge.{merge, backwards}
 use Rattle.scans.specs.declared.Params.{Params}
+use Rattle.scans.specs.declared.run.Setup.{Setup as RunSetup}
 use Rattle.scans.specs.Setup.{Setup}
+use Rattle.scans.specs.Terms.Shape.{Shaped}
 use Rattle.step.specs.Step.{intervals_of}
 use Rattle.mask.specs.declared.Workspace.{Workspace}
 
@@ -21,36 +23,35 @@ abbrev pub other_intervals : Setup → Bool → List ℕ → List Interval
 other_intervals S forward_only s = cond forward_only [] (intervals_of S (reverse_complement s))
 
 -- ---- What is lent.
--- What a run over n letters asks of p's numbers.
-pub record Runs (p : Params) (n : ℕ) : Type 0 where
-  pub kmer_some : 0 < p.kmer
-  pub kmer_small : p.kmer ≤ 12
+-- What a run over n letters asks of its numbers and tables. Not a field of `Setup`: the steps of a run ask less.
+pub record Runs (s : RunSetup) (n : ℕ) : Type 0 where
+  pub kmer_some : 0 < s.params.kmer
+  pub kmer_small : s.params.kmer ≤ 12
   pub letters_in : n < 2147483648
-  pub wide : 1 < p.window_size
-  pub small : p.window_size ≤ 65535
+  pub wide : 1 < s.params.window_size
+  pub small : s.params.window_size ≤ 65535
+  pub ln_long : s.params.window_size < length s.ln.now
+  pub f_long : s.params.window_size < length s.f.now
+  pub shaped : Shaped s.params s.ln.now s.f.now
 
 -- Enough of each buffer for a strand's run, at p's numbers and n letters.
 pub record StrandRoom (p : Params) (n n_queue n_window_counts n_scan_counts n_candidates n_list : ℕ) : Type 0 where
-  pub runs : Runs p n
   pub queue : p.window_size ≤ n_queue
   pub window_counts : 4 ^ p.kmer ≤ n_window_counts
   pub scan_counts : 4 ^ p.kmer ≤ n_scan_counts
   pub candidates : p.window_size ≤ n_candidates
   pub list : (n + 1) / (p.kmer + 1) ≤ n_list
 
--- Enough for both strands' runs.
-pub record WorkLent (p : Params) (n : ℕ) (w : Workspace) : Type 0 where
-  pub runs : Runs p n
-  pub queue : p.window_size ≤ length w.queue.now
-  pub window_counts : 4 ^ p.kmer ≤ length w.window_counts.now
-  pub scan_counts : 4 ^ p.kmer ≤ length w.scan_counts.now
-  pub candidates : p.window_size ≤ length w.candidates.now
-  pub reverse_codes : n ≤ length w.reverse_codes.now
-  pub forward_list : (n + 1) / (p.kmer + 1) ≤ length w.forward_list.now
-  pub reverse_list : (n + 1) / (p.kmer + 1) ≤ length w.reverse_list.now
+-- And for the strand of the sequence, and the other one.
+abbrev pub ForwardRoom : Params → ℕ → Workspace → Type 0
+ForwardRoom p n w = StrandRoom p n (length w.queue.now) (length w.window_counts.now) (length w.scan_counts.now) (length w.candidates.now) (length w.forward_list.now)
 
--- And for what they give joined.
-pub record OutLent (p : Params) (n : ℕ) (o : MarksOut) : Type 0 where
+pub record ReverseRoom (p : Params) (n : ℕ) (w : Workspace) : Type 0 where
+  pub room : StrandRoom p n (length w.queue.now) (length w.window_counts.now) (length w.scan_counts.now) (length w.candidates.now) (length w.reverse_list.now)
+  pub codes : n ≤ length w.reverse_codes.now
+
+-- And for what both give joined.
+pub record OutRoom (p : Params) (n : ℕ) (o : MarksOut) : Type 0 where
   pub list : (n + 1) / (p.kmer + 1) ≤ length o.list.now
   pub marks : (n + 1) / (p.kmer + 1) ≤ length o.marks.now
 

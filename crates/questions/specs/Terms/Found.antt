@@ -21,7 +21,7 @@ pub record IsFirstPast (is : List Interval) (x r : ℕ) : Type 0 where
   pub inside : r ≤ length is
   pub small : r ≤ 1073741824
 
--- The summary s has the whole blocks of the first b letters.
+-- The summary s has the whole blocks of the first b letters. Not a field of a type: it is of the list, the summary and the letters asked for.
 pub record Summed (is : List Interval) (s : List ℕ) (b : ℕ) : Type 0 where
   pub long : b / 1024 ≤ length s
   pub entry : (j : ℕ) → j < b / 1024 → get_or s j 0 ≡ block is j

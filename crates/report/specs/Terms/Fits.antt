@@ -1,6 +1,7 @@
 -- Room in a lent text.
 use Rattle.std.specs.Prelude.{ℕ, ◌+◌, ◌≤◌, List, length}
+use Rattle.report.specs.declared.text.Text.{Text}
 
--- The text d has room for xs from the index `from` on.
-pub record Fits (xs d : List ℕ) (from : ℕ) : Type 0 where
-  pub room : from + length xs ≤ length d
+-- The text has room for xs after what is written. It goes by what a call writes, so no field of the text can hold it.
+pub record Fits (xs : List ℕ) (t : Text) : Type 0 where
+  pub room : t.len + length xs ≤ length t.bytes.now

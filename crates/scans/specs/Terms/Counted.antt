@@ -3,7 +3,7 @@ use Rattle.std.specs.Prelude.{ℕ, ◌≤◌, ◌≡◌, List, length, get_or}
 use Rattle.letters.specs.Place.{Place}
 use Rattle.scans.specs.Counts.{count}
 
--- A list of m counts that are those of the places.
+-- A list of m counts that are those of the places. Not a field of a type: the counts change in every call.
 pub record Counted (m : ℕ) (counts : List ℕ) (q : List Place) : Type 0 where
   pub long : length counts ≡ m
   pub counted : (x : ℕ) → get_or counts x 0 ≡ count x q

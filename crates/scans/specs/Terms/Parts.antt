@@ -27,7 +27,7 @@ pub record Ringed (ring : List ℕ) (head len ln_length f_length counts_length :
   pub ln_long : length ring < ln_length
   pub f_long : length ring < f_length
 
--- The k-mer of each entry of a part has a count.
+-- The k-mer of each entry of a part has a count. Not a field of a type: a ring has parts of any length, and the counts are the caller's.
 pub record Coded (part : List ℕ) (counts_length : ℕ) : Type 0 where
   pub below : (j : ℕ) → j < length part → get_or part j 0 / 2 < counts_length
 

@@ -16,6 +16,7 @@ as_setup s = setup_of s.params s.ln.now s.f.now
 abbrev pub entries_of : Ring → List Place
 entries_of r = window r.queue.now r.head r.len
 
+-- What follows is not held by fields of a type: the counts, which every call changes, are lent beside the ring.
 -- The k-mer of each entry has one of n counts.
 abbrev pub KmersCounted : Ring → ℕ → Type 0
 KmersCounted r n = Queued r.queue.now r.head r.len n

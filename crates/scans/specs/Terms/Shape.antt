@@ -26,6 +26,6 @@ pub record Usual (S : Setup) : Type 0 where
   pub ranged : T (in_range S)
   pub shaped : T (is_usual S)
 
--- Where the numbers say that the tables are of the usual shape, they are.
+-- Where the numbers say that the tables are of the usual shape, they are. Not a field of `Setup`: the steps of a run take tables of any shape.
 pub record Shaped (p : Params) (ln f : List Float) : Type 0 where
   pub told : p.usual ≡ true → Usual (setup_of p ln f)

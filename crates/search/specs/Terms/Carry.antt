@@ -1,6 +1,6 @@
 -- A fast form of the forward scan of the paper, 'Step and scans': the last find's, carried on letter by letter, equals the forward scan over its places that no limit stops.
 -- The terms of its contracts, with those of the scan counts that a scan leaves.
-use Rattle.std.specs.Prelude.{◌≡◌, true, false, List, [], ◌∷◌, ◌++◌, ℕ, suc, length, drop, Float}
+use Rattle.std.specs.Prelude.{◌≡◌, true, false, None, List, [], ◌∷◌, ◌++◌, ℕ, suc, length, drop, Float}
 use Rattle.std.specs.Float.Ieee.{le}
 use Rattle.floats.specs.Arithmetic.{◌⊕◌, ◌⊖◌}
 use Rattle.floats.specs.Binary64.{zero64}
@@ -14,22 +14,22 @@ use Rattle.scans.specs.Scans.{Find, none, at, Outcome, value, backward_start, du
 use Rattle.scans.specs.Terms.Counted.{Counted, Touched}
 use Rattle.scans.specs.Terms.Window.{counted_value, find_of}
 use Rattle.scans.specs.Terms.Parts.{whole_forward, Rest, rest_from, Backs}
-use Rattle.search.specs.Terms.Certified.{no_certificate, Certified}
+use Rattle.search.specs.Terms.Certified.{Certified}
 
 -- No scan is carried.
 abbrev pub no_carry : Carry
-no_carry = record { on = false; s = zero64; best = zero64; certificate = no_certificate }
+no_carry = record { on = false; s = zero64; best = zero64; certificate = None }
 
 -- A find's forward scan begins to be carried.
 abbrev pub begun_carry : (s best : Float) → Carry
-begun_carry s best = record { on = true; s = s; best = best; certificate = no_certificate }
+begun_carry s best = record { on = true; s = s; best = best; certificate = None }
 
 -- While it is on, the carried sums are those of the forward scan over all of the places es.
 pub record Summed (S : Setup) (es : List Place) (c : Carry) : Type 0 where
   pub s_is : c.on ≡ true → (whole_forward S es).sums.s ≡ c.s
   pub best_is : c.on ≡ true → (whole_forward S es).sums.best ≡ c.best
 
--- Over the places of the window q from index j on, with a certificate of that start.
+-- Over the places of the window q from index j on, with a certificate of that start, if there is one. Not a field of a type: the carried scan is a value, and the window is lent.
 pub record Carried (S : Setup) (q : List Place) (j : ℕ) (c : Carry) : Type 0 where
   pub sums : Summed S (drop j q) c
   pub certified : c.on ≡ true → Certified S q j c.certificate
@@ -54,7 +54,7 @@ abbrev pub carried_ahead : Setup → ℕ → List ℕ → Place → Carry → Ca
 carried_ahead S l counts e c =
     let s : Float = c.s ⊕ (counted_value S.ln counts e ⊖ S.score_threshold) in
     let sl : Float = s ⊖ f_at S l in
-    record { on = le c.best sl; s = s; best = sl; certificate = no_certificate }
+    record { on = le c.best sl; s = s; best = sl; certificate = None }
 
 -- The score of a place e, the l-th of the scan; `counts` are those of the places before.
 abbrev pub newest_score : Setup → ℕ → List ℕ → Place → Carry → Float

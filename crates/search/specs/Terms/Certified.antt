@@ -1,6 +1,6 @@
 -- Terms of contracts: the certificate of a start. While it lasts, a backward scan finds that start wherever the forward scan from it is best at the newest place, by exact scores that are apart by more than all rounding errors.
 -- An exact score is gain - loss, naturals in units of 2^-1074.
-use Rattle.std.specs.Prelude.{◌≡◌, true, false, ◌&&◌, List, [], ◌∷◌, ◌++◌, ◌⊎◌, ℕ, suc, ◌+◌, ◌-◌, ◌*◌, ◌≤◌, ◌<◌, length, get_or, drop, T, Float}
+use Rattle.std.specs.Prelude.{◌≡◌, cond, ◌&&◌, Option, Some, None, IfSome, List, [], ◌∷◌, ◌++◌, ◌⊎◌, ℕ, suc, ◌+◌, ◌-◌, ◌*◌, ◌≤◌, ◌<◌, length, get_or, drop, T, Float}
 use Rattle.std.specs.Float.{binary64}
 use Rattle.std.specs.Float.Ieee.{lt, le, neg}
 use Rattle.floats.specs.Value.{Finite}
@@ -64,10 +64,6 @@ pub record Certifiable (S : Setup) : Type 0 where
   pub t_some : T (le distance S.score_threshold)
   pub drop_number : Finite binary64 S.drop_limit
 
--- Nothing is certain.
-abbrev pub no_certificate : Certificate
-no_certificate = record { on = false; left = 0; near = 0; h = zero64; u = zero64; gap = zero64 }
-
 -- The certificate's numbers bound the scores of the window q with the start at index j.
 pub record Bounds (S : Setup) (q : List Place) (j : ℕ) (c : Certificate) : Type 0 where
   pub setup : Certifiable S
@@ -79,16 +75,17 @@ pub record Bounds (S : Setup) (q : List Place) (j : ℕ) (c : Certificate) : Typ
   pub u_below : T (lt c.u (neg distance))
   pub gap_above : T (le distance c.gap)
 
--- While it is on.
-pub record Certified (S : Setup) (q : List Place) (j : ℕ) (c : Certificate) : Type 0 where
-  pub bounds : c.on ≡ true → Bounds S q j c
+-- If there is one; without one nothing is certain.
+abbrev pub Certified : Setup → List Place → ℕ → Option Certificate → Type 0
+Certified S q j c = IfSome c (Bounds S q j)
 
 -- The newest place has the ln entries v, by the counts from the start on, and w, by those of the window; h is the new bound of the near sum.
-abbrev pub certificate_step : (t h v w : Float) → Certificate → Certificate
+-- None where the gap, or the bound u of the far scores, comes too near 0.
+abbrev pub certificate_step : (t h v w : Float) → Certificate → Option Certificate
 certificate_step t h v w c =
     let u : Float = c.u ⊕ (v ⊖ t) in
     let gap : Float = c.gap ⊖ (w ⊖ v) in
-    record { on = lt u (neg distance) && le distance gap; left = c.left - 1; near = c.near + 1; h = h; u = u; gap = gap }
+    cond (lt u (neg distance) && le distance gap) (Some (record { left = c.left - 1; near = c.near + 1; h = h; u = u; gap = gap })) None
 
 -- None of the entries from index i on but the newest equals that.
 abbrev pub NoneFrom : List ℕ → ℕ → ℕ → ℕ → Type 0
@@ -100,5 +97,5 @@ pub record Since (ring : List ℕ) (head len near r : ℕ) : Type 0 where
   pub some : (r ≡ 0 → ⊥) → (2 ≤ r) × (r ≤ near + 1) × NoneFrom ring head len (len + 1 - r)
 
 -- A place joins the window, which is then q: the certificate c becomes c'. `counts` are those from the start on without it.
-pub record CertifiesOn (S : Setup) (q : List Place) (c c' : Certificate) (counts : List ℕ) : Type 0 where
+pub record CertifiesOn (S : Setup) (q : List Place) (c c' : Option Certificate) (counts : List ℕ) : Type 0 where
   pub keeps : (q₀ : List Place) (e : Place) (j : ℕ) → q ≡ q₀ ++ e ∷ [] → Counted (kmers S) counts (drop j q₀) → Certified S q₀ j c → Certified S q j c'

@@ -11,7 +11,7 @@ use Rattle.short_sequences.specs.Tallies.{is_refused, masked_letters}
 abbrev pub letter_at : ℕ → ℕ
 letter_at digit = get_or five_letters digit (code "N")
 
--- The tables that every run reads, whatever its sequence is.
+-- The tables that every run reads, whatever its sequence is. Not a field of a type: they go to the masking call as `longdust::Tables`, which may hold any.
 pub record Filled (ln f : List Float) : Type 0 where
   pub ln_is : ln ≡ ln_table 8
   pub f_is : f ≡ f_table 1 8 (uniform 1)

@@ -30,7 +30,7 @@ lent =
       marks = 2048;
     }
 
--- A request that the masking calls accept in the work space, with uniform GC.
+-- A request that the masking calls accept in the work space, with uniform GC. Not a field of a type: it is of options and letters together.
 pub record Asked (o : LongdustOptions) (s : List ℕ) : Type 0 where
   pub accepted : refusal o s lent ≡ 0
   pub gc : not_uniform o.gc ≡ false

@@ -45,7 +45,7 @@ Closing (negsuc s) end = Unit {0}
 abbrev pub saved_in : ℕ → List Interval → List Interval
 saved_in count list = take count list
 
--- The interval in hand can be saved.
+-- The interval in hand can be saved. Not a field of a type: the interval in hand is a value, and the list is lent.
 pub record Saving (o : Open) (list : List Interval) : Type 0 where
   pub closing : Closing o.start o.end
   pub room : o.count ≤ length list

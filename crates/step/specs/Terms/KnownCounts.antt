@@ -36,7 +36,8 @@ abbrev pub rescanned : Window → Bool → Carry → Window
 rescanned w live carry = record { sum = w.sum; last_q = w.last_q; head = w.head; len = w.len; live = live; carry = carry }
 
 -- ---- No find: what a carried scan asks to go on with the newest entry, and what it makes of the counts; q are the places with that entry.
-pub record Passing (p : Params) (w : Window) (ring window_counts : List ℕ) (n_ln : ℕ) (counts : List ℕ) : Type 0 where
+pub record Passing (p : Params) (w : Window) (ring window_counts : List ℕ) (n_ln n_f : ℕ) (counts : List ℕ) : Type 0 where
+  pub f_long : p.window_size < n_f
   pub joining : w.carry.on ≡ true → Joining p ring w.head w.len window_counts n_ln counts
   pub inside : w.carry.on ≡ true → whole w.last_q < w.len
 

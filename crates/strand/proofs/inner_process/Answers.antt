@@ -5,14 +5,14 @@ use Rattle.strand.proofs.Running.{inv_start, last_saved}
 use Rattle.strand.proofs.inner_process.Goals as goal
 
 pub loop-setup-init : goal.loop-setup-init
-loop-setup-init c = record { inv = inv_start c.requires c.args.setup.now.ln_long c.begin.ensures; known = tt }
+loop-setup-init c = record { inv = inv_start c.requires.lent c.begin.ensures; known = tt }
 
 pub returns-then-st-codes : goal.returns-then-st-codes
 returns-then-st-codes c = last_saved (c.until_scan-st.ensures.ended c.if-st-codes.true) c.close.ensures.0 c.close.ensures.1
 
 pub answered-at-requires-clause-i_bound : goal.answered-at-requires-clause-i_bound
 answered-at-requires-clause-i_bound c =
-    let l = c.requires.part in
+    let l = c.requires.lent.part in
     let d = c.until_scan-st.ensures.due c.if-st-codes.false in
     (omega (arith, c.if-st-codes.false, l.letters_in), omega (arith, d.windowed.len_in, d.windowed.small), d.within _ _ c.dust_backward-r.ensures, l.kmer_small)
 

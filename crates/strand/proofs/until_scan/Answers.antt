@@ -47,11 +47,11 @@ pub look-look-requires-clause-i_bound : goal.look-look-requires-clause-i_bound
 look-look-requires-clause-i_bound c =
     let there = (goal.at.look-look-requires-clause-i_bound c).Else-st-codes in
     let e = (stops there).enters in
-    (omega (arith, letter_small there), e.entered.some, small e c.requires.part_lent.kmer_small, e.entered.below, all_counts (goal.at.look-look-requires-clause-i_bound c).After-skim-st)
+    (omega (arith, letter_small there), e.entered.some, small e c.requires.part_lent.kmer_small, e.entered.below, all_counts (goal.at.look-look-requires-clause-i_bound c).After-skim-st, c.requires.part_lent.f_long)
 
 pub foretell-requires-clause-asking : goal.foretell-requires-clause-asking
 foretell-requires-clause-asking c =
-    scan_asking c.loop-st.invariant.inv (stops (goal.at.foretell-requires-clause-asking c).Else-st-codes) c.if-st-codes.false c.look-look.ensures c.in-Scan.is (all_looked (goal.at.foretell-requires-clause-asking c).After-look-look)
+    scan_asking c.loop-st.invariant.inv (stops (goal.at.foretell-requires-clause-asking c).Else-st-codes) c.if-st-codes.false c.look-look.ensures c.in-Scan.is (all_looked (goal.at.foretell-requires-clause-asking c).After-look-look) c.requires.part_lent.f_long
 
 pub foretell-requires-clause-asks_low : goal.foretell-requires-clause-asks_low
 foretell-requires-clause-asks_low c =
@@ -88,7 +88,7 @@ loop-st-preserved-in-Extension c =
     record { inv = before_extended c.loop-st.invariant.inv (stops there) c.if-st-codes.false c.look-look.ensures c.in-Extension.is c.extended-st.ensures.0 c.extended-st.ensures.1; further = omega (arith, further there, c.extended-st.ensures.0.i_is) }
 
 pub passed-st-requires-clause-passing : goal.passed-st-requires-clause-passing
-passed-st-requires-clause-passing c = look_passing c.loop-st.invariant.inv (stops (goal.at.passed-st-requires-clause-passing c).Else-st-codes) c.if-st-codes.false c.look-look.ensures c.in-Pass.is (all_looked (goal.at.passed-st-requires-clause-passing c).After-look-look)
+passed-st-requires-clause-passing c = look_passing c.loop-st.invariant.inv (stops (goal.at.passed-st-requires-clause-passing c).Else-st-codes) c.if-st-codes.false c.look-look.ensures c.in-Pass.is (all_looked (goal.at.passed-st-requires-clause-passing c).After-look-look) c.requires.part_lent.f_long
 
 pub loop-st-preserved : goal.loop-st-preserved
 loop-st-preserved c =

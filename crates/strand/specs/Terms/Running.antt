@@ -21,16 +21,18 @@ use Rattle.strand.specs.Terms.ReadingOn.{Read, run_to}
 
 -- ---- What is lent.
 -- What a part of the run asks: the numbers lie in their ranges, and the slices that it is lent have the sizes that the paper lists.
-pub record PartLent (p : Params) (n n_counts n_list : ℕ) : Type 0 where
+pub record PartLent (p : Params) (n n_f n_counts n_list : ℕ) : Type 0 where
   pub kmer_some : 0 < p.kmer
   pub kmer_small : p.kmer ≤ 12
   pub letters_in : n < 2147483648
   pub counts_is : n_counts ≡ 4 ^ p.kmer
+  pub f_long : p.window_size < n_f
   pub list_long : (n + 1) / (p.kmer + 1) ≤ n_list
 
 -- What the whole run asks.
-pub record StrandLent (p : Params) (n n_ring n_window_counts n_counts n_candidates n_list : ℕ) : Type 0 where
-  pub part : PartLent p n n_counts n_list
+pub record StrandLent (p : Params) (n n_ln n_f n_ring n_window_counts n_counts n_candidates n_list : ℕ) : Type 0 where
+  pub part : PartLent p n n_f n_counts n_list
+  pub ln_long : p.window_size < n_ln
   pub wide : 1 < p.window_size
   pub small : p.window_size ≤ 65535
   pub ring_is : n_ring ≡ p.window_size
@@ -55,6 +57,7 @@ pub record Asking (p : Params) (ln f : List Float) (w : Window) (ring window_cou
   pub windowed : Windowed p ring w.head w.len window_counts (length ln)
   pub known : KnownCounts (setup_of p ln f) (window ring w.head (w.len - 1)) w counts
   pub counts_is : length counts ≡ 4 ^ p.kmer
+  pub f_long : p.window_size < length f
 
 -- Whatever the answer, the run stands before the next letter when it is taken.
 pub record Due (p : Params) (codes : List ℕ) (ln f : List Float) (a : State) (ring window_counts counts : List ℕ) (list : List Interval) : Type 0 where

@@ -52,7 +52,7 @@ judged r size value loss =
 abbrev pub scores_back : ℕ → ℕ → List ℕ → List ℕ → List ℕ → ℕ → ℤ
 scores_back k t ln f cs l = score_of k t ln f (back_to k cs l)
 
--- T and the entries 1..steps of both tables have their widths.
+-- T and the entries 1..steps of both tables have their widths. Not a field of `Scoring`: a call says how many steps it makes.
 pub record Narrow (t : ℕ) (ln f : List ℕ) (steps : ℕ) : Type 0 where
   pub ln_long : steps < length ln
   pub f_long : steps < length f

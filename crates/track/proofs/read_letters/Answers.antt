@@ -4,4 +4,4 @@ use Rattle.report.proofs.Letters.{held_nothing}
 use Rattle.track.proofs.read_letters.Goals as goal
 
 pub loop-init : goal.loop-init
-loop-init g c = record { read = ([], Consumes-nil _, held_nothing _); within = omega arith }
+loop-init g c = record { read = ([], Consumes-nil _, held_nothing _); within = omega arith; room = c.requires }

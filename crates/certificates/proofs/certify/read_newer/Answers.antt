@@ -10,12 +10,12 @@ loop-i-init c =
 pub loop-i-preserved : goal.loop-i-preserved
 loop-i-preserved c =
     let s = c.requires in
-    newer_next _ _ _ _ _ _ _ s.making _ _ s.start_lt_len.0 s.start_lt_len.1 _ _ _ _ _ c.loop-i.invariant c.loop-i-test.true _ _ c.read_entry-v.ensures _ c.read-a.ensures _ c.read-b.ensures c.if-not-b.false
+    newer_next _ _ _ _ _ _ _ s.making _ _ s.start_lt_len.0 s.start_lt_len.1 _ _ _ _ _ c.loop-i.invariant c.loop-i-test.true _ _ c.read_entry-v.ensures _ c.read-a.ensures _ c.read.ensures _ c.in-Some.is
 
-pub returns-then-not-b : goal.returns-then-not-b
-returns-then-not-b c =
+pub returns-in-None : goal.returns-in-None
+returns-in-None c =
     let s = c.requires in
-    newer_stop _ _ _ _ _ _ _ s.making _ _ s.start_lt_len.0 s.start_lt_len.1 _ _ _ _ _ c.loop-i.invariant c.loop-i-test.true _ _ c.read_entry-v.ensures _ c.read-a.ensures _ c.read-b.ensures c.if-not-b.true
+    newer_stop _ _ _ _ _ _ _ s.making _ _ s.start_lt_len.0 s.start_lt_len.1 _ _ _ _ _ c.loop-i.invariant c.loop-i-test.true _ _ c.read_entry-v.ensures _ c.read-a.ensures _ c.read.ensures
 
 pub returns : goal.returns
 returns c =

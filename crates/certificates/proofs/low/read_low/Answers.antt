@@ -4,7 +4,7 @@ use Rattle.certificates.proofs.low.read_low.Goals as goal
 pub loop-read-init : goal.loop-read-init
 loop-read-init c =
     let s = c.requires in
-    low_start _ _ _ _ _ _ _ s.windowed s.usual _ _ c.new-st.ensures s.clear
+    low_start _ _ _ _ _ _ _ s.windowed s.usual _ _ c.new-st.ensures s.f_long.1
 
 pub add_entry-st-requires-clause-in_bounds : goal.add_entry-st-requires-clause-in_bounds
 add_entry-st-requires-clause-in_bounds c = (add_asks _ _ _ _ _ _ _ c.requires.windowed _ _ _ c.loop-read.invariant.newest c.loop-read-test.true _ c.index-i.ensures).0

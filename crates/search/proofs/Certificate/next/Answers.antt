@@ -11,14 +11,14 @@ window_value-w-requires c =
 pub returns-then-v : goal.returns-then-v
 returns-then-v c =
     let a = c.args in
-    next_still a.setup.now.params a.ring.now.queue.now a.ring.now.head a.ring.now.len a.window_counts.now a.setup.now.ln.now a.scan_counts.now c.requires a.self c.if-not-self-ring.false _ c.newest-entry.ensures _ _ c.raised_value-v.ensures c.window_value-w.ensures c.if-v.true c.stepped.ensures a.setup.now.f.now
+    next_still a.setup.now.params a.ring.now.queue.now a.ring.now.head a.ring.now.len a.window_counts.now a.setup.now.ln.now a.scan_counts.now c.requires a.self c.if-not-self-ring.false _ c.newest-entry.ensures _ _ c.raised_value-v.ensures c.window_value-w.ensures c.if-v.true c.stepped.ensures
 
 pub returns-in-None : goal.returns-in-None
 returns-in-None c =
     let a = c.args in
-    next_fresh a.setup.now.params a.ring.now.queue.now a.ring.now.head a.ring.now.len a.window_counts.now a.setup.now.ln.now a.scan_counts.now c.requires a.self c.if-not-self-ring.false _ c.newest-entry.ensures _ _ c.raised_value-v.ensures c.window_value-w.ensures _ c.in-None.ensures.since refl c.stepped-in-None.ensures a.setup.now.f.now
+    next_fresh a.setup.now.params a.ring.now.queue.now a.ring.now.head a.ring.now.len a.window_counts.now a.setup.now.ln.now a.scan_counts.now c.requires a.self c.if-not-self-ring.false _ c.newest-entry.ensures _ _ c.raised_value-v.ensures c.window_value-w.ensures _ c.in-None.ensures.since refl c.stepped-in-None.ensures
 
 pub returns-then-h-n : goal.returns-then-h-n
 returns-then-h-n c =
     let a = c.args in
-    next_repeated a.setup.now.params a.ring.now.queue.now a.ring.now.head a.ring.now.len a.window_counts.now a.setup.now.ln.now a.scan_counts.now c.requires a.self c.if-not-self-ring.false _ c.newest-entry.ensures _ _ c.raised_value-v.ensures c.window_value-w.ensures _ c.in-Some.ensures.since (λ z. let some = c.in-Some.ensures.some in omega arith) c.if-h-n.true c.stepped-then-h-n.ensures a.setup.now.f.now
+    next_repeated a.setup.now.params a.ring.now.queue.now a.ring.now.head a.ring.now.len a.window_counts.now a.setup.now.ln.now a.scan_counts.now c.requires a.self c.if-not-self-ring.false _ c.newest-entry.ensures _ _ c.raised_value-v.ensures c.window_value-w.ensures _ c.in-Some.ensures.since (λ z. let some = c.in-Some.ensures.some in omega arith) c.if-h-n.true c.stepped-then-h-n.ensures

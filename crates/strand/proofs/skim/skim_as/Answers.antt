@@ -11,7 +11,7 @@ use Rattle.strand.proofs.skim.skim_as.Goals as goal
 use Rattle.strand.proofs.skim.skim_as.Goals.{After-enter-st}
 
 enters : (g : Over) (c : After-enter-st g) → let s = c.args.setup.now in Enters s.params c.args.codes.now s.ln.now s.f.now c.loop-st.st c.enter-st.result c.loop-st.queue c.loop-st.scan_counts c.enter-st.new.queue c.enter-st.new.window_counts c.enter-st.new.scan_counts
-enters g c = c.enter-st.ensures c.loop-st.invariant.read.known
+enters g c = c.enter-st.ensures c.args.setup.now.f.now c.loop-st.invariant.read.known
 
 pub is_searched-requires : goal.is_searched-requires
 is_searched-requires g c =
@@ -20,7 +20,7 @@ is_searched-requires g c =
 
 pub passed-st-requires-clause-passing : goal.passed-st-requires-clause-passing
 passed-st-requires-clause-passing g c =
-    passing (enters g (goal.at.passed-st-requires-clause-passing g c).After-enter-st).entered (c.enter-st.auto.scan_counts ∙ c.loop-st.auto.scan_counts ∙ c.requires.kmer_bound.2)
+    passing (enters g (goal.at.passed-st-requires-clause-passing g c).After-enter-st).entered (c.enter-st.auto.scan_counts ∙ c.loop-st.auto.scan_counts ∙ c.requires.kmer_bound.3) c.requires.kmer_bound.2
 
 pub loop-st-preserved-then-this-ne0 : goal.loop-st-preserved-then-this-ne0
 loop-st-preserved-then-this-ne0 g c =

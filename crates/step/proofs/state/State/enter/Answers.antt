@@ -30,7 +30,7 @@ join-self-requires-clause-len_bound c =
     )
 
 pub returns : goal.returns
-returns c k =
+returns c f k =
     let a = c.args in
-    entering c.args.setup.now.f.now (rolled (goal.at.returns c).After-next-self) refl refl k c.make_room-room.ensures
+    entering f (rolled (goal.at.returns c).After-next-self) refl refl k c.make_room-room.ensures
     (subst (λ (e : ℕ). Joined a.setup.now.params a.setup.now.ln.now c.make_room-room.result c.join-self.result e a.queue.now c.join-self.new.queue c.join-self.new.window_counts) c.entry-entry.ensures c.join-self.ensures)

@@ -36,7 +36,7 @@ met_window c =
     let w = c.args.self in
     let by = less_oldest w c.sum_without.result in
     elim c.if-self-is_at.branch [
-      | then-self-is_at t ↦ t.self-is ∙ ap by (t.ended-self.ensures ∙ ap (λ (b : Bool). carry_less b w.carry) (sym t.if-self-is_at.true ∙ ends_is c))
+      | then-self-is_at t ↦ t.self-is ∙ ap by (t.none-self.ensures ∙ ap (λ (b : Bool). carry_less b w.carry) (sym t.if-self-is_at.true ∙ ends_is c))
       | else-self-is_at s ↦ s.self-is ∙ ap by (ap (λ (b : Bool). carry_less b w.carry) (sym s.if-self-is_at.false ∙ ends_is c))
     ]
 

@@ -1,0 +1,2 @@
+mod Digits
+mod Following
