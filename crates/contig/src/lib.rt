@@ -41,6 +41,7 @@ pub fn no_intervals() -> [Interval; LIST_ROOM]
 }
 
 /// Masks the letters, in work buffers of its own that have exactly the paper's sizes. The intervals go to the front of the list; returns their number.
+// The calls of this name differ in the sizes of their buffers, which cannot be worked out of a const parameter, and in who fills the tables.
 pub fn mask_letters(letters: &[u8], list: &mut [Interval]) -> Result<usize, Refusal>
     requires { length list.old ≡ list_room }
     ensures refusal { number_of result ≡ contig_refusal letters.now }

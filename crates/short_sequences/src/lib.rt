@@ -92,6 +92,7 @@ fn short_options() -> LongdustOptions
 
 /// Masks the letters by filled tables, in work buffers of its own that have exactly the paper's sizes for 8 letters.
 /// The intervals go to the front of the list; returns their number.
+// `contig::mask_letters` with buffers of other sizes, which cannot be worked out of a const parameter, and tables that are lent.
 pub fn mask_letters(
     letters: &[u8],
     tables: &Tables,

@@ -134,6 +134,7 @@ fn fill_read(letters: &[u8], options: LongdustOptions, ln: &mut [f64], f: &mut [
 }
 
 // Masks the letters in work buffers of its own; the intervals go to the front of the list. Answers how many there are.
+// `contig::mask_letters` with buffers of other sizes, which cannot be worked out of a const parameter, and tables filled as far as they are read.
 pub fn mask_letters(letters: &[u8], options: LongdustOptions, list: &mut [Interval]) -> usize
     requires asked { Asked options letters.now }
     requires list_len { length list.old ≡ 2048 }

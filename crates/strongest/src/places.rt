@@ -56,6 +56,7 @@ pub fn clear_counts(letters: &[u8], kmer: usize, steps: usize, counts: &mut [u16
 }
 
 // Counts an entry, and answers the ln entry of its raised count, 0 if ambiguous.
+// `scans::count_entry` over whole numbers: one for both would be handed the 0, and be specified over a type that the definitions of the scans do not have.
 #[tactic(auto, using(crate::proofs::Counting::entries))]
 fn count_entry(counts: &mut [u16], ln: &[u64], entry: u32) -> u64
     requires { (entry / 2 < length counts.old)
