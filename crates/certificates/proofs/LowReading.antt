@@ -117,12 +117,15 @@ pub record LowReading (S : Setup) (q : List Place) (l : ℕ) (a : BackwardState)
   pub kept : Kept 0 score
   pub low : (k : ℕ) → near_starts < k → k ≤ l → T (le (x S q k) score)
 
--- What holds up to l and of l + 1.
-one_more : (P : ℕ → Type 0) (l k : ℕ) → k ≤ l + 1 → (k ≤ l → P k) → P (l + 1) → P k
-one_more P l k h before here = go (order_of l k)
+next : (l : ℕ) → l + 1 - 1 ≡ l
+next l = omega arith
+
+-- What holds up to l - 1 and of l.
+one_more : (P : ℕ → Type 0) (l k : ℕ) → k ≤ l → (k ≤ l - 1 → P k) → P l → P k
+one_more P l k h before here = go (order_of (l - 1) k)
   where
-    go : (l < k) ⊎ (k ≤ l) → P k
-    go (inl o) = let z : l + 1 ≡ k = omega arith in subst P z here
+    go : (l - 1 < k) ⊎ (k ≤ l - 1) → P k
+    go (inl o) = let z : l ≡ k = omega arith in subst P z here
     go (inr o) = before o
 
 pub len_fits : {p : Params} {ring : List ℕ} {head len : ℕ} {counts : List ℕ} {n : ℕ} → Windowed p ring head len counts n
@@ -149,20 +152,20 @@ module _ (p : Params) (ring : List ℕ) (head len : ℕ) (window_counts : List �
   in_window : length q ≤ S.window_size
   in_window = omega (arith, long w, w.len_in)
 
-  -- ---- An entry is read after the l newest ones, which stands at index `at` of the ring.
-  module _ (l : ℕ) (a : BackwardState) (counts : List ℕ) (k : ReadsNewest S q l a counts) where
-    pub read_inside : l ≤ len
+  -- ---- The l-th newest entry is read after the newer ones, which stands at index `at` of the ring.
+  module _ (l : ℕ) (a : BackwardState) (counts : List ℕ) (k : ReadsNewest S q (l - 1) a counts) where
+    pub read_inside : l - 1 ≤ len
     read_inside = omega (arith, k.inside, long w)
 
-    read_counted : Counted (kmers S) counts (drop (len - l) q)
-    read_counted = subst (λ (n : ℕ). Counted (kmers S) counts (drop (n - l) q)) (long w) k.counted
+    read_counted : Counted (kmers S) counts (drop (len - (l - 1)) q)
+    read_counted = subst (λ (n : ℕ). Counted (kmers S) counts (drop (n - (l - 1)) q)) (long w) k.counted
 
-    module _ (more : l < len) (at : ℕ) (i : at ≡ ring_index (length ring) head (len - (l + 1))) where
+    module _ (some : 0 < l) (more : l < len + 1) (at : ℕ) (i : at ≡ ring_index (length ring) head (len - l)) where
       abbrev entry : ℕ
       entry = get_or ring at 0
 
       abbrev e : ℕ
-      e = len - (l + 1)
+      e = len - l
 
       here : At (length ring) head e at
       here = rw i (ring_index_at (length ring) head e (len_fits w).2 (omega (arith, (len_fits w).3)))
@@ -173,7 +176,7 @@ module _ (p : Params) (ring : List ℕ) (head len : ℕ) (window_counts : List �
       -- The window has one place more of its k-mer than the entries read.
       uncounted : entry % 2 ≡ 0 → get_or counts (entry / 2) 0 < get_or window_counts (entry / 2) 0
       uncounted h =
-          let z : len - l ≡ suc e = omega arith in
+          let z : len - (l - 1) ≡ suc e = omega arith in
           let c : Counted (kmers S) counts (drop (suc e) q) = subst (λ (n : ℕ). Counted (kmers S) counts (drop n q)) z read_counted in
           omega (
             arith,
@@ -192,19 +195,21 @@ module _ (p : Params) (ring : List ℕ) (head len : ℕ) (window_counts : List �
           ((b, omega (arith, k.counted.long, w.counts_long), omega (arith, w.counted (entry / 2), count_le (entry / 2) q, long w, (len_fits w).0), count_in w (entry / 2)), uncounted)
 
       module _ (b : BackwardState) (counts' : List ℕ) (adds : AddsEntry t window_counts ln (decode entry) a b counts counts') where
-        read_next : ReadsNewest S q (l + 1) b counts'
+        read_next : ReadsNewest S q l b counts'
         read_next =
-            newest_next S q q_below window_counts w.counted k (omega (arith, long w))
-            (subst (λ (z : Place). AddsEntry t window_counts ln z a b counts counts') (sym (ap (λ (n : ℕ). get_or q (n - (l + 1)) ambiguous) (long w) ∙ place)) adds)
+            let o : l - 1 + 1 ≡ l = omega arith in
+            let here : AddsEntry t window_counts ln (get_or q (length q - l) ambiguous) a b counts counts' =
+            subst (λ (z : Place). AddsEntry t window_counts ln z a b counts counts') (sym (ap (λ (n : ℕ). get_or q (n - l) ambiguous) (long w) ∙ place)) adds in
+            subst (λ (n : ℕ). ReadsNewest S q n b counts') o (newest_next S q q_below window_counts w.counted k (omega (arith, long w)) (rw o here))
 
-        x_here : b.s ⊖ f_at S (l + 1) ≡ x S q (l + 1)
-        x_here = ap (λ (v : Float). v ⊖ f_at S (l + 1)) read_next.sum ∙ newest_score_lem S q (l + 1) read_next.inside
+        x_here : b.s ⊖ f_at S l ≡ x S q l
+        x_here = ap (λ (v : Float). v ⊖ f_at S l) read_next.sum ∙ newest_score_lem S q l read_next.inside
 
-        y_here : b.sw ⊖ f_at S (l + 1) ≡ y S q (l + 1)
-        y_here = ap (λ (v : Float). v ⊖ f_at S (l + 1)) read_next.second ∙ second_score_lem S q (l + 1) read_next.inside
+        y_here : b.sw ⊖ f_at S l ≡ y S q l
+        y_here = ap (λ (v : Float). v ⊖ f_at S l) read_next.second ∙ second_score_lem S q l read_next.inside
 
-        counted_here : Counted (kmers S) counts' (drop (len - (l + 1)) q)
-        counted_here = subst (λ (n : ℕ). Counted (kmers S) counts' (drop (n - (l + 1)) q)) (long w) read_next.counted
+        counted_here : Counted (kmers S) counts' (drop (len - l) q)
+        counted_here = subst (λ (n : ℕ). Counted (kmers S) counts' (drop (n - l) q)) (long w) read_next.counted
 
   -- ---- The scan over the newest entries.
   module _ (low : LowStarts) (age : ℕ) (inside : age + near_starts < len) (known : LowBounds S (take (len - age) q) low) where
@@ -215,50 +220,52 @@ module _ (p : Params) (ring : List ℕ) (head len : ℕ) (window_counts : List �
     near_start a counts fresh clear =
         record { newest = newest_none S q a len counts fresh clear; near = omega arith; below = λ k some h. absurd (let z : ⊥ = omega arith in z); still = λ _. refl; moved = λ some h. absurd (let z : ⊥ = omega arith in z) }
 
-    module _ (l : ℕ) (a : BackwardState) (bound : Float) (counts : List ℕ) (k : Near' l a bound counts) where
-      pub near_end : age + near_starts ≤ l → ReadsNear S q (record { told = lt bound (neg distance); at = len - (age + near_starts) }) counts
+    module _ (l : ℕ) (a : BackwardState) (bound : Float) (counts : List ℕ) (k : Near' (l - 1) a bound counts) where
+      pub near_end : age + near_starts + 1 ≤ l → ReadsNear S q (record { told = lt bound (neg distance); at = len - (age + near_starts) }) counts
       near_end ended =
           record {
             inside = omega (arith, long w);
-            counted = let e : l ≡ age + near_starts = omega (arith, k.near) in subst (λ (n : ℕ). Counted (kmers S) counts (drop (len - n) q)) e (read_counted l a counts k.newest);
+            counted = let e : l - 1 ≡ age + near_starts = omega (arith, k.near) in subst (λ (n : ℕ). Counted (kmers S) counts (drop (len - n) q)) e (read_counted l a counts k.newest);
             told = λ told.
                 nothing_low S q q_below in_window age low (subst (λ (n : ℕ). LowBounds S (take (n - age) q) low) (sym (long w)) known) (omega (arith, long w)) bound k.still (λ some. k.moved some (omega arith)) (so _ told)
                 (λ j some h. not_zero (x S q j) (k.below j some (omega arith)));
           }
 
-      module _ (more : l < age + near_starts) (at : ℕ) (i : at ≡ ring_index (length ring) head (len - (l + 1))) (b : BackwardState) (counts' : List ℕ)
+      module _ (some : 0 < l) (more : l < age + near_starts + 1) (at : ℕ) (i : at ≡ ring_index (length ring) head (len - l)) (b : BackwardState) (counts' : List ℕ)
           (adds : AddsEntry t window_counts ln (decode (get_or ring at 0)) a b counts counts') where
-        in_len : l < len
+        in_len : l < len + 1
         in_len = omega arith
 
-        abbrev near_read : ReadsNewest S q (l + 1) b counts'
-        near_read = read_next l a counts k.newest in_len at i b counts' adds
+        abbrev near_read : ReadsNewest S q l b counts'
+        near_read = read_next l a counts k.newest some in_len at i b counts' adds
 
-        pub near_stops : lt (b.sw ⊖ f_at S (l + 1)) (neg distance) ≡ true → ReadsNear S q (record { told = true; at = len - (l + 1) }) counts'
+        pub near_stops : lt (b.sw ⊖ f_at S l) (neg distance) ≡ true → ReadsNear S q (record { told = true; at = len - l }) counts'
         near_stops test =
-            let y_is = y_here l a counts k.newest in_len at i b counts' adds in
+            let y_is = y_here l a counts k.newest some in_len at i b counts' adds in
             record {
               inside = omega (arith, long w);
-              counted = counted_here l a counts k.newest in_len at i b counts' adds;
-              told = λ _. nothing_stops S q (l + 1) (omega arith) near_read.inside (λ j some h. not_zero (x S q j) (k.below j some (omega arith))) (below_zero (y S q (l + 1)) (subst (λ (z : Float). T (lt z (neg distance))) y_is (so _ test)));
+              counted = counted_here l a counts k.newest some in_len at i b counts' adds;
+              told = λ _. nothing_stops S q l (omega arith) near_read.inside (λ j some h. not_zero (x S q j) (k.below j some (omega arith))) (below_zero (y S q l) (subst (λ (z : Float). T (lt z (neg distance))) y_is (so _ test)));
             }
 
-        pub near_high : ReadsNear S q (record { told = false; at = len - (l + 1) }) counts'
-        near_high = record { inside = omega (arith, long w); counted = counted_here l a counts k.newest in_len at i b counts' adds; told = λ e. absurd (true≢false (sym e)) }
+        pub near_high : ReadsNear S q (record { told = false; at = len - l }) counts'
+        near_high = record { inside = omega (arith, long w); counted = counted_here l a counts k.newest some in_len at i b counts' adds; told = λ e. absurd (true≢false (sym e)) }
 
-        module _ (test : lt (b.s ⊖ f_at S (l + 1)) (neg distance) ≡ true) where
-          below_next : (j : ℕ) → 0 < j → j ≤ l + 1 → T (lt (x S q j) (neg distance))
-          below_next j some h =
-              let x_is = x_here l a counts k.newest in_len at i b counts' adds in
-              one_more (λ (j : ℕ). T (lt (x S q j) (neg distance))) l j h (k.below j some) (subst (λ (z : Float). T (lt z (neg distance))) x_is (so _ test))
+        module _ (test : lt (b.s ⊖ f_at S l) (neg distance) ≡ true) where
+          below_next : (j : ℕ) → 0 < j → j ≤ l → T (lt (x S q j) (neg distance))
+          below_next j far h =
+              let x_is = x_here l a counts k.newest some in_len at i b counts' adds in
+              one_more (λ (j : ℕ). T (lt (x S q j) (neg distance))) l j h (k.below j far) (subst (λ (z : Float). T (lt z (neg distance))) x_is (so _ test))
 
-          pub near_next : (l + 1 ≡ age → ⊥) → Near' (l + 1) b bound counts'
+          pub near_next : (l ≡ age → ⊥) → Near' (l + 1 - 1) b bound counts'
           near_next apart =
+              rw (next l)
               record { newest = near_read; near = omega arith; below = below_next; still = k.still; moved = λ some h. k.moved some (omega (arith, apart)) }
 
-          pub near_moved : l + 1 ≡ age → Near' (l + 1) b (low.score ⊕ (b.sw ⊖ f_at S (l + 1))) counts'
+          pub near_moved : l ≡ age → Near' (l + 1 - 1) b (low.score ⊕ (b.sw ⊖ f_at S l)) counts'
           near_moved e =
-              let y_is = y_here l a counts k.newest in_len at i b counts' adds in
+              let y_is = y_here l a counts k.newest some in_len at i b counts' adds in
+              rw (next l)
               record {
                 newest = near_read;
                 near = omega arith;
@@ -277,61 +284,61 @@ module _ (p : Params) (ring : List ℕ) (head len : ℕ) (window_counts : List �
         by_test (λ (c : Option LowStarts). IfSome c (LowBounds S q)) (ltb near_starts l) (Some (record { reach = l; score = score })) None
         (λ far. low_made S u q q_below in_window l (ltb→lt near_starts l far) inside score kept low ends) (λ _. tt)
 
-    module _ (l : ℕ) (a : BackwardState) (score : Float) (counts : List ℕ) (k : LowReading S q l a score counts) where
-      pub low_end : len ≤ l → (c : Option LowStarts) → c ≡ low_starts_to len score → ReadsLow S q (record { low = c; at = 0 }) counts
+    module _ (l : ℕ) (a : BackwardState) (score : Float) (counts : List ℕ) (k : LowReading S q (l - 1) a score counts) where
+      pub low_end : len + 1 ≤ l → (c : Option LowStarts) → c ≡ low_starts_to len score → ReadsLow S q (record { low = c; at = 0 }) counts
       low_end ended c is =
-          let e : l ≡ len = omega (arith, read_inside l a counts k.newest) in
-          let z : len - l ≡ 0 = omega arith in
+          let e : l - 1 ≡ len = omega (arith, read_inside l a counts k.newest) in
+          let z : len - (l - 1) ≡ 0 = omega arith in
           record {
             inside = omega arith;
             counted = subst (λ (n : ℕ). Counted (kmers S) counts (drop n q)) z (read_counted l a counts k.newest);
             low = rw is (known_to len (omega (arith, long w)) score k.kept (λ j far h. k.low j far (omega arith)) (inr (sym (long w))));
           }
 
-      module _ (more : l < len) (at : ℕ) (i : at ≡ ring_index (length ring) head (len - (l + 1))) (b : BackwardState) (counts' : List ℕ)
+      module _ (some : 0 < l) (more : l < len + 1) (at : ℕ) (i : at ≡ ring_index (length ring) head (len - l)) (b : BackwardState) (counts' : List ℕ)
           (adds : AddsEntry t window_counts ln (decode (get_or ring at 0)) a b counts counts') where
-        abbrev low_read : ReadsNewest S q (l + 1) b counts'
-        low_read = read_next l a counts k.newest more at i b counts' adds
+        abbrev low_read : ReadsNewest S q l b counts'
+        low_read = read_next l a counts k.newest some more at i b counts' adds
 
-        abbrev counted : Counted (kmers S) counts' (drop (len - (l + 1)) q)
-        counted = counted_here l a counts k.newest more at i b counts' adds
+        abbrev counted : Counted (kmers S) counts' (drop (len - l) q)
+        counted = counted_here l a counts k.newest some more at i b counts' adds
 
         -- A near start is not judged.
-        pub low_near : l + 1 ≤ near_starts → LowReading S q (l + 1) b score counts'
-        low_near h = record { newest = low_read; kept = k.kept; low = λ j far o. absurd (let z : ⊥ = omega arith in z) }
+        pub low_near : l ≤ near_starts → LowReading S q (l + 1 - 1) b score counts'
+        low_near h = rw (next l) record { newest = low_read; kept = k.kept; low = λ j far o. absurd (let z : ⊥ = omega arith in z) }
 
-        pub low_none : ReadsLow S q (record { low = None; at = len - (l + 1) }) counts'
+        pub low_none : ReadsLow S q (record { low = None; at = len - l }) counts'
         low_none = record { inside = omega (arith, long w); counted = counted; low = tt }
 
-        module _ (score' : Float) (s_is : score' ≡ larger score (b.s ⊖ f_at S (l + 1))) where
-          x_is : b.s ⊖ f_at S (l + 1) ≡ x S q (l + 1)
-          x_is = x_here l a counts k.newest more at i b counts' adds
+        module _ (score' : Float) (s_is : score' ≡ larger score (b.s ⊖ f_at S l)) where
+          x_is : b.s ⊖ f_at S l ≡ x S q l
+          x_is = x_here l a counts k.newest some more at i b counts' adds
 
-          x_number : Kept 0 (b.s ⊖ f_at S (l + 1))
-          x_number = rw x_is (x_kept S u q q_below in_window (l + 1) (omega arith) low_read.inside)
+          x_number : Kept 0 (b.s ⊖ f_at S l)
+          x_number = rw x_is (x_kept S u q q_below in_window l (omega arith) low_read.inside)
 
           kept_next : Kept 0 score'
           kept_next = rw s_is (larger_kept k.kept x_number)
 
-          low_upto : (j : ℕ) → near_starts < j → j ≤ l + 1 → T (le (x S q j) score')
+          low_upto : (j : ℕ) → near_starts < j → j ≤ l → T (le (x S q j) score')
           low_upto j far h =
-              one_more (λ (j : ℕ). T (le (x S q j) score')) l j h (λ o. rw s_is (le_trans (x S q j) score (larger score (b.s ⊖ f_at S (l + 1))) (k.low j far o) (larger_left k.kept x_number)))
-              (rw s_is (subst (λ (z : Float). T (le z (larger score (b.s ⊖ f_at S (l + 1))))) x_is (larger_right k.kept x_number)))
+              one_more (λ (j : ℕ). T (le (x S q j) score')) l j h (λ o. rw s_is (le_trans (x S q j) score (larger score (b.s ⊖ f_at S l)) (k.low j far o) (larger_left k.kept x_number)))
+              (rw s_is (subst (λ (z : Float). T (le z (larger score (b.s ⊖ f_at S l)))) x_is (larger_right k.kept x_number)))
 
-          pub low_next : LowReading S q (l + 1) b score' counts'
-          low_next = record { newest = low_read; kept = kept_next; low = low_upto }
+          pub low_next : LowReading S q (l + 1 - 1) b score' counts'
+          low_next = rw (next l) record { newest = low_read; kept = kept_next; low = low_upto }
 
-          pub low_stops : (score'' : Float) → score'' ≡ larger score' (b.sw ⊖ f_at S (l + 1)) → (c : Option LowStarts) → c ≡ low_starts_to (l + 1) score'' → ReadsLow S q (record { low = c; at = len - (l + 1) }) counts'
+          pub low_stops : (score'' : Float) → score'' ≡ larger score' (b.sw ⊖ f_at S l) → (c : Option LowStarts) → c ≡ low_starts_to l score'' → ReadsLow S q (record { low = c; at = len - l }) counts'
           low_stops score'' e c is =
-              let y_is = y_here l a counts k.newest more at i b counts' adds in
-              let y_number : Kept 0 (b.sw ⊖ f_at S (l + 1)) = rw y_is (y_kept S u q q_below in_window (l + 1) (omega arith) low_read.inside) in
+              let y_is = y_here l a counts k.newest some more at i b counts' adds in
+              let y_number : Kept 0 (b.sw ⊖ f_at S l) = rw y_is (y_kept S u q q_below in_window l (omega arith) low_read.inside) in
               record {
                 inside = omega (arith, long w);
                 counted = counted;
                 low =
                     rw (is, e)
-                    (known_to (l + 1) low_read.inside (larger score' (b.sw ⊖ f_at S (l + 1))) (larger_kept kept_next y_number)
-                    (λ j far h. le_trans (x S q j) score' (larger score' (b.sw ⊖ f_at S (l + 1))) (low_upto j far h) (larger_left kept_next y_number))
-                    (inl (subst (λ (z : Float). T (le z (larger score' (b.sw ⊖ f_at S (l + 1))))) y_is (larger_right kept_next y_number))));
+                    (known_to l low_read.inside (larger score' (b.sw ⊖ f_at S l)) (larger_kept kept_next y_number)
+                    (λ j far h. le_trans (x S q j) score' (larger score' (b.sw ⊖ f_at S l)) (low_upto j far h) (larger_left kept_next y_number))
+                    (inl (subst (λ (z : Float). T (le z (larger score' (b.sw ⊖ f_at S l)))) y_is (larger_right kept_next y_number))));
               }
           -- ---- The counts are cleared again.

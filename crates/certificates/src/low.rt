@@ -62,8 +62,7 @@ fn read_low(setup: &Setup, ring: &Ring, window_counts: &[u16], scan_counts: &mut
     let len = ring.len;
     let mut st = BackwardState::new(len);
     let mut score = -HIGHEST;
-    for read in 0..len {
-        let l = read + 1;
+    for l in 1..len + 1 {
         let i = ring.index(len - l);
         st = st.add_entry(t, queue[i], window_counts, setup.ln, scan_counts);
         if l <= NEAR {
@@ -142,8 +141,7 @@ fn read_near(
     let mut st = BackwardState::new(len);
     let mut bound = low.score;
     let last = age + NEAR;
-    for read in 0..last {
-        let l = read + 1;
+    for l in 1..last + 1 {
         let i = ring.index(len - l);
         st = st.add_entry(t, queue[i], window_counts, setup.ln, scan_counts);
         let fl = setup.f[l];

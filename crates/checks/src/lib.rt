@@ -73,7 +73,7 @@ pub fn window_above(w: usize) -> bool
 pub fn threshold_bad(t: f64) -> bool
     ensures { result ≡ threshold_bad t }
 {
-    !((0.0 < t) & (t < 1.0 / 0.0))
+    !((0.0 < t) & (t < f64::INFINITY))
 }
 
 pub fn min_start_below(min_start_cnt: u16) -> bool

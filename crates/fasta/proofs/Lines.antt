@@ -2,9 +2,12 @@
 use Prim.Native.Nat.{ℕ, suc, ◌+◌, ◌<◌}
 use mathlib.Core.Path.{◌≡◌, refl, ap, ◌∙◌}
 use mathlib.Core.Logic.{◌≢◌}
-use mathlib.Core.Bool.{Bool, true, false, cond, ◌&&◌, ◌||◌}
+use mathlib.Core.Bool.{Bool, true, false, cond, not, ◌&&◌, ◌||◌}
 use mathlib.Core.List.{List, [], ◌∷◌, ◌++◌}
 use native.Mathlib.Omega.{arith}
+use native.Mathlib.Numerals.{one-add}
+use Rattle.std.proofs.Math.Nat.{suc-add}
+use Rattle.std.proofs.lemmas.List.Sums.{prefix_len_stops}
 use lib.Dec.{eqb}
 use lib.ListN.{length, take, drop, get_or}
 use borrow.Author.Tests.{eqb-true, eqb-false, ne_eqb}
@@ -15,24 +18,17 @@ use Rattle.fasta.specs.Terms.Lengths.{empty_lines, name_length, line_length, lin
 
 -- Empty lines hold nothing, and after them no byte 10 stands.
 pub after_empty : (bs : List ℕ) → contents_of (drop (empty_lines bs) bs) ≡ contents_of bs
-unfolding empty_lines contents lines
+unfolding contents lines
 after_empty [] = refl
 after_empty (b ∷ bs) = go (after_empty bs) (eqb b 10) refl
   where
     go : contents_of (drop (empty_lines bs) bs) ≡ contents_of bs → (t : Bool) → eqb b 10 ≡ t
-        → contents_of (drop (cond t (suc (empty_lines bs)) 0) (b ∷ bs)) ≡ contents false (cond t ([] ∷ lines bs) (onto b (lines bs)))
-    go ih true e = ih
+        → contents_of (drop (cond t (1 + empty_lines bs) 0) (b ∷ bs)) ≡ contents false (cond t ([] ∷ lines bs) (onto b (lines bs)))
+    go ih true e = rw (one-add (empty_lines bs)) ih
     go ih false e = rw e
 
 pub not_empty : (bs : List ℕ) → empty_lines bs < length bs → get_or bs (empty_lines bs) 0 ≢ 10
-unfolding empty_lines
-not_empty [] h = absurd (let b : ⊥ = omega arith in b)
-not_empty (b ∷ bs) h = go (not_empty bs) (eqb b 10) refl h
-  where
-    go : (empty_lines bs < length bs → get_or bs (empty_lines bs) 0 ≢ 10) → (t : Bool) → eqb b 10 ≡ t → cond t (suc (empty_lines bs)) 0 < suc (length bs)
-        → get_or (b ∷ bs) (cond t (suc (empty_lines bs)) 0) 0 ≢ 10
-    go ih true e k = ih (omega arith)
-    go ih false e k = eqb-false b 10 e
+not_empty bs h = eqb-false (get_or bs (empty_lines bs) 0) 10 (prefix_len_stops (λ b. eqb b 10) bs 0 h)
 
 -- Letters before the first name.
 pub letters_first : (b : ℕ) (bs : List ℕ) → b ≢ 10 → b ≢ 62 → contents_of (b ∷ bs) ≡ fails 14
@@ -43,54 +39,49 @@ letters_first b bs h k = rw (ne_eqb b 10 h) (go (lines bs))
     go [] = rw (ne_eqb b 62 k)
     go (l ∷ ls) = rw (ne_eqb b 62 k)
 
--- The first line, up to byte 10.
-unfoldable first_line : List ℕ → List ℕ
-first_line [] = []
-first_line (b ∷ bs) = cond (eqb b 10) [] (b ∷ first_line bs)
-
-line_split : (b : ℕ) (bs : List ℕ) → onto b (lines bs) ≡ (b ∷ first_line bs) ∷ lines (drop (line_length bs) bs)
-unfolding lines first_line line_length
+line_split : (b : ℕ) (bs : List ℕ) → onto b (lines bs) ≡ (b ∷ take (line_length bs) bs) ∷ lines (drop (line_length bs + 1) bs)
+unfolding lines
 line_split b [] = refl
 line_split b (c ∷ bs) = go (line_split c bs) (eqb c 10)
   where
-    go : onto c (lines bs) ≡ (c ∷ first_line bs) ∷ lines (drop (line_length bs) bs) → (t : Bool)
+    go : onto c (lines bs) ≡ (c ∷ take (line_length bs) bs) ∷ lines (drop (line_length bs + 1) bs) → (t : Bool)
         → onto b (cond t ([] ∷ lines bs) (onto c (lines bs)))
-        ≡ (b ∷ cond t [] (c ∷ first_line bs)) ∷ lines (drop (cond t 1 (suc (line_length bs))) (c ∷ bs))
+        ≡ (b ∷ take (cond (not t) (1 + line_length bs) 0) (c ∷ bs)) ∷ lines (drop (cond (not t) (1 + line_length bs) 0 + 1) (c ∷ bs))
     go ih true = refl
-    go ih false = ap (λ (ls : List (List ℕ)). onto b ls) ih
+    go ih false = rw (one-add (line_length bs), suc-add (line_length bs) 1) (ap (λ (ls : List (List ℕ)). onto b ls) ih)
 
-name_first : (bs : List ℕ) → word (first_line bs) ≡ take (name_length bs) bs
-unfolding word first_line name_length
+name_first : (bs : List ℕ) → word (take (line_length bs) bs) ≡ take (name_length bs) bs
+unfolding word
 name_first [] = refl
 name_first (b ∷ bs) = go (name_first bs) (eqb b 32 || eqb b 9) refl (eqb b 10)
   where
-    go : word (first_line bs) ≡ take (name_length bs) bs → (p : Bool) → (eqb b 32 || eqb b 9) ≡ p → (t : Bool)
-        → word (cond t [] (b ∷ first_line bs)) ≡ take (cond (p || t) 0 (suc (name_length bs))) (b ∷ bs)
+    go : word (take (line_length bs) bs) ≡ take (name_length bs) bs → (p : Bool) → (eqb b 32 || eqb b 9) ≡ p → (t : Bool)
+        → word (take (cond (not t) (1 + line_length bs) 0) (b ∷ bs)) ≡ take (cond (not (p || t)) (1 + name_length bs) 0) (b ∷ bs)
     go ih true e true = refl
     go ih false e true = refl
-    go ih true e false = rw e
-    go ih false e false = rw e (ap (λ (l : List ℕ). b ∷ l) ih)
+    go ih true e false = rw (one-add (line_length bs), e) refl
+    go ih false e false = rw (one-add (line_length bs), one-add (name_length bs), e) (ap (λ (l : List ℕ). b ∷ l) ih)
 
 -- A name ends in its line.
 pub name_line_lem : (bs : List ℕ) → name_length bs + line_length (drop (name_length bs) bs) ≡ line_length bs
-unfolding name_length line_length
 name_line_lem [] = refl
 name_line_lem (b ∷ bs) = go (name_line_lem bs) (eqb b 32 || eqb b 9) (eqb b 10) refl
   where
     go : name_length bs + line_length (drop (name_length bs) bs) ≡ line_length bs → (p t : Bool) → eqb b 10 ≡ t
-        → cond (p || t) 0 (suc (name_length bs)) + line_length (drop (cond (p || t) 0 (suc (name_length bs))) (b ∷ bs)) ≡ cond t 1 (suc (line_length bs))
+        → cond (not (p || t)) (1 + name_length bs) 0 + line_length (drop (cond (not (p || t)) (1 + name_length bs) 0) (b ∷ bs))
+        ≡ cond (not t) (1 + line_length bs) 0
     go ih true true e = rw e
     go ih true false e = rw e (omega arith)
     go ih false true e = rw e
-    go ih false false e = omega arith
+    go ih false false e = rw (one-add (name_length bs)) (omega arith)
 
 -- A line that opens a record.
 pub opening : (bs : List ℕ)
     → contents_of (62 ∷ bs)
-    ≡ opened (take (name_length bs) bs) (letters_below (lines (drop (line_length bs) bs))) (contents true (lines (drop (line_length bs) bs)))
+    ≡ opened (take (name_length bs) bs) (letters_below (lines (drop (line_length bs + 1) bs))) (contents true (lines (drop (line_length bs + 1) bs)))
 unfolding contents lines
 opening bs =
-    let A : List (List ℕ) = lines (drop (line_length bs) bs) in
+    let A : List (List ℕ) = lines (drop (line_length bs + 1) bs) in
     ap (λ (ls : List (List ℕ)). contents false ls) (line_split 62 bs)
     ∙ ap (λ (l : List ℕ). opened l (letters_below A) (contents true A)) (name_first bs)
 

@@ -51,13 +51,14 @@ impl Cursor {
     }
 
     // The next record of the file from the cursor on, if there is one; a cursor past the file is at its end.
+    #[tactic(auto, using(crate::proofs::Stepping::of_steps))]
     pub fn next(self, file: &[u8]) -> Result<Option<Found>, Fault>
         ensures { Told file.now self.at result }
     {
         if file.len() <= self.at {
             return Ok(None);
         }
-        let at = skip_empty(file, self.at);
+        let at = self.at + empty_lines(&file[self.at..]);
         if file.len() <= at {
             return Ok(None);
         }
@@ -65,12 +66,13 @@ impl Cursor {
             return Err(Fault::LettersFirst);
         }
         let name = at + 1;
-        let name_end = name_end(file, name);
+        let name_end = name + name_length(&file[name..]);
         if name_end == name {
             return Err(Fault::EmptyName);
         }
-        let lines = after_line(file, name_end);
-        let end = lines_end(file, lines);
+        let line_end = name_end + line_length(&file[name_end..]);
+        let lines = (line_end + 1).min(file.len());
+        let end = lines + lines_length(&file[lines..]);
         Ok(Some(Found {
             name: Part {
                 start: name,
@@ -105,62 +107,39 @@ pub fn bytes(file: &[u8], part: Part) -> &[u8]
     &file[start..end]
 }
 
-// The four below take a place in the file and answer one: on the rest of the file alone, their caller would add up lengths.
+// The four below count bytes from the front of what is left of a file: those of empty lines, of a name, of a line without its byte 10,
+// and of lines up to the next that starts with `>`.
 
-// Past the empty lines.
-#[tactic(auto, using(crate::proofs::Lengths::of_empty))]
-fn skip_empty(file: &[u8], from: usize) -> usize
-    requires { from ≤ length file.now }
-    ensures { result ≡ from + empty_lines (drop from file.now) }
+fn empty_lines(rest: &[u8]) -> usize
+    ensures { result ≡ empty_lines rest.now }
 {
-    for i in from..file.len() {
-        if file[i] != b'\n' {
-            return i;
-        }
-    }
-    file.len()
+    rest.iter().take_while(|byte| **byte == b'\n').count()
 }
 
-#[tactic(auto, using(crate::proofs::Lengths::of_name))]
-fn name_end(file: &[u8], from: usize) -> usize
-    requires { from ≤ length file.now }
-    ensures { result ≡ from + name_length (drop from file.now) }
+fn name_length(rest: &[u8]) -> usize
+    ensures { result ≡ name_length rest.now }
 {
-    for i in from..file.len() {
-        let byte = file[i];
-        if (byte == b' ') | (byte == b'\t') | (byte == b'\n') {
-            return i;
-        }
-    }
-    file.len()
+    rest.iter()
+        .take_while(|byte| !matches!(**byte, b' ' | b'\t' | b'\n'))
+        .count()
 }
 
-#[tactic(auto, using(crate::proofs::Lengths::of_line))]
-fn after_line(file: &[u8], from: usize) -> usize
-    requires { from ≤ length file.now }
-    ensures { result ≡ from + line_length (drop from file.now) }
+fn line_length(rest: &[u8]) -> usize
+    ensures { result ≡ line_length rest.now }
 {
-    for i in from..file.len() {
-        if file[i] == b'\n' {
-            return i + 1;
-        }
-    }
-    file.len()
+    rest.iter().take_while(|byte| **byte != b'\n').count()
 }
 
-// Up to the next line that starts with `>`; a line starts at `from`.
 #[tactic(auto, using(crate::proofs::Lengths::of_lines))]
-fn lines_end(file: &[u8], from: usize) -> usize
-    requires { from ≤ length file.now }
-    ensures { result ≡ from + lines_length true (drop from file.now) }
+fn lines_length(rest: &[u8]) -> usize
+    ensures { result ≡ lines_length true rest.now }
 {
     let mut fresh = true;
-    for i in from..file.len() {
-        let byte = file[i];
-        if fresh & (byte == b'>') {
+    for (i, byte) in rest.iter().enumerate() {
+        if fresh & (*byte == b'>') {
             return i;
         }
-        fresh = byte == b'\n';
+        fresh = *byte == b'\n';
     }
-    file.len()
+    rest.len()
 }

@@ -44,7 +44,7 @@ pub fn is_usual(list: &[Interval], n: usize) -> bool
     true
 }
 
-// How many intervals stay when one that begins at `start` is saved.
+// How many intervals stay when one that begins at `start` is saved. From the end, since it is asked of a list in any order, and few do not stay.
 #[tactic(auto, using(crate::proofs::SaveSteps::of_staying))]
 fn count_staying(list: &[Interval], start: u32) -> usize
     ensures { result ≡ staying list.now start (length list.now) }
@@ -165,6 +165,7 @@ fn pick_reverse(reverse: &[Interval], i: usize, j: usize, n: u32) -> Picked
 }
 
 // Takes the one of these two that starts first; of equal starts the reverse list's.
+// Two lists and where the merge stands in each: on what is left of them a step would answer two slices beside its interval.
 fn pick(forward: &[Interval], i: usize, reverse: &[Interval], j: usize, n: u32) -> Picked
     requires inside { Inside n reverse.now × (j ≤ length reverse.now) }
     requires i_in_bounds { (i ≤ length forward.now) × (0 < (length forward.now - i) + j) }

@@ -1,8 +1,8 @@
 // What the numbers of the calls for C stand for, and the number that such a call returns.
 // Kinds cross as numbers: include/longdust.h lends them so.
 
-ghost use Rattle.std.specs.Prelude.{◌≡◌, ◌<◌, ◌^◌, IfOk};
-ghost use Rattle.checks.specs.Refusal.{number_of};
+ghost use Rattle.std.specs.Prelude.{◌≡◌, ◌<◌, ◌^◌, pos, neg_ℤ, IfOk};
+ghost use Rattle.checks.specs.Refusal.{number, number_of};
 ghost use Rattle.longdust_c.specs.Exported.{mask_count, mask_flag};
 ghost use Rattle.longdust_c.specs.Numbers.{gc_choice, xdrop_choice, masking_of, kind_of, count_or, count_of, flag};
 
@@ -20,7 +20,7 @@ pub fn gc_choice(gc_kind: u32, gc_value: f64) -> GcOption
         0 => GcOption::Uniform,
         1 => GcOption::Fixed(gc_value),
         2 => GcOption::Auto,
-        _ => GcOption::Fixed(0.0 / 0.0),
+        _ => GcOption::Fixed(f64::NAN),
     }
 }
 
@@ -55,6 +55,13 @@ pub fn kind_of(kind: u32) -> Joined
     }
 }
 
+// Minus the refusal's number.
+pub fn minus_number(refusal: Refusal) -> i64
+    ensures { result ≡ neg_ℤ (pos (number refusal)) }
+{
+    -(refusal.number() as i64)
+}
+
 // The count, or minus the refusal's number.
 pub fn returned(answer: Result<usize, Refusal>) -> i64
     requires { IfOk answer (λ count. count < 2 ^ 63) }
@@ -62,15 +69,8 @@ pub fn returned(answer: Result<usize, Refusal>) -> i64
 {
     match answer {
         Ok(count) => count as i64,
-        Err(refusal) => -(refusal.number() as i64),
+        Err(refusal) => minus_number(refusal),
     }
-}
-
-// The flag as a number.
-pub fn flag_of(in_range: bool) -> u32
-    ensures { result ≡ flag in_range }
-{
-    if in_range { 1 } else { 0 }
 }
 
 // The count of a mask and its flag, or minus the refusal's number and no flag.
@@ -81,12 +81,12 @@ pub fn returned_mask(answer: Result<Answer, Refusal>, in_range: &mut u32) -> i64
 {
     match answer {
         Ok(mask) => {
-            *in_range = flag_of(mask.in_range);
+            *in_range = mask.in_range as u32;
             mask.count as i64
         }
         Err(refusal) => {
             *in_range = 0;
-            -(refusal.number() as i64)
+            minus_number(refusal)
         }
     }
 }

@@ -5,6 +5,8 @@ ghost use Rattle.buffers.specs.Fill.{put};
 ghost use Rattle.short_sequences.specs.Tallies.{tallies_of, refused_of, refusal};
 ghost use Rattle.longdust_c.specs.Numbers.{count_or};
 
+use crate::numbers::minus_number;
+
 // Fills the front of `tallies` for all sequences of m letters over A C G T N, and sets how many are refused.
 #[unsafe(no_mangle)]
 pub extern "C" fn longdust_short_sequences(m: usize, tallies: &mut [u32], refused: &mut u32) -> i64
@@ -19,7 +21,7 @@ pub extern "C" fn longdust_short_sequences(m: usize, tallies: &mut [u32], refuse
         }
         Err(refusal) => {
             *refused = 0;
-            -(refusal.number() as i64)
+            minus_number(refusal)
         }
     }
 }

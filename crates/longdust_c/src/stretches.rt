@@ -7,6 +7,7 @@ ghost use Rattle.strongest.specs.Call.{asked};
 ghost use Rattle.strongest.specs.Checks.{refusal};
 ghost use Rattle.longdust_c.specs.Numbers.{count_or};
 
+use crate::numbers::minus_number;
 use strongest::{Request, Scoring};
 
 // The best stretch up to `place` within the budget of steps: answers the steps or minus the refusal number, and sets start, score and gap.
@@ -55,7 +56,7 @@ pub extern "C" fn longdust_strongest_stretch(
             *start = 0;
             *score = 0;
             *gap = 0;
-            -(refusal.number() as i64)
+            minus_number(refusal)
         }
     }
 }

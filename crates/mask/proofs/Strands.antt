@@ -11,12 +11,13 @@ use Rattle.letters.specs.Code.{reverse_complement}
 use Rattle.letters.proofs.Codes.{reverse_complement_length}
 use Rattle.intervals.specs.declared.Interval.{Interval}
 use Rattle.intervals.specs.declared.Marked.{Marked}
+use Rattle.intervals.specs.Terms.Bounds.{Inside}
 use Rattle.intervals.specs.Merge.{merge, merge_marked, WroteMarked, backwards}
 use Rattle.intervals.proofs.Shape.{ascending_inside}
 use Rattle.scans.specs.Setup.{Setup}
 use Rattle.step.specs.Step.{intervals_of}
 use Rattle.mask.specs.Mask.{mask_of, marked_mask_of}
-use Rattle.mask.specs.Terms.Both.{other_intervals, Held, Mergeable}
+use Rattle.mask.specs.Terms.Both.{other_intervals, Held}
 use Rattle.mask.proofs.Masks.{mask_room, mask_merged, marked_merged, others_shape}
 
 -- The reverse complement over a whole buffer.
@@ -34,16 +35,11 @@ module _ (S : Setup) (b : Bool) (s : List ℕ) {fs rs : List Interval} {i j : �
   merged =
       ap₂ (λ (is js : List Interval). merge is (backwards (length s) js)) f.list_is r.list_is ∙ mask_merged S b s some
 
-  pub mergeable : (list : List Interval) (marks : List ℕ) → (length s + 1) / (S.kmer + 1) ≤ length list → (length s + 1) / (S.kmer + 1) ≤ length marks
-      → Mergeable fs i rs j (length s) list marks
-  mergeable list marks h g =
-      record {
-        forward_within = f.within;
-        reverse_within = r.within;
-        inside = rw r.list_is (ascending_inside (length s) S.kmer 0 (other_intervals S b s) (others_shape S b s));
-        room = rw merged (let m = mask_room S b s some in omega arith);
-        marks_room = rw merged (let m = mask_room S b s some in omega arith);
-      }
+  pub other_inside : Inside (length s) (take j rs)
+  other_inside = rw r.list_is (ascending_inside (length s) S.kmer 0 (other_intervals S b s) (others_shape S b s))
+
+  pub merged_room : (m : ℕ) → (length s + 1) / (S.kmer + 1) ≤ m → length (merge (take i fs) (backwards (length s) (take j rs))) ≤ m
+  merged_room m h = rw merged (let r = mask_room S b s some in omega arith)
 
   pub merged_wrote : {xs xs' : List Interval} {ys ys' : List ℕ} {count : ℕ}
       → WroteMarked (merge_marked (take i fs) (backwards (length s) (take j rs))) xs xs' ys ys' count

@@ -2,15 +2,15 @@
 
 #![tactic(auto)]
 
-ghost use Rattle.std.specs.Prelude.{◌≡◌, ◌+◌, ◌/◌, ◌^◌, length, take};
+ghost use Rattle.std.specs.Prelude.{◌≡◌, ◌+◌, ◌/◌, ◌^◌, length};
 ghost use Rattle.buffers.specs.Free.{Free};
-ghost use Rattle.intervals.specs.Merge.{merge_marked, WroteMarked, backwards};
+ghost use Rattle.intervals.specs.Merge.{WroteMarked};
 ghost use Rattle.intervals.specs.Out.{SameOut};
 ghost use Rattle.scans.specs.Terms.Run.{as_setup};
 ghost use Rattle.step.specs.Step.{intervals_of};
 ghost use Rattle.mask.specs.Lent.{SameBuffers};
 ghost use Rattle.mask.specs.Mask.{marked_mask_of};
-ghost use Rattle.mask.specs.Terms.Both.{Held, other_intervals, Runs, StrandRoom, ForwardRoom, ReverseRoom, OutRoom, Freed, Mergeable};
+ghost use Rattle.mask.specs.Terms.Both.{Held, other_intervals, Runs, StrandRoom, ForwardRoom, ReverseRoom, OutRoom, Freed};
 
 use intervals::{Interval, MarksOut};
 use scans::{ForwardPosition, Setup};
@@ -86,6 +86,7 @@ fn forward_strand(setup: &Setup, codes: &[u8], work: &mut Workspace) -> usize
 }
 
 // The list of the reverse complement, in the front of `reverse_list`; returns how many intervals it has. A forward-only run has none.
+// What both strands do is `strand_list`; which of the buffers each lends it is all that is left here.
 pub fn reverse_strand(
     setup: &Setup,
     forward_only: bool,
@@ -120,27 +121,6 @@ pub fn reverse_strand(
     )
 }
 
-// Joins both strands' lists, each in the front of its slice, with marks; answers how many intervals there are then.
-// Counts beside the lists: the runs leave them in slices that are lent longer.
-fn merge_strands(
-    forward_list: &[Interval],
-    forward_count: usize,
-    reverse_list: &[Interval],
-    reverse_count: usize,
-    n: u32,
-    out: &mut MarksOut,
-) -> usize
-    requires { Mergeable forward_list.now forward_count reverse_list.now reverse_count n out.old.list.now out.old.marks.now }
-    ensures mask { WroteMarked (merge_marked (take forward_count forward_list.now)
-        (backwards n (take reverse_count reverse_list.now)))
-        out.old.list.now out.new.list.now out.old.marks.now out.new.marks.now result }
-    ensures same { SameOut out.old out.new }
-{
-    let forward = &forward_list[..forward_count];
-    let reverse = &reverse_list[..reverse_count];
-    intervals::merge_intervals(forward, reverse, n, out)
-}
-
 // Both strands on buffers of at least the listed sizes; returns how many intervals the mask has.
 pub fn both_strands(
     setup: &Setup,
@@ -159,10 +139,9 @@ pub fn both_strands(
     ensures same_buffers { SameBuffers work.old work.new }
     ensures same { SameOut out.old out.new }
 {
-    let n = codes.len() as u32;
     let forward_count = forward_strand(setup, codes, work);
     let reverse_count = reverse_strand(setup, forward_only, codes, work);
-    let forward = &mut work.forward_list[..];
-    let reverse = &mut work.reverse_list[..];
-    merge_strands(forward, forward_count, reverse, reverse_count, n, out)
+    let forward = &mut work.forward_list[..forward_count];
+    let reverse = &mut work.reverse_list[..reverse_count];
+    intervals::merge_intervals(forward, reverse, codes.len() as u32, out)
 }

@@ -1,6 +1,6 @@
 -- Blocks of 1,024 letters: their sum, a range made up of them and its two ends, and the loop that writes them.
 use Prim.Native.Nat.{ℕ, zero, suc, ◌+◌, ◌-◌, ◌*◌, ◌/◌, ◌≤◌, ◌<◌}
-use mathlib.Core.Path.{◌≡◌, refl, sym, ap, ap₂, ◌∙◌}
+use mathlib.Core.Path.{◌≡◌, sym, ap, ap₂, ◌∙◌}
 use mathlib.Core.List.{List}
 use mathlib.Core.Logic.{⊎_elim}
 use native.Mathlib.Omega.{arith}
@@ -8,8 +8,6 @@ use lib.ListN.{length, get_or, take, drop, set}
 use lib.Seq.{drop-cons, take_all}
 use Rattle.std.specs.List.{sum}
 use Rattle.std.proofs.lemmas.List.Sums.{sum_by-cons}
-use Rattle.buffers.specs.Fill.{tabulate}
-use Rattle.buffers.proofs.Filling.{fill_end, put_all}
 use Rattle.buffers.proofs.Tabulate.{tabulate_length, tabulate_at, Tabulates, tabulate_start, tabulate_turn}
 use Rattle.intervals.specs.declared.Interval.{Interval}
 use Rattle.intervals.specs.Interval.{Canonical, covered_in}
@@ -83,17 +81,15 @@ module _ (is : List Interval) (s : List ℕ) (a b : ℕ) (y : Summed is s b) whe
       pub parts_fit : x + w + z ≤ b
       parts_fit = omega (arith, three_parts, covered_at_most is a b)
 
--- The loop of `fill_summary`: j blocks of d are written, and the walk goes on from letter `from`, at interval `next`.
-pub record Summing (ps : List Interval) (d : List ℕ) (next from j : ℕ) (l : List ℕ) : Type 0 where
-  pub letter : from ≡ 1024 * j
-  pub onward : IsFirstPast ps from next
+-- The loop of `fill_summary`: j blocks of d are written, and the walk goes on at interval `next`.
+pub record Summing (ps : List Interval) (d : List ℕ) (next j : ℕ) (l : List ℕ) : Type 0 where
+  pub onward : IsFirstPast ps (1024 * j) next
   pub fills : Tabulates (block ps) d (length d) j l
 
 module _ (ps : List Interval) (d : List ℕ) where
-  pub summing_start : Usual ps → Summing ps d 0 0 0 d
+  pub summing_start : Usual ps → Summing ps d 0 0 d
   summing_start u =
       record {
-        letter = refl;
         onward = record { index = sym none_yet; inside = omega arith; small = omega arith };
         fills = tabulate_start (block ps) (omega arith);
       }
@@ -109,19 +105,10 @@ module _ (ps : List Interval) (d : List ℕ) where
           (λ l. omega arith)
           (lt_or_le 0 (first_past is 0))
 
-  pub summing_turn : {next from j to : ℕ} {l : List ℕ} {w : Walked} → Summing ps d next from j l → j < length d → to ≡ from + 1024
-      → Walks ps from to w → Summing ps d w.next to (j + 1) (set l j w.letters)
-  summing_turn {from = from} {j = j} {to = to} {w = w} s h e k =
-      let q = s.letter in
-      record {
-        letter = omega arith;
-        onward = k.onward;
-        fills =
-            tabulate_turn (block ps) s.fills 0 w.letters h
-            (k.counted ∙ ap₂ (λ (x y : ℕ). covered_in ps x y) q (let r : to ≡ 1024 * (j + 1) = omega arith in r));
-      }
-
-  pub summing_end : {next from j : ℕ} {l : List ℕ} → Summing ps d next from j l → length d ≤ j → l ≡ tabulate (block ps) (length d)
-  summing_end s h = fill_end s.fills h ∙ put_all (tabulate (block ps) (length d)) d (sym (tabulate_length (block ps) (length d)))
+  pub summing_turn : {next j : ℕ} {l : List ℕ} {w : Walked} → Summing ps d next j l → j < length d
+      → Walks ps (1024 * j) (1024 * j + 1024) w → Summing ps d w.next (j + 1) (set l j w.letters)
+  summing_turn {j = j} {w = w} s h k =
+      let e : 1024 * (j + 1) ≡ 1024 * j + 1024 = omega arith in
+      record { onward = rw e k.onward; fills = tabulate_turn (block ps) s.fills 0 w.letters h (rw e k.counted) }
 
 pub ruleset of_parts = (of_test, whole_fits, three_parts, parts_fit)

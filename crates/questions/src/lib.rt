@@ -189,12 +189,11 @@ impl<'a> UsualList<'a> {
         ensures { summary.new ≡ tabulate (block self.now.list.now) (length summary.old) }
     {
         let mut next = 0;
-        let mut from = 0;
-        for entry in summary.iter_mut() {
+        for (i, entry) in summary.iter_mut().enumerate() {
+            let from = 1024 * i as u32;
             let walked = self.walk(next, from, from + 1024);
             *entry = walked.letters;
             next = walked.next;
-            from += 1024;
         }
     }
 
@@ -236,15 +235,16 @@ impl<'a> UsualList<'a> {
 
     // C has the kind as a number in the question.
     #[tactic(auto, unfolding(crate::specs::Answers::answer_to))]
-    fn answer_one(&self, summary: &[u32], kind: u32, a: u32, b: u32) -> Answer
-        requires askable { Askable self.now.list.now summary.now kind a b }
-        ensures { result ≡ answer_to self.now.list.now kind a b }
+    fn answer_one(&self, summary: &[u32], question: Question) -> Answer
+        requires askable { Askable self.now.list.now summary.now question }
+        ensures { result ≡ answer_to self.now.list.now question.kind question.from question.to }
     {
+        let Question { kind, from, to } = question;
         match kind {
-            0 => self.nearest_interval(a).unwrap_or(Answer::NONE),
-            1 => self.intervals_within(a, b).unwrap_or(Answer::NONE),
-            2 => self.intervals_partly(a, b).unwrap_or(Answer::NONE),
-            _ => self.masked_share(summary, a, b),
+            0 => self.nearest_interval(from).unwrap_or(Answer::NONE),
+            1 => self.intervals_within(from, to).unwrap_or(Answer::NONE),
+            2 => self.intervals_partly(from, to).unwrap_or(Answer::NONE),
+            _ => self.masked_share(summary, from, to),
         }
     }
 
@@ -255,7 +255,7 @@ impl<'a> UsualList<'a> {
         ensures { results.new ≡ put (results_of self.now.list.now questions.now) results.old }
     {
         for (i, question) in questions.iter().enumerate() {
-            results[i] = self.answer_one(summary, question.kind, question.from, question.to);
+            results[i] = self.answer_one(summary, *question);
         }
     }
 }
@@ -290,23 +290,21 @@ fn total_letters(blocks: &[u32]) -> u32
 }
 
 // C has the kind as a number in the question.
-fn bad_question(n: usize, kind: u32, a: u32, b: u32) -> bool
-    ensures { result ≡ bad_question n kind a b }
+fn bad_question(n: usize, question: Question) -> bool
+    ensures { result ≡ bad_question n question.kind question.from question.to }
 {
-    let from = a as usize;
-    let to = b as usize;
-    if kind == 0 {
+    let from = question.from as usize;
+    let to = question.to as usize;
+    if question.kind == 0 {
         return n <= from;
     }
-    (3 < kind) | ((to <= from) | (n < to))
+    (3 < question.kind) | ((to <= from) | (n < to))
 }
 
 fn any_bad(questions: &[Question], n: usize) -> bool
     ensures { result ≡ any_bad n questions.now }
 {
-    questions
-        .iter()
-        .any(|q| bad_question(n, q.kind, q.from, q.to))
+    questions.iter().any(|question| bad_question(n, *question))
 }
 
 fn count_blocks(n: usize) -> usize

@@ -96,7 +96,7 @@ pub fn answer(
     let n = sequence.len();
     let k = options.kmer.min(6);
     let w = options.window_size.min(64);
-    let kmers = 1usize << (2 * k);
+    let kmers = letters::n_kmers(k);
     let most = (n + 1) / (k + 1);
     let queue_size = entries(3, short, w, 64);
     let window_counts_size = entries(4, short, kmers, 4096);

@@ -9,6 +9,8 @@ use lib.Seq.{get_or-set_same, set-get_or}
 use lib.Dec.{eqb}
 use lib.Bits.{bit_and, and_mask}
 use lib.Ieee.{Float, nan}
+use Rattle.std.specs.Prelude.{Some}
+use Rattle.std.proofs.lemmas.Option.{none-some, same_Some}
 use Rattle.floats.specs.Arithmetic.{◌⊕◌, ◌⊖◌}
 use Rattle.floats.specs.Binary64.{zero64}
 use Rattle.letters.specs.Place.{Place, ambiguous, plain, BelowAt, Below}
@@ -18,7 +20,7 @@ use Rattle.scans.specs.declared.backward.BackwardState.{BackwardState}
 use Rattle.scans.specs.Setup.{Setup}
 use Rattle.scans.specs.Counts.{count, raise, lower}
 use Rattle.scans.specs.Scans.{window_value, value}
-use Rattle.scans.specs.Terms.Window.{counted_value}
+use Rattle.scans.specs.Terms.Window.{counted_value, raised_count, CountsEntry}
 use Rattle.scans.specs.Terms.Parts.{with_sums, AddsEntry}
 
 pub even : (e : ℕ) → bit_and e 1 ≡ 0 → e % 2 ≡ 0
@@ -55,6 +57,22 @@ raised_plain ln counts x h = ap (λ (c : ℕ). get_or ln c nan) (get_or-set_same
 pub raised_value : (S : Setup) (counts : List ℕ) (e : Place) → BelowAt (length counts) e → counted_value S.ln (raise counts e) e ≡ value S counts e
 raised_value S counts ambiguous h = refl
 raised_value S counts (plain x) h = raised_plain S.ln counts x h
+
+-- An entry whose raised count is c.
+module _ (ln : List Float) (counts : List ℕ) (e c : ℕ) (r : raised_count counts (decode e) ≡ Some c) where
+  pub entry_plain : decode e ≡ plain (e / 2)
+  unfolding decode
+  entry_plain = go (eqb (e % 2) 0) r
+    where
+      go : (b : Bool) → raised_count counts (cond b (plain (e / 2)) ambiguous) ≡ Some c → cond b (plain (e / 2)) ambiguous ≡ plain (e / 2)
+      go true h = refl
+      go false h = absurd (none-some c h)
+
+  pub count_raised : c ≡ get_or counts (e / 2) 0 + 1
+  count_raised = sym (same_Some (get_or counts (e / 2) 0 + 1) c (rw entry_plain at r))
+
+  pub counts_entry : e / 2 < length counts → CountsEntry ln counts (decode e) (get_or ln c nan) (raise counts (decode e))
+  counts_entry h = rw (entry_plain, count_raised) (record { counts_are = refl; value_is = sym (raised_plain ln counts (e / 2) h) })
 
 -- Both values of an entry, by its bits.
 module _ (t : Float) (window_counts : List ℕ) (ln : List Float) (e : ℕ) (a : BackwardState) (counts : List ℕ) where

@@ -1,13 +1,29 @@
 // Window counts and scan counts: an entry is counted, taken out, or read.
 // A function for each: one for all would be told what to add and whether to write, and say less.
 
-ghost use Rattle.std.specs.Prelude.{◌≡◌, ◌+◌, ◌/◌, ◌<◌, List, length, get_or, Float};
+ghost use Rattle.std.specs.Prelude.{◌≡◌, ◌+◌, ◌/◌, ◌%◌, ◌<◌, List, length, get_or, Float};
 ghost use Rattle.letters.specs.Terms.Entry.{decode};
 ghost use Rattle.scans.specs.declared.Params.{Params};
-ghost use Rattle.scans.specs.Counts.{lower};
+ghost use Rattle.scans.specs.Counts.{raise, lower};
 ghost use Rattle.scans.specs.Scans.{value};
 ghost use Rattle.scans.specs.Terms.Numbers.{setup_of};
-ghost use Rattle.scans.specs.Terms.Window.{counted_value, CountsEntry};
+ghost use Rattle.scans.specs.Terms.Window.{counted_value, raised_count, CountsEntry};
+
+// Counts an entry, and answers the raised count of its k-mer, none if it is ambiguous.
+#[tactic(auto, using(crate::proofs::Values::of_entry))]
+pub fn raise_entry(counts: &mut [u16], entry: u32) -> Option<u16>
+    requires { (entry / 2 < length counts.old) × (entry % 2 ≡ 0 → get_or counts.old (entry / 2) 0 < 65535) }
+    ensures counts_after { counts.new ≡ raise counts.old (decode entry) }
+    ensures raised { result ≡ raised_count counts.old (decode entry) }
+{
+    if entry & 1 != 0 {
+        return None;
+    }
+    let kmer = (entry >> 1) as usize;
+    let c = counts[kmer] + 1;
+    counts[kmer] = c;
+    Some(c)
+}
 
 // Counts an entry, and answers the ln entry of its raised count, 0 if ambiguous.
 pub fn count_entry(counts: &mut [u16], ln: &[f64], entry: u32) -> f64
@@ -15,13 +31,10 @@ pub fn count_entry(counts: &mut [u16], ln: &[f64], entry: u32) -> f64
         × (get_or counts.old (entry / 2) 0 + 1 < length ln.now) }
     ensures { CountsEntry ln.now counts.old (decode entry) result counts.new }
 {
-    if entry & 1 != 0 {
-        return 0.0;
+    match raise_entry(counts, entry) {
+        Some(c) => ln[c as usize],
+        None => 0.0,
     }
-    let kmer = (entry >> 1) as usize;
-    let c = counts[kmer] + 1;
-    counts[kmer] = c;
-    ln[c as usize]
 }
 
 // The ln entry of the count that an entry would have once it is counted, 0 if ambiguous.

@@ -23,7 +23,7 @@ mod queue;
 mod run;
 
 pub use backward::{BackwardState, backward_on};
-pub use counts::{count_entry, lower_entry, raised_value, window_value};
+pub use counts::{count_entry, lower_entry, raise_entry, raised_value, window_value};
 pub use forward::{ForwardState, SLACK, dust_forward};
 pub use letter::{extend, if_backward};
 pub use limits::{drop_limit, is_usual, max_test};

@@ -17,7 +17,6 @@ use Rattle.letters.specs.Code.{codes}
 use Rattle.intervals.specs.declared.Interval.{Interval}
 use Rattle.intervals.specs.Interval.{Canonical, Wrote, covered_in}
 use Rattle.intervals.proofs.Slice.{wrote_list}
-use Rattle.tables.specs.declared.GcOption.TheVariants.{Uniform}
 use Rattle.tables.specs.Density.{uniform, density}
 use Rattle.tables.specs.Tables.{ln_table, f_table}
 use Rattle.tables.proofs.Tables.{ln_table_length, f_table_length}
@@ -38,10 +37,8 @@ same_density : (s : List ℕ) → density 1 short_options.gc s ≡ uniform 1
 unfolding density short_options defaults
 same_density s = refl
 
-pub tables_filled : (s : List ℕ) (ln f ln' f' : List Float) → length ln ≡ 9 → length f ≡ 10 → ln' ≡ put (ln_table 8) ln → f' ≡ put (f_table 1 8 (density 1 Uniform s)) f
-    → Filled ln' f'
-unfolding density
-tables_filled s ln f ln' f' a b p q =
+pub tables_filled : (ln f ln' f' : List Float) → length ln ≡ 9 → length f ≡ 10 → ln' ≡ put (ln_table 8) ln → f' ≡ put (f_table 1 8 (uniform 1)) f → Filled ln' f'
+tables_filled ln f ln' f' a b p q =
     record {
       ln_is = p ∙ put_all (ln_table 8) ln (a ∙ sym (ln_table_length 8));
       f_is = q ∙ put_all (f_table 1 8 (uniform 1)) f (b ∙ sym (f_table_length 1 8 (uniform 1)));

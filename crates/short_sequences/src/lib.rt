@@ -15,7 +15,6 @@ use intervals::{Interval, MarksOut};
 use longdust::{LongdustOptions, Tables};
 use mask::Workspace;
 use scans::ForwardPosition;
-use tables::GcOption;
 
 // The most letters, and room for what their runs need.
 pub const MOST_LETTERS: usize = 8;
@@ -71,22 +70,14 @@ fn write_letters(index: usize, letters: &mut [u8])
 }
 
 // ---- One run.
-#[tactic(auto, unfolding(crate::specs::Tallies::short_options))]
+#[tactic(auto, unfolding(crate::specs::Tallies::short_options, longdust::specs::Options::defaults))]
 fn short_options() -> LongdustOptions
     ensures { result ≡ short_options }
 {
-    let defaults = LongdustOptions::default();
-    let gc = defaults.gc;
-    let xdrop = defaults.xdrop;
     LongdustOptions {
         window_size: 8,
-        score_threshold: defaults.score_threshold,
         kmer: 1,
-        gc,
-        xdrop,
-        min_start_cnt: defaults.min_start_cnt,
-        approx: defaults.approx,
-        forward_only: false,
+        ..LongdustOptions::default()
     }
 }
 
@@ -205,15 +196,6 @@ fn tally_all(sequences: usize, letters: &mut [u8], tables: &Tables, tallies: &mu
     refused
 }
 
-// Fills the tables, which are the same for every sequence.
-fn fill_tables(ln: &mut [f64], f: &mut [f64])
-    requires { (length ln.old ≡ 9) × (length f.old ≡ 10) }
-    ensures { Filled ln.new f.new }
-{
-    let no_letters = [0u8; 1];
-    tables::fill_tables(ln, f, 1, 8, GcOption::Uniform, &no_letters);
-}
-
 // The tallies in a slice of m + 1 entries; answers how many sequences are refused.
 fn tally(m: usize, sequences: usize, tallies: &mut [u32]) -> u32
     requires m_bound { (m ≤ 8) × (sequences ≡ 5 ^ m) }
@@ -224,7 +206,7 @@ fn tally(m: usize, sequences: usize, tallies: &mut [u32]) -> u32
     let mut ln = [0.0f64; LN_ROOM];
     let mut f = [0.0f64; F_ROOM];
     let mut letters = [0u8; MOST_LETTERS];
-    fill_tables(&mut ln, &mut f);
+    tables::fill_uniform(&mut ln, &mut f, 1, 8);
     tallies.fill(0);
     let tables = Tables { ln: &ln, f: &f };
     tally_all(sequences, &mut letters[..m], &tables, tallies)

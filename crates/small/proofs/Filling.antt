@@ -27,7 +27,7 @@ use Rattle.longdust.specs.Mask.{mask}
 use Rattle.longdust.proofs.Agreeing.{mask_agree}
 use Rattle.small.specs.Profile.{not_uniform}
 use Rattle.small.specs.Call.{filled_mask}
-use Rattle.small.specs.Terms.Run.{Asked, FilledTo, Serve}
+use Rattle.small.specs.Terms.Run.{Asked, Serve}
 use Rattle.small.proofs.Profile.{window_some, twice}
 use Rattle.small.proofs.Profile.{kmer_fits, window_fits}
 
@@ -37,10 +37,6 @@ unfolding not_uniform density
 uniform_density k Uniform s e = refl
 uniform_density k (Fixed x) s e = absurd (true≢false e)
 uniform_density k Auto s e = absurd (true≢false e)
-
-pub tables_filled : (k m : ℕ) (no_letters : List ℕ) (ln f ln' f' : List Float) → ln' ≡ put (ln_table m) ln → f' ≡ put (f_table k m (density k Uniform no_letters)) f → FilledTo m k ln f ln' f'
-unfolding density
-tables_filled k m no_letters ln f ln' f' a b = record { ln_is = a; f_is = b }
 
 -- A buffer with the first n values of a table, and the table's first r values, agree on entries 1..m.
 values_agree : (g : ℕ → Float) (m n r : ℕ) (d : List Float) → m < n → m < r → AgreeTo m (put (tabulate g n) d) (tabulate g r)
@@ -78,14 +74,14 @@ module _ {o : LongdustOptions} {s : List ℕ} (a : Asked o s) where
   filled_is = ap (λ (d : Density). mask o s (ln_table w) (f_table k w d)) (sym (uniform_density k o.gc (codes s) a.gc))
 
   -- Tables filled up to m.
-  module _ (m : ℕ) (l : m ≤ w) {ln f ln' f' : List Float} (filled : FilledTo m k ln f ln' f') where
+  module _ (m : ℕ) (l : m ≤ w) (ln f ln' f' : List Float) (ln_is : ln' ≡ put (ln_table m) ln) (f_is : f' ≡ put (f_table k m (uniform k)) f) where
     ln_agree : AgreeTo m ln' (ln_table w)
     unfolding ln_table
-    ln_agree = subst (λ (z : List Float). AgreeTo m z (ln_table w)) (sym filled.ln_is) (values_agree (λ n. ln_of (number n)) m (m + 1) (w + 1) ln (omega arith) (omega arith))
+    ln_agree = subst (λ (z : List Float). AgreeTo m z (ln_table w)) (sym ln_is) (values_agree (λ n. ln_of (number n)) m (m + 1) (w + 1) ln (omega arith) (omega arith))
 
     f_agree : AgreeTo m f' (f_table k w (uniform k))
     unfolding f_table
-    f_agree = subst (λ (z : List Float). AgreeTo m z (f_table k w (uniform k))) (sym filled.f_is) (values_agree (f_of k (uniform k)) m (m + 2) (w + 2) f (omega arith) (omega arith))
+    f_agree = subst (λ (z : List Float). AgreeTo m z (f_table k w (uniform k))) (sym f_is) (values_agree (f_of k (uniform k)) m (m + 2) (w + 2) f (omega arith) (omega arith))
 
     -- The tables that the run reads.
     ln_read_lem : AgreeTo m (take (w + 1) ln') (ln_table w)
@@ -105,9 +101,9 @@ module _ {o : LongdustOptions} {s : List ℕ} (a : Asked o s) where
         serve (omega arith) (test_decided t m w l ln_read_lem f_read_lem (λ e. h (same ∙ e)))
 
   -- Tables filled up to w.
-  pub whole_serves : {ln f ln' f' : List Float} → FilledTo w k ln f ln' f' → Serve o s ln' f'
-  whole_serves filled =
-      serve w (omega arith) filled (omega arith) (max_test_agree w t (ln_read_lem w (omega arith) filled) (f_read_lem w (omega arith) filled))
+  pub whole_serves : (ln f ln' f' : List Float) → ln' ≡ put (ln_table w) ln → f' ≡ put (f_table k w (uniform k)) f → Serve o s ln' f'
+  whole_serves ln f ln' f' p q =
+      serve w (omega arith) ln f ln' f' p q (omega arith) (max_test_agree w t (ln_read_lem w (omega arith) ln f ln' f' p q) (f_read_lem w (omega arith) ln f ln' f' p q))
 
 -- The laws by which `fill_read` is proved.
 pub ruleset filled = (kmer_fits, window_fits, decided_serves, whole_serves)

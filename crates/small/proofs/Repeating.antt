@@ -1,11 +1,12 @@
 -- The search for a k-mer that stands at min_start_cnt places or more; a sequence without one has no mask, whatever the tables are.
-use Prim.Native.Nat.{ℕ, suc, ◌+◌, ◌^◌, ◌/◌, ◌≤◌, ◌<◌}
-use mathlib.Core.Path.{◌≡◌, refl, sym, ap, ◌∙◌, subst}
+use Prim.Native.Nat.{ℕ, suc, ◌+◌, ◌^◌, ◌/◌, ◌%◌, ◌≤◌, ◌<◌}
+use mathlib.Core.Path.{◌≡◌, refl, ap, ◌∙◌, subst}
 use mathlib.Core.Bool.{Bool, true, false}
 use mathlib.Core.List.{List, [], ◌∷◌, ◌++◌}
+use Rattle.std.specs.Prelude.{Option, IfSome}
 use native.Mathlib.Omega.{arith}
 use lib.ListN.{length, get_or, take, drop, replicate, length-take}
-use lib.Seq.{take_all, take_at, take-suc, get_or-set_same}
+use lib.Seq.{take_all, take_at, take-suc}
 use lib.Dec.{eqb}
 use borrow.Author.Tests.{eqb-true, eqb-false}
 use Rattle.buffers.specs.Fill.{put}
@@ -19,7 +20,8 @@ use Rattle.letters.proofs.Places.{places_length, places_at, place_below}
 use Rattle.letters.proofs.Rolling.{kmer_none, kmer_next, value_small, entry_below, entry_place}
 use Rattle.scans.specs.Setup.{Setup}
 use Rattle.scans.specs.Counts.{count, raise}
-use Rattle.scans.proofs.Counting.{hit_other, count_le, count_snoc, Counted, raise_counted, cleared_counted}
+use Rattle.scans.specs.Terms.Window.{raised_count}
+use Rattle.scans.proofs.Counting.{hit_self, hit_other, count_le, count_snoc, raise_counted, cleared_counted}
 use Rattle.step.specs.Step.{intervals_of}
 use Rattle.step.proofs.Quiet.{quiet_intervals}
 use Rattle.intervals.specs.declared.Interval.{Interval}
@@ -30,15 +32,11 @@ use Rattle.mask.specs.Mask.{mask_of}
 use Rattle.small.specs.Bytes.{bytes_of}
 use Rattle.small.specs.Call.{filled_mask}
 use Rattle.small.specs.Terms.Run.{Asked}
-use Rattle.small.specs.Terms.Quiet.{Few, count_of, Raises, Counting}
+use Rattle.small.specs.Terms.Quiet.{Few, Counting}
 use Rattle.small.proofs.Profile.{window_some}
-use Rattle.scans.proofs.Values.{even_plain, odd_ambiguous}
 use Rattle.small.proofs.Profile.{kmer_fits, kmers_fit, letters_fit, twice}
 
 -- ---- The counts of the places.
-pub raised : (counts : List ℕ) (x : ℕ) → x < length counts → get_or counts x 0 + 1 ≡ count_of (raise counts (plain x)) (plain x)
-raised counts x h = sym (get_or-set_same counts x (get_or counts x 0 + 1) 0 h)
-
 below_more : {m n : ℕ} (e : Place) → m ≤ n → BelowAt m e → BelowAt n e
 below_more ambiguous h b = tt
 below_more (plain x) h b = omega arith
@@ -73,25 +71,21 @@ module _ (k least : ℕ) (s : List ℕ) where
           ∙ ap (λ (e : Place). take i ps ++ e ∷ []) (places_at k s i h)
 
       module _ (few_kmers : 4 ^ k ≤ 4096) (e : ℕ) (entry_is : e ≡ entry_of k q') where
-        pub next_counted : length s ≤ 4096 → (e / 2 < length counts) × (get_or counts (e / 2) 0 < 65535)
+        pub next_counted : length s ≤ 4096 → (e / 2 < length counts) × (e % 2 ≡ 0 → get_or counts (e / 2) 0 < 65535)
         next_counted l =
-            (rw entry_is (omega (arith, entry_below k s (i + 1) q' next_kmer, c.counted.long)), omega (arith, count_small (e / 2)))
+            (rw entry_is (omega (arith, entry_below k s (i + 1) q' next_kmer, c.counted.long)), λ p. omega (arith, count_small (e / 2)))
 
         place : decode e ≡ place_at k s i
         place = ap decode entry_is ∙ entry_place k s i q' next_kmer
 
-        module _ (n : ℕ) (counts' : List ℕ) (R : Raises counts (decode e) n counts') (l : n < least) where
-          counted_on : Counted 4096 counts' (take i ps ++ place_at k s i ∷ [])
-          counted_on =
-              subst (λ (l : List ℕ). Counted 4096 l (take i ps ++ place_at k s i ∷ [])) (sym (R.counts_are ∙ ap (λ (e : Place). raise counts e) place))
-              (raise_counted 4096 counts (take i ps) (place_at k s i) (below_more (place_at k s i) few_kmers (place_below k s i)) c.counted)
-
-          few_at : (e : Place) → n ≡ count_of counts' e → Counted 4096 counts' (take i ps ++ e ∷ []) → (x : ℕ) → count x (take i ps ++ e ∷ []) < least
-          few_at ambiguous p d x = omega (arith, count_snoc x (take i ps) ambiguous, c.few.at x)
-          few_at (plain y) p d x = go (eqb x y) refl
+        module _ (counts' : List ℕ) (counts_are : counts' ≡ raise counts (decode e)) (given : Option ℕ) (raised : given ≡ raised_count counts (decode e))
+            (l : IfSome given (λ n. n < least)) where
+          few_at : (e : Place) → IfSome (raised_count counts e) (λ n. n < least) → (x : ℕ) → count x (take i ps ++ e ∷ []) < least
+          few_at ambiguous p x = omega (arith, count_snoc x (take i ps) ambiguous, c.few.at x)
+          few_at (plain y) p x = go (eqb x y) refl
             where
               go : (b : Bool) → eqb x y ≡ b → count x (take i ps ++ plain y ∷ []) < least
-              go true e = subst (λ (z : ℕ). count z (take i ps ++ plain y ∷ []) < least) (sym (eqb-true x y e)) (omega (arith, d.counted y))
+              go true e = rw (eqb-true x y e) (omega (arith, p, c.counted.counted y, count_snoc y (take i ps) (plain y), hit_self y))
               go false e = omega (arith, count_snoc x (take i ps) (plain y), hit_other x y (eqb-false x y e), c.few.at x)
 
           pub counting_turn : Counting k least s (i + 1) q' counts'
@@ -99,9 +93,9 @@ module _ (k least : ℕ) (s : List ℕ) where
               record {
                 inside = omega arith;
                 kmer_is = next_kmer;
-                counted = subst (λ (l : List Place). Counted 4096 counts' l) (sym one_more) counted_on;
-                few = subst (λ (l : List Place). Few least l) (sym one_more)
-                    (record { at = few_at (place_at k s i) (R.count_is ∙ ap (λ (e : Place). count_of counts' e) place) counted_on });
+                counted = rw (one_more, counts_are, place)
+                    (raise_counted 4096 counts (take i ps) (place_at k s i) (below_more (place_at k s i) few_kmers (place_below k s i)) c.counted);
+                few = rw one_more (record { at = few_at (place_at k s i) (subst (λ (z : Option ℕ). IfSome z (λ n. n < least)) (raised ∙ ap (λ (e : Place). raised_count counts e) place) l) });
               }
 
 -- ---- No mask.
@@ -149,9 +143,6 @@ module _ {o : LongdustOptions} {s : List ℕ} (a : Asked o s) where
 pub none_written : (is : List Interval) (d : List ℕ) → is ≡ [] → (0 ≡ length is) × (d ≡ put (bytes_of is) d)
 unfolding bytes_of
 none_written is d e = rw e (refl, refl)
-
--- The laws by which `raise_count` is proved.
-pub ruleset raising = (even_plain, odd_ambiguous, raised)
 
 -- The laws by which `is_quiet` is proved.
 pub ruleset quiet = (kmer_fits, kmers_fit, letters_fit, twice, forward_few, reverse_few, quiet_mask)

@@ -9,7 +9,7 @@ ghost use Rattle.small.specs.Profile.{not_uniform, outside, refusal};
 ghost use Rattle.small.specs.Bytes.{bytes_of, pair_bytes};
 ghost use Rattle.checks.specs.Refusal.{number_of};
 ghost use Rattle.small.specs.Call.{filled_mask};
-ghost use Rattle.small.specs.Terms.Run.{Asked, FilledTo, Serve, Ran};
+ghost use Rattle.small.specs.Terms.Run.{Asked, Serve, Ran};
 
 mod quiet;
 
@@ -102,16 +102,6 @@ fn write_list(list: &[Interval], out: &mut [u8])
 }
 
 // ---- The run.
-// Fills the tables up to m, for uniform GC.
-fn fill_up_to(m: usize, k: usize, ln: &mut [f64], f: &mut [f64])
-    requires m_bound { (m ≤ 4096) × (k ≤ 12) }
-    requires ln_len { (length ln.old ≡ 4097) × (length f.old ≡ 4098) }
-    ensures { FilledTo m k ln.old f.old ln.new f.new }
-{
-    let no_letters = [0u8; 1];
-    tables::fill_tables(ln, f, k, m, GcOption::Uniform, &no_letters);
-}
-
 // Fills the tables as far as a run over the letters reads them: up to n or w, or up to w where n entries do not decide max_test.
 #[tactic(auto, using(crate::proofs::Filling::filled))]
 fn fill_read(letters: &[u8], options: LongdustOptions, ln: &mut [f64], f: &mut [f64])
@@ -123,14 +113,14 @@ fn fill_read(letters: &[u8], options: LongdustOptions, ln: &mut [f64], f: &mut [
     let k = options.kmer;
     let w = options.window_size;
     if w <= n {
-        fill_up_to(w, k, ln, f);
+        tables::fill_uniform(ln, f, k, w);
         return;
     }
-    fill_up_to(n, k, ln, f);
+    tables::fill_uniform(ln, f, k, n);
     if scans::max_test(ln, f, n as u32, options.score_threshold) != 0 {
         return;
     }
-    fill_up_to(w, k, ln, f);
+    tables::fill_uniform(ln, f, k, w);
 }
 
 // Masks the letters in work buffers of its own; the intervals go to the front of the list. Answers how many there are.

@@ -1,29 +1,13 @@
 // Sequences that are searched from nowhere: no k-mer stands at min_start_cnt places of a strand, and so there is no mask.
 
-ghost use Rattle.std.specs.Prelude.{◌≡◌, true, false, [], ◌/◌, ◌^◌, ◌≤◌, ◌<◌, length, get_or};
+ghost use Rattle.std.specs.Prelude.{◌≡◌, true, false, [], ◌^◌, ◌≤◌, ◌<◌, length};
 ghost use Rattle.letters.specs.Place.{places};
-ghost use Rattle.letters.specs.Terms.Entry.{decode};
 ghost use Rattle.small.specs.Call.{filled_mask};
 ghost use Rattle.small.specs.Terms.Run.{Asked};
-ghost use Rattle.small.specs.Terms.Quiet.{Raises, Few};
+ghost use Rattle.small.specs.Terms.Quiet.{Few};
 
 use crate::MOST_LETTERS;
 use longdust::LongdustOptions;
-
-// Counts the place of a queue entry, and answers the count of its k-mer, 0 if it is ambiguous.
-#[tactic(auto, using(crate::proofs::Repeating::raising))]
-fn raise_count(counts: &mut [u16], entry: u32) -> u16
-    requires { (entry / 2 < length counts.old) × (get_or counts.old (entry / 2) 0 < 65535) }
-    ensures { Raises counts.old (decode entry) result counts.new }
-{
-    if entry & 1 != 0 {
-        return 0;
-    }
-    let kmer = (entry >> 1) as usize;
-    let c = counts[kmer] + 1;
-    counts[kmer] = c;
-    c
-}
 
 // Whether a k-mer stands at `least` places of a strand.
 fn repeats(codes: &[u8], k: usize, least: u16) -> bool
@@ -34,7 +18,8 @@ fn repeats(codes: &[u8], k: usize, least: u16) -> bool
     let mut newest = letters::Kmer::new();
     for code in codes {
         newest = newest.next(*code, k);
-        if least <= raise_count(&mut counts, newest.entry(k)) {
+        let raised = scans::raise_entry(&mut counts, newest.entry(k));
+        if raised.is_some_and(|count| least <= count) {
             return true;
         }
     }

@@ -9,6 +9,7 @@ use native.Mathlib.Omega.{arith}
 use lib.ListN.{length, get_or, set, take, drop, length-set, take-append-drop, get_or-append}
 use lib.Seq.{get_or_at, take-take, take-append_seam}
 use lib.IntN.{ℤ}
+use Rattle.std.specs.Prelude.{Some}
 use lib.Ieee.{Float, nan}
 use borrow.Author.Tests.{le-leb, lt-leb}
 use Rattle.floats.specs.Arithmetic.{◌⊕◌, ◌⊖◌}
@@ -19,10 +20,10 @@ use Rattle.search.specs.declared.Carry.{Carry}
 use Rattle.scans.specs.Setup.{Setup}
 use Rattle.scans.specs.Terms.Numbers.{setup_of}
 use Rattle.scans.specs.Counts.{count, raise, lower}
-use Rattle.scans.specs.Terms.Window.{queue, ring_index, window, counted_value, Windowed}
+use Rattle.scans.specs.Terms.Window.{queue, ring_index, window, raised_count, Windowed}
 use Rattle.scans.proofs.Counting.{Counted, hit_self, count_le, raise_counted, lower_counted}
 use Rattle.scans.proofs.Rings.{ring_index_at, queue_length, queue_join, queue_leave, window_join, window_leave, window_length}
-use Rattle.scans.proofs.Values.{decode_below, decoded_below, even_plain, odd_ambiguous}
+use Rattle.scans.proofs.Values.{decode_below, decoded_below, even_plain, odd_ambiguous, entry_plain, counts_entry}
 use Rattle.scans.proofs.Windows.{long}
 use Rattle.step.specs.Step.{sum_without, sum_with, last_q_without, without_oldest, leave, join}
 use Rattle.step.specs.declared.window.Window.{Window}
@@ -40,9 +41,10 @@ module _ (S : Setup) (counts : List ℕ) (q : List Place) (c : (x : ℕ) → get
   more_is ambiguous = refl
   more_is (plain x) = ap (λ (n : ℕ). sum ⊕ get_or S.ln n nan) (c x)
 
-pub more_plain : (ln : List Float) (counts : List ℕ) (sum : Float) {v : Float} {e : Place} {x : ℕ} → e ≡ plain x → v ≡ counted_value ln counts e
-    → sum ⊕ v ≡ sum_more ln counts sum e
-more_plain ln counts sum h v_is = rw (v_is, h)
+-- An entry whose raised count is c joins.
+pub more_plain : (ln : List Float) (counts : List ℕ) (sum : Float) (e c : ℕ) → raised_count counts (decode e) ≡ Some c → e / 2 < length counts
+    → sum ⊕ get_or ln c nan ≡ sum_more ln (raise counts (decode e)) sum (decode e)
+more_plain ln counts sum e c r h = rw ((counts_entry ln counts e c r h).value_is, entry_plain ln counts e c r)
 
 -- ---- The places of a queue.
 queue_less : (ring : List ℕ) (head n len : ℕ) → n ≤ len → queue ring head n ≡ take n (queue ring head len)
@@ -252,4 +254,4 @@ module _ {p : Params} {ln : List Float} {a : Window} {ring counts counts' : List
       }
 
 -- The laws by which `sum_without`, `sum_with`, `is_searched` are proved.
-pub ruleset by_lowest_bit = (even_plain, odd_ambiguous, more_plain)
+pub ruleset by_lowest_bit = (even_plain, odd_ambiguous)

@@ -15,7 +15,7 @@ ghost use Rattle.step.specs.Terms.Finding.{saved_in, Saving, TakesFind, PassedOn
 use crate::hand::Open;
 use crate::window::{Window, is_at};
 use intervals::Interval;
-use scans::{Ring, Setup};
+use scans::Setup;
 
 // What moves on letter by letter: the next letter i, the k-mer of the letters read, the window, and the interval in hand.
 // At letter i itself, once that has entered the window, the k-mer is that of letter i.
@@ -209,11 +209,7 @@ impl State {
         if self.extends(setup, kmer, scan_counts) {
             return Look::Extension;
         }
-        let ring = Ring {
-            queue: queue,
-            head: self.window.head,
-            len: self.window.len,
-        };
+        let ring = self.window.ring(queue);
         if scans::if_backward(setup, &ring, window_counts) {
             return Look::Scan;
         }

@@ -14,7 +14,8 @@ ghost use Rattle.step.specs.Terms.Finding.{last_q_by};
 
 use scans::{Ring, Setup};
 
-// The window's float sum, last_q, and where its entries stand in the ring: `len` of them, the oldest at `head`.
+// The window's float sum, last_q, and where its entries stand in the queue: `len` of them, the oldest at `head`.
+// The queue is not in it: the run's state goes in and out by value, and each letter writes to the queue, which is lent. `ring` puts both together to read.
 // Unless `live`, all scan counts are 0; `carry` is the forward scan from last_q on.
 // No Option: the specification computes with last_q, -1 too, and `live` says something of the counts, not whether there is a value.
 #[derive(Clone, Copy)]
@@ -28,6 +29,7 @@ pub struct Window {
 }
 
 // The sum without an entry that leaves: if plain, the ln entry of its count leaves the sum, and the count falls.
+// Not by `scans::lower_entry`, which tests for a count of 0 and does not tell the count that it lowers.
 #[tactic(auto, using(crate::proofs::Moving::by_lowest_bit))]
 fn sum_without(sum: f64, entry: u32, ln: &[f64], counts: &mut [u16]) -> f64
     requires { (entry / 2 < length counts.old) × (get_or counts.old (entry / 2) 0 < length ln.now)
@@ -52,11 +54,10 @@ fn sum_with(sum: f64, entry: u32, ln: &[f64], counts: &mut [u16]) -> f64
     ensures { (result ≡ sum_more ln.now counts.new sum (decode entry))
         × (counts.new ≡ raise counts.old (decode entry)) }
 {
-    let value = scans::count_entry(counts, ln, entry);
-    if entry & 1 != 0 {
-        return sum;
+    match scans::raise_entry(counts, entry) {
+        Some(c) => sum + ln[c as usize],
+        None => sum,
     }
-    sum + value
 }
 
 // last_q without the oldest entry.
@@ -75,6 +76,18 @@ pub fn is_at(z: i64, i: usize) -> bool
 }
 
 impl Window {
+    // The window in its queue.
+    pub fn ring<'a>(self, queue: &'a [u32]) -> Ring<'a>
+        requires { (self.head < length queue.now) × (self.len ≤ length queue.now) × (length queue.now ≤ 65535) }
+        ensures { (result.queue.now ≡ queue.now) × (result.head ≡ self.head) × (result.len ≡ self.len) }
+    {
+        Ring {
+            queue,
+            head: self.head,
+            len: self.len,
+        }
+    }
+
     // last_q as an index; 0 where there is none.
     pub fn last_q_index(self) -> usize
         ensures { result ≡ whole self.last_q }
@@ -167,11 +180,7 @@ impl Window {
     {
         if self.carry.on {
             let from = self.last_q_index();
-            let ring = Ring {
-                queue: queue,
-                head: self.head,
-                len: self.len,
-            };
+            let ring = self.ring(queue);
             self.carry = self
                 .carry
                 .next(setup, from, &ring, window_counts, scan_counts);
@@ -204,13 +213,8 @@ impl Window {
         ensures { scan_counts.new ≡ replicate (length scan_counts.old) 0 }
     {
         if self.live {
-            let from = self.last_q_index();
-            let ring = Ring {
-                queue: queue,
-                head: self.head,
-                len: self.len,
-            };
-            ring.clear_from(from, scan_counts);
+            self.ring(queue)
+                .clear_from(self.last_q_index(), scan_counts);
         }
     }
 

@@ -92,11 +92,7 @@ fn certain(
     if !w.carry.on {
         return None;
     }
-    let ring = Ring {
-        queue: queue,
-        head: w.head,
-        len: w.len,
-    };
+    let ring = w.ring(queue);
     let from = w.last_q_index();
     certificates::find_certain(setup, w.carry, from, &ring, window_counts, scan_counts)
 }
@@ -122,11 +118,7 @@ pub fn foretell(
         return Some(r);
     }
     w.clear(queue, scan_counts);
-    let ring = Ring {
-        queue: queue,
-        head: w.head,
-        len: w.len,
-    };
+    let ring = w.ring(queue);
     let told = tells(setup, low, st.i, &ring, window_counts, scan_counts);
     if told {
         return Some(search::nothing());

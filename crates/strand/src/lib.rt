@@ -21,7 +21,7 @@ ghost use Rattle.strand.specs.Terms.Running.{PartLent, StrandLent, Before, Reach
 use crate::known::{LowSince, foretell, renewed};
 use crate::skim::skim;
 use intervals::Interval;
-use scans::{Ring, Setup};
+use scans::Setup;
 use step::{Look, State};
 
 // Where a run stands: its state, and the low starts that are known.
@@ -118,11 +118,7 @@ pub fn inner_process(
             return st.hand.close(list);
         }
         let w = st.window;
-        let ring = Ring {
-            queue: queue,
-            head: w.head,
-            len: w.len,
-        };
+        let ring = w.ring(queue);
         let r = search::dust_backward(
             setup,
             w.carry,

@@ -12,9 +12,10 @@ ghost use Rattle.strongest.specs.Call.{asked_of, Found};
 ghost use Rattle.strongest.specs.Checks.{refusal};
 ghost use Rattle.strongest.specs.Terms.Reading.{Narrow, ReadsPlaces};
 
+use crate::places::Places;
 use crate::refusals::{check, largest};
 pub use crate::scores::Scoring;
-use crate::scores::{Reading, difference, gap_of, search_back};
+use crate::scores::{Reading, difference, gap_of};
 use checks::Refusal;
 use letters::{encode_sequence, n_kmers};
 
@@ -57,13 +58,12 @@ fn read_places(
     let m = (steps + kmer - 1).min(end);
     encode_sequence(&request.sequence[end - m..end], codes);
     let size = n_kmers(kmer);
-    search_back(
-        &codes[..m],
+    let places = Places {
+        letters: &codes[..m],
         kmer,
         steps,
-        &request.scoring,
-        &mut scan_counts[..size],
-    )
+    };
+    places.search_back(&request.scoring, &mut scan_counts[..size])
 }
 
 /// Of the stretches up to `place`, at most `budget` of them, the best one, and by how much those unread can be better.

@@ -1,12 +1,64 @@
 // The places of a strand, read backward from its last letter, and their scan counts.
 
-ghost use Rattle.std.specs.Prelude.{◌≡◌, ◌+◌, ◌-◌, ◌/◌, ◌%◌, ◌^◌, ◌≤◌, ◌<◌, length, get_or};
+ghost use Rattle.std.specs.Prelude.{◌≡◌, ◌+◌, ◌-◌, ◌/◌, ◌^◌, ◌≤◌, ◌<◌, length};
 ghost use Rattle.letters.specs.Place.{place_at};
 ghost use Rattle.letters.specs.Terms.Entry.{decode};
-ghost use Rattle.scans.specs.Counts.{raise};
-ghost use Rattle.strongest.specs.Terms.Reading.{back, Known, raised_entry, cleared_at, Adds};
+ghost use Rattle.strongest.specs.Terms.Reading.{cleared_at};
 
 use letters::Kmer;
+use scans::raise_entry;
+
+// The last `steps` places of a strand, read backward from its last letter.
+#[derive(Clone, Copy)]
+pub struct Places<'a> {
+    pub letters: &'a [u8],
+    pub kmer: usize,
+    pub steps: usize,
+    ghost kmer_nonzero: { 0 < kmer },
+    ghost kmer_small: { kmer ≤ 12 },
+    ghost steps_inside: { steps ≤ length letters.now },
+    ghost steps_small: { steps ≤ 65535 },
+}
+
+impl<'a> Places<'a> {
+    ghost use Rattle.strongest.specs.Terms.Reading.{back};
+    ghost use Rattle.strongest.specs.Terms.Places.{Known, Adds};
+
+    // Place i, counted back from the last letter, as a queue entry.
+    #[tactic(auto, using(crate::proofs::Backward::slices))]
+    fn entry_back(&self, i: usize) -> u32
+        requires { i < self.now.steps }
+        ensures { (decode result ≡ back self.now.kmer self.now.letters.now i) × (result / 2 < 4 ^ self.now.kmer) }
+    {
+        let end = self.letters.len() - i;
+        let from = end - self.kmer.min(end);
+        last_entry(&self.letters[from..end], self.kmer)
+    }
+
+    // Sets the counts of the places to 0, and no other.
+    #[tactic(auto, using(crate::proofs::Counting::clearing))]
+    pub fn clear_counts(&self, counts: &mut [u16])
+        requires { length counts.old ≡ 4 ^ self.now.kmer }
+        ensures { Known self.now 0 counts.new }
+    {
+        for i in 0..self.steps {
+            clear_entry(counts, self.entry_back(i));
+        }
+    }
+
+    // Counts place i, those before it being counted, and answers the ln entry of its raised count, 0 if ambiguous.
+    #[tactic(auto, using(crate::proofs::Counting::counting))]
+    pub fn count_back(&self, i: usize, ln: &[u64], counts: &mut [u16]) -> u64
+        requires i_lt_steps { (i < self.now.steps) × (self.now.steps < length ln.now) }
+        requires known { Known self.now i counts.old }
+        ensures { Adds self.now i ln.now counts.new result }
+    {
+        match raise_entry(counts, self.entry_back(i)) {
+            Some(c) => ln[c as usize],
+            None => 0,
+        }
+    }
+}
 
 // The place of the last letter, as a queue entry.
 #[tactic(auto, using(crate::proofs::Backward::rolling))]
@@ -21,17 +73,6 @@ fn last_entry(letters: &[u8], kmer: usize) -> u32
     state.entry(kmer)
 }
 
-// Place i, counted back from the last letter, as a queue entry.
-#[tactic(auto, using(crate::proofs::Backward::slices))]
-fn entry_back(letters: &[u8], kmer: usize, i: usize) -> u32
-    requires { (0 < kmer) × (kmer ≤ 12) × (i < length letters.now) }
-    ensures { (decode result ≡ back kmer letters.now i) × (result / 2 < 4 ^ kmer) }
-{
-    let end = letters.len() - i;
-    let from = end - kmer.min(end);
-    last_entry(&letters[from..end], kmer)
-}
-
 // Sets the count of an entry's k-mer to 0.
 #[tactic(auto, using(crate::proofs::Counting::entries))]
 fn clear_entry(counts: &mut [u16], entry: u32)
@@ -42,50 +83,4 @@ fn clear_entry(counts: &mut [u16], entry: u32)
         return;
     }
     counts[(entry >> 1) as usize] = 0;
-}
-
-// Sets the counts of the last `steps` places to 0, and no other.
-#[tactic(auto, using(crate::proofs::Counting::clearing))]
-pub fn clear_counts(letters: &[u8], kmer: usize, steps: usize, counts: &mut [u16])
-    requires { (0 < kmer) × (kmer ≤ 12) × (steps ≤ length letters.now) × (length counts.old ≡ 4 ^ kmer) }
-    ensures { Known kmer letters.now steps 0 counts.new }
-{
-    for i in 0..steps {
-        clear_entry(counts, entry_back(letters, kmer, i));
-    }
-}
-
-// Counts an entry, and answers the ln entry of its raised count, 0 if ambiguous.
-// `scans::count_entry` over whole numbers: one for both would be handed the 0, and be specified over a type that the definitions of the scans do not have.
-#[tactic(auto, using(crate::proofs::Counting::entries))]
-fn count_entry(counts: &mut [u16], ln: &[u64], entry: u32) -> u64
-    requires { (entry / 2 < length counts.old)
-        × (entry % 2 ≡ 0 → (get_or counts.old (entry / 2) 0 < 65535) × (get_or counts.old (entry / 2) 0 + 1 < length ln.now)) }
-    ensures { (counts.new ≡ raise counts.old (decode entry))
-        × (result ≡ raised_entry ln.now counts.old (decode entry)) }
-{
-    if entry & 1 != 0 {
-        return 0;
-    }
-    let kmer = (entry >> 1) as usize;
-    let c = counts[kmer] + 1;
-    counts[kmer] = c;
-    ln[c as usize]
-}
-
-// Counts place i, of which those before it, counted back from the last letter, are counted.
-#[tactic(auto, using(crate::proofs::Counting::counting))]
-pub fn count_back(
-    letters: &[u8],
-    kmer: usize,
-    steps: usize,
-    i: usize,
-    ln: &[u64],
-    counts: &mut [u16],
-) -> u64
-    requires kmer_nonzero { (0 < kmer) × (kmer ≤ 12) × (i < steps) × (steps ≤ length letters.now) × (steps ≤ 65535) × (steps < length ln.now) }
-    requires known { Known kmer letters.now steps i counts.old }
-    ensures { Adds kmer letters.now steps i ln.now counts.new result }
-{
-    count_entry(counts, ln, entry_back(letters, kmer, i))
 }

@@ -1,9 +1,10 @@
 // The stretches read, each judged against the best so far, in whole numbers that stay below 2^54.
 
 ghost use Rattle.std.specs.Prelude.{◌≡◌, ◌+◌, ◌-◌, ◌*◌, ◌^◌, ◌≤◌, ◌<◌, pos, ◌-ℤ◌, length};
-ghost use Rattle.strongest.specs.Terms.Reading.{Narrow, nothing, judged, gap_of, Known, Reads};
+ghost use Rattle.strongest.specs.Terms.Reading.{Narrow, nothing, judged, gap_of, Reads};
+ghost use Rattle.strongest.specs.Terms.Places.{Known};
 
-use crate::places::{clear_counts, count_back};
+use crate::places::Places;
 
 // A stretch: its number of places, the ln entries that it gains, and what it loses, T for each place and its f.
 #[derive(Clone, Copy)]
@@ -61,44 +62,33 @@ impl Reading {
     }
 }
 
-// Reads the last `steps` places backward from the last letter; the counts of their k-mers are 0.
-#[tactic(auto, using(crate::proofs::Reading::reads))]
-pub fn read_back(
-    letters: &[u8],
-    kmer: usize,
-    steps: usize,
-    scoring: &Scoring,
-    counts: &mut [u16],
-) -> Reading
-    requires kmer_nonzero { (0 < kmer) × (kmer ≤ 12) × (steps ≤ length letters.now) × (steps ≤ 65535) }
-    requires narrow { Narrow scoring.now.threshold scoring.now.ln.now scoring.now.f.now steps }
-    requires known { Known kmer letters.now steps 0 counts.old }
-    ensures { Reads kmer scoring.now.threshold scoring.now.ln.now scoring.now.f.now letters.now steps result }
-{
-    let mut reading = Reading::new();
-    for l in 0..steps {
-        let value = count_back(letters, kmer, steps, l, scoring.ln, counts);
-        let size = l + 1;
-        let loss = (size as u64) * scoring.threshold + scoring.f[size];
-        reading = reading.judged(size, value, loss);
+impl<'a> Places<'a> {
+    // Reads the places backward from the last letter; the counts of their k-mers are 0.
+    #[tactic(auto, using(crate::proofs::Reading::reads))]
+    fn read_back(&self, scoring: &Scoring, counts: &mut [u16]) -> Reading
+        requires narrow { Narrow scoring.now.threshold scoring.now.ln.now scoring.now.f.now self.now.steps }
+        requires known { Known self.now 0 counts.old }
+        ensures { Reads self.now.kmer scoring.now.threshold scoring.now.ln.now scoring.now.f.now self.now.letters.now self.now.steps result }
+    {
+        let mut reading = Reading::new();
+        for l in 0..self.steps {
+            let value = self.count_back(l, scoring.ln, counts);
+            let size = l + 1;
+            let loss = (size as u64) * scoring.threshold + scoring.f[size];
+            reading = reading.judged(size, value, loss);
+        }
+        reading
     }
-    reading
-}
 
-// The same, whatever the counts hold: those of the places are set to 0 first.
-pub fn search_back(
-    letters: &[u8],
-    kmer: usize,
-    steps: usize,
-    scoring: &Scoring,
-    counts: &mut [u16],
-) -> Reading
-    requires kmer_nonzero { (0 < kmer) × (kmer ≤ 12) × (steps ≤ length letters.now) × (steps ≤ 65535) × (length counts.old ≡ 4 ^ kmer) }
-    requires narrow { Narrow scoring.now.threshold scoring.now.ln.now scoring.now.f.now steps }
-    ensures { Reads kmer scoring.now.threshold scoring.now.ln.now scoring.now.f.now letters.now steps result }
-{
-    clear_counts(letters, kmer, steps, counts);
-    read_back(letters, kmer, steps, scoring, counts)
+    // The same, whatever the counts hold: those of the places are set to 0 first.
+    pub fn search_back(&self, scoring: &Scoring, counts: &mut [u16]) -> Reading
+        requires narrow { Narrow scoring.now.threshold scoring.now.ln.now scoring.now.f.now self.now.steps }
+        requires long { length counts.old ≡ 4 ^ self.now.kmer }
+        ensures { Reads self.now.kmer scoring.now.threshold scoring.now.ln.now scoring.now.f.now self.now.letters.now self.now.steps result }
+    {
+        self.clear_counts(counts);
+        self.read_back(scoring, counts)
+    }
 }
 
 // The gap, where each of the places unread can add `rise` to the score.

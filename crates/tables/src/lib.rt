@@ -5,7 +5,7 @@
 
 ghost use Rattle.std.specs.Prelude.{◌≡◌, ◌+◌, ◌≤◌, length, take};
 ghost use Rattle.buffers.specs.Fill.{put};
-ghost use Rattle.tables.specs.Density.{density};
+ghost use Rattle.tables.specs.Density.{density, uniform};
 ghost use Rattle.tables.specs.Logarithm.{EntriesWithin};
 ghost use Rattle.tables.specs.Tables.{ln_table, f_table};
 
@@ -71,4 +71,15 @@ pub fn fill_tables(ln: &mut [f64], f: &mut [f64], k: usize, w: usize, gc: GcOpti
 {
     fill_ln(ln, w);
     fill_f(f, ln, k, w, classes(k, gc, codes));
+}
+
+// Both tables for uniform GC, whose one class no letter changes.
+#[tactic(auto, unfolding(crate::specs::Density::density))]
+pub fn fill_uniform(ln: &mut [f64], f: &mut [f64], k: usize, w: usize)
+    requires k_bound { (k ≤ 12) × (w ≤ 65535) }
+    requires w_in_bounds { (w + 1 ≤ length ln.old) × (w + 2 ≤ length f.old) }
+    ensures ln_after { ln.new ≡ put (ln_table w) ln.old }
+    ensures f_after { f.new ≡ put (f_table k w (uniform k)) f.old }
+{
+    fill_tables(ln, f, k, w, GcOption::Uniform, &[]);
 }

@@ -46,6 +46,7 @@ struct Side {
 }
 
 // Of n letters; the first i intervals end at `at` or before it.
+// A list and where the sweep stands in it, as `ended` below: the sweep is a value, and a track's marks are read at the same place.
 #[tactic(auto, using(crate::proofs::PieceSteps::of_side))]
 fn side_at(list: &[Interval], i: usize, at: u32, n: u32) -> Side
     ensures { result ≡ side_of n (drop i list.now) at }

@@ -4,8 +4,6 @@ use Rattle.buffers.specs.Free.{Free}
 use Rattle.letters.specs.Code.{reverse_complement}
 use Rattle.intervals.specs.declared.Interval.{Interval}
 use Rattle.intervals.specs.declared.output.MarksOut.{MarksOut}
-use Rattle.intervals.specs.Terms.Bounds.{Inside}
-use Rattle.intervals.specs.Merge.{merge, backwards}
 use Rattle.scans.specs.declared.Params.{Params}
 use Rattle.scans.specs.declared.run.Setup.{Setup as RunSetup}
 use Rattle.scans.specs.Setup.{Setup}
@@ -64,12 +62,3 @@ pub record Freed (p : Params) (n : ℕ) (old new : Workspace) : Type 0 where
   pub reverse_codes : Free n old.reverse_codes.now new.reverse_codes.now
   pub forward_list : Free ((n + 1) / (p.kmer + 1)) old.forward_list.now new.forward_list.now
   pub reverse_list : Free ((n + 1) / (p.kmer + 1)) old.reverse_list.now new.reverse_list.now
-
--- Two lists in the fronts of their slices, the second within n letters, and room for what they give joined and for its marks.
-pub record Mergeable (forward : List Interval) (forward_count : ℕ) (reverse : List Interval) (reverse_count n : ℕ)
-    (list : List Interval) (marks : List ℕ) : Type 0 where
-  pub forward_within : forward_count ≤ length forward
-  pub reverse_within : reverse_count ≤ length reverse
-  pub inside : Inside n (take reverse_count reverse)
-  pub room : length (merge (take forward_count forward) (backwards n (take reverse_count reverse))) ≤ length list
-  pub marks_room : length (merge (take forward_count forward) (backwards n (take reverse_count reverse))) ≤ length marks

@@ -33,8 +33,8 @@ pub record Ranged (is : List Interval) (s : List ℕ) (a b : ℕ) : Type 0 where
   pub summed : Summed is s b
 
 -- What an answer to any question leans on: nothing, if it asks for the nearest.
-abbrev pub Askable : List Interval → List ℕ → ℕ → ℕ → ℕ → Type 0
-Askable is s kind a b = (kind ≡ 0 → ⊥) → Ranged is s a b
+abbrev pub Askable : List Interval → List ℕ → Question → Type 0
+Askable is s q = (q.kind ≡ 0 → ⊥) → Ranged is s q.from q.to
 
 abbrev pub AllAskable : List Interval → List ℕ → List Question → Type 0
-AllAskable is s qs = (i : ℕ) → i < length qs → let q : Question = get_or qs i no_question in Askable is s q.kind q.from q.to
+AllAskable is s qs = (i : ℕ) → i < length qs → Askable is s (get_or qs i no_question)

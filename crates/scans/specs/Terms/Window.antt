@@ -1,5 +1,5 @@
 -- The paper, 'Records': the queue, a ring of w numbers with `len` entries, the oldest at `head`. The window in it, what the scans ask of it and how they answer.
-use Rattle.std.specs.Prelude.{◌≡◌, ℕ, zero, suc, ◌+◌, ◌-◌, ◌/◌, ◌^◌, ◌<◌, ◌≤◌, Bool, cond, ◌⊎◌, List, ◌++◌, length, get_or, take, drop, ltb, Float}
+use Rattle.std.specs.Prelude.{◌≡◌, ℕ, zero, suc, ◌+◌, ◌-◌, ◌/◌, ◌^◌, ◌<◌, ◌≤◌, Bool, cond, ◌⊎◌, List, ◌++◌, length, get_or, take, drop, ltb, Float, Option, None, Some}
 use Rattle.std.specs.Float.{nan}
 use Rattle.floats.specs.Binary64.{zero64}
 use Rattle.letters.specs.Place.{Place, ambiguous, plain}
@@ -55,6 +55,11 @@ pub record Joining (p : Params) (ring : List ℕ) (head len : ℕ) (window_count
 abbrev pub counted_value : List Float → List ℕ → Place → Float
 counted_value ln counts ambiguous = zero64
 counted_value ln counts (plain x) = get_or ln (get_or counts x 0) nan
+
+-- The raised count of a place's k-mer, none if the place is ambiguous.
+abbrev pub raised_count : List ℕ → Place → Option ℕ
+raised_count counts ambiguous = None
+raised_count counts (plain x) = Some (get_or counts x 0 + 1)
 
 -- A place is counted, and r is the ln entry of its raised count.
 pub record CountsEntry (ln : List Float) (counts : List ℕ) (e : Place) (r : Float) (counts' : List ℕ) : Type 0 where

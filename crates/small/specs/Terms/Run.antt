@@ -1,10 +1,7 @@
 -- The terms of the run in the profile's own work space.
 use Rattle.std.specs.Prelude.{ℕ, ◌+◌, ◌≡◌, false, List, length, take, Float}
-use Rattle.buffers.specs.Fill.{put}
 use Rattle.intervals.specs.declared.Interval.{Interval}
 use Rattle.intervals.specs.Interval.{Canonical, Wrote}
-use Rattle.tables.specs.Density.{uniform}
-use Rattle.tables.specs.Tables.{ln_table, f_table}
 use Rattle.longdust.specs.declared.LongdustOptions.{LongdustOptions}
 use Rattle.longdust.specs.declared.Lent.{Lent}
 use Rattle.longdust.specs.Checks.{refusal}
@@ -34,11 +31,6 @@ lent =
 pub record Asked (o : LongdustOptions) (s : List ℕ) : Type 0 where
   pub accepted : refusal o s lent ≡ 0
   pub gc : not_uniform o.gc ≡ false
-
--- The tables for uniform GC up to m over what the buffers were.
-pub record FilledTo (m k : ℕ) (ln f ln' f' : List Float) : Type 0 where
-  pub ln_is : ln' ≡ put (ln_table m) ln
-  pub f_is : f' ≡ put (f_table k m (uniform k)) f
 
 -- By these tables the letters have the mask that they have by the filled ones.
 pub record Serve (o : LongdustOptions) (s : List ℕ) (ln f : List Float) : Type 0 where

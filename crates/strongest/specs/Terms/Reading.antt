@@ -1,9 +1,8 @@
--- Terms of contracts: the places of a strand cs read backward from its last letter, and what a search knows after some of them.
-use Rattle.std.specs.Prelude.{ℕ, zero, suc, ◌+◌, ◌-◌, ◌*◌, ◌^◌, ◌≤◌, ◌<◌, min, ◌≡◌, cond, ◌||◌, List, [], ◌∷◌, leb, eqb, length, get_or, set, take, drop, ℤ, pos, ◌+ℤ◌, ◌-ℤ◌}
+-- Terms of contracts: the places of a strand cs read backward from its last letter, and what is read of them.
+use Rattle.std.specs.Prelude.{ℕ, zero, suc, ◌+◌, ◌-◌, ◌*◌, ◌^◌, ◌≤◌, ◌<◌, min, ◌≡◌, cond, ◌||◌, List, [], ◌∷◌, leb, eqb, length, set, take, drop, ℤ, pos, ◌-ℤ◌}
 use Rattle.buffers.specs.Free.{Free}
 use Rattle.letters.specs.Code.{codes}
 use Rattle.letters.specs.Place.{Place, ambiguous, plain, place_at}
-use Rattle.scans.specs.Counts.{count}
 use Rattle.scans.specs.Score.{ln_sums}
 use Rattle.strongest.specs.declared.scores.Reading.{Reading}
 use Rattle.strongest.specs.Strongest.{entry, score_of, best_of, largest}
@@ -17,26 +16,10 @@ unfoldable pub back_to : ℕ → List ℕ → ℕ → List Place
 back_to k cs zero = []
 back_to k cs (suc l) = back k cs l ∷ back_to k cs l
 
--- Of the k-mers of the last `steps` places, each count is how often it stands among the last l.
-pub record Known (k : ℕ) (cs : List ℕ) (steps l : ℕ) (counts : List ℕ) : Type 0 where
-  pub long : length counts ≡ 4 ^ k
-  pub known : (i : ℕ) → i < steps → (x : ℕ) → back k cs i ≡ plain x → get_or counts x 0 ≡ count x (back_to k cs l)
-
 -- The counts with that of the place's k-mer set to 0.
 abbrev pub cleared_at : List ℕ → Place → List ℕ
 cleared_at counts ambiguous = counts
 cleared_at counts (plain x) = set counts x 0
-
--- The ln entry of a place's raised count, 0 if ambiguous.
-abbrev pub raised_entry : List ℕ → List ℕ → Place → ℕ
-raised_entry ln counts ambiguous = 0
-raised_entry ln counts (plain x) = get_or ln (get_or counts x 0 + 1) 0
-
--- Place l, counted back, is counted, and r is what it adds.
-pub record Adds (k : ℕ) (cs : List ℕ) (steps l : ℕ) (ln counts : List ℕ) (r : ℕ) : Type 0 where
-  pub counts_are : Known k cs steps (suc l) counts
-  pub value_is : ln_sums (entry ln) (4 ^ k) (back_to k cs (suc l)) ≡ ln_sums (entry ln) (4 ^ k) (back_to k cs l) +ℤ pos r
-  pub value_small : r ≤ largest ln steps
 
 abbrev pub nothing : Reading
 nothing = record { gain = 0; best = record { size = 0; gain = 0; loss = 0 } }

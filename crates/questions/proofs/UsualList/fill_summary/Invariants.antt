@@ -2,5 +2,5 @@
 use Rattle.questions.proofs.Blocks.{Summing}
 use Rattle.questions.proofs.UsualList.fill_summary.Given as goal
 
-abbrev pub invariant-loop-entry : goal.invariant-loop-entry
-invariant-loop-entry l = Summing l.self.list.now l.initial.summary l.next l.from l.entry-index l.summary
+abbrev pub invariant-loop-i : goal.invariant-loop-i
+invariant-loop-i l = Summing l.self.list.now l.initial.summary l.next l.i l.summary

@@ -3,7 +3,7 @@ use mathlib.Core.Path.{◌≡◌}
 use mathlib.Core.Bool.{Bool}
 use mathlib.Core.Logic.{◌≢◌}
 use borrow.Author.Tests.{eq-eqb, ne_eqb}
-use lib.Ieee.{binary64, nan, nan_bits, of_fields, of_bits, div}
+use lib.Ieee.{binary64, nan, nan_bits, of_fields, of_bits}
 use Rattle.replay.proofs.words.float.Goals as goal
 
 -- `replay::words::float` meets its contract: the bits made a float are no not-a-number's.
@@ -20,5 +20,5 @@ unfolding of_fields
 fields s x t e h = rw (e, ne_eqb t 0 h)
 
 pub returns : goal.returns
-unfolding of_bits div
+unfolding of_bits
 returns c = fields _ _ _ c.if-bits-ne2047.false c.if-bits-eq0.false

@@ -1,4 +1,4 @@
-use native.Mathlib.Omega.{arith}
+use Rattle.std.proofs.Common.{rules, arith}
 use Rattle.letters.proofs.Rolling.{run_few}
 use Rattle.small.proofs.Repeating.{counting_start, counting_end, next_small, next_counted, counting_turn}
 use Rattle.small.proofs.quiet.repeats.Goals as goal
@@ -12,11 +12,13 @@ next-newest-requires c = (c.requires.0, omega (arith, run_few _ _ _ _ c.loop-cod
 pub entry-requires : goal.entry-requires
 entry-requires c = next_small _ _ _ c.loop-code.invariant c.loop-code-test.true _ c.next-newest.ensures c.requires.0
 
-pub raise_count-requires : goal.raise_count-requires
-raise_count-requires c = next_counted _ _ _ c.loop-code.invariant c.loop-code-test.true _ c.next-newest.ensures c.requires.1 _ c.entry.ensures c.requires.2
+pub raise_entry-raised-requires : goal.raise_entry-raised-requires
+raise_entry-raised-requires c = next_counted _ _ _ c.loop-code.invariant c.loop-code-test.true _ c.next-newest.ensures c.requires.1 _ c.entry.ensures c.requires.2
 
 pub loop-code-preserved : goal.loop-code-preserved
-loop-code-preserved c = counting_turn _ _ _ c.loop-code.invariant c.loop-code-test.true _ c.next-newest.ensures c.requires.1 _ c.entry.ensures _ _ c.raise_count.ensures (omega (arith, c.if-least-raise_count.false))
+loop-code-preserved c =
+    let E = c.raise_entry-raised.ensures in
+    counting_turn _ _ _ c.loop-code.invariant c.loop-code-test.true _ c.next-newest.ensures c.requires.1 _ c.entry.ensures _ E.counts_after _ E.raised (search rules)
 
 pub returns : goal.returns
 returns c = λ e. counting_end _ _ _ c.loop-code.invariant (omega (arith, c.loop-code-test.false))

@@ -57,10 +57,10 @@ pub returns-then-if_backward : goal.returns-then-if_backward
 returns-then-if_backward c saved =
     let b = (goal.at.returns-then-if_backward c).After-extends in
     look_back (S b) b.args.self.i (A b saved) (entry b) (is_plain b) (stands b saved) (answer b saved) (extension b).counts_are
-    c.if-extends.false (c.if_backward.ensures b.args.setup.now.f.now) c.if-if_backward.true
+    c.if-extends.false (rw (c.ring-ring.ensures.0, c.ring-ring.ensures.1, c.ring-ring.ensures.2) at (c.if_backward.ensures b.args.setup.now.f.now)) c.if-if_backward.true
 
 pub returns : goal.returns
 returns c saved =
     let b = (goal.at.returns c).After-extends in
     look_none (S b) b.args.self.i (A b saved) (entry b) (is_plain b) (stands b saved) (answer b saved) (extension b).counts_are
-    c.if-extends.false (c.if_backward.ensures b.args.setup.now.f.now) c.if-if_backward.false
+    c.if-extends.false (rw (c.ring-ring.ensures.0, c.ring-ring.ensures.1, c.ring-ring.ensures.2) at (c.if_backward.ensures b.args.setup.now.f.now)) c.if-if_backward.false
