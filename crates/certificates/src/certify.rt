@@ -91,7 +91,7 @@ impl Reading {
         self.high = larger(self.high, score);
         if near {
             self.near = i;
-            self.sum = self.sum + v;
+            self.sum += v;
             return self;
         }
         self.far = larger(self.far, score);
@@ -152,7 +152,7 @@ impl Middle {
                 near: len - self.near,
                 h: self.h,
                 u: self.u,
-                gap: gap,
+                gap,
             });
         }
         None
@@ -237,7 +237,7 @@ fn read_older(setup: &Setup, start: usize, s: f64, ring: &Ring, scan_counts: &mu
     let top = s - f[ring.len - start];
     let mut a = Older {
         at: start,
-        s: s,
+        s,
         gap: HIGHEST,
         done: false,
     };

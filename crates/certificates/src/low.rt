@@ -33,10 +33,7 @@ impl LowStarts {
         ensures { result ≡ low_starts_to reach score }
     {
         if NEAR < reach {
-            return Some(Self {
-                reach: reach,
-                score: score,
-            });
+            return Some(Self { reach, score });
         }
         None
     }

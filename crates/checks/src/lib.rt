@@ -35,9 +35,7 @@ pub struct BytesFound {
 fn is_other(b: u8) -> bool
     ensures { result ≡ is_other b }
 {
-    let upper = (b'A' <= b) & (b <= b'Z');
-    let lower = (b'a' <= b) & (b <= b'z');
-    (b < 128) & !(upper | lower | (b == b'-') | (b == b'*'))
+    b.is_ascii() & !(b.is_ascii_alphabetic() | (b == b'-') | (b == b'*'))
 }
 
 // One pass for both tests.

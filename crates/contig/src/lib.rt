@@ -2,21 +2,19 @@
 
 #![tactic(auto)]
 
-ghost use Rattle.std.specs.Prelude.{◌≡◌, ℕ, ◌+◌, ◌≤◌, ◌<◌, List, length, IfOk, OnOk, OnErr};
-ghost use Rattle.io.specs.Counts.{IsPrefixLen};
+ghost use Rattle.std.specs.Prelude.{◌≡◌, ℕ, ◌<◌, List, length, IfOk, OnOk, OnErr};
 ghost use Rattle.report.specs.Adds.{Adds};
 ghost use Rattle.report.specs.Terms.Held.{Held};
 ghost use Rattle.checks.specs.Refusal.{number_of};
 ghost use Rattle.intervals.specs.Interval.{Canonical, Wrote};
-ghost use Rattle.contig.specs.Run.{most_letters, list_room, text_room, contig_refusal, contig_mask};
+ghost use Rattle.contig.specs.Run.{most_letters, list_room, contig_refusal, contig_mask};
 ghost use Rattle.contig.specs.Printed.{printed, text_of};
+ghost use Rattle.contig.specs.Terms.Room.{AnswerFits};
 
 use checks::Refusal;
-use intervals::{Interval, MarksOut};
-use longdust::LongdustOptions;
-use mask::Workspace;
+use intervals::Interval;
+use longdust::{LongdustOptions, Tables};
 use report::Text;
-use scans::ForwardPosition;
 
 // The most letters that are taken, and room for one more, so that too many show; room for their intervals, and for the longest text.
 pub const MOST_LETTERS: usize = 32768;
@@ -27,21 +25,13 @@ pub const LIST_ROOM: usize = 4096;
 
 pub const TEXT_ROOM: usize = 49167;
 
-fn no_candidates() -> [ForwardPosition; 5000] {
-    [ForwardPosition {
-        pos: 0,
-        max_score: 0.0,
-    }; 5000]
-}
-
 pub fn no_intervals() -> [Interval; LIST_ROOM]
     ensures { list_room ≡ length result }
 {
     [Interval { start: 0, end: 0 }; LIST_ROOM]
 }
 
-/// Masks the letters, in work buffers of its own that have exactly the paper's sizes. The intervals go to the front of the list; returns their number.
-// The calls of this name differ in the sizes of their buffers, which cannot be worked out of a const parameter, and in who fills the tables.
+/// Fills the tables and masks the letters by them, in work buffers that have exactly the paper's sizes. The intervals go to the front of the list; returns their number.
 pub fn mask_letters(letters: &[u8], list: &mut [Interval]) -> Result<usize, Refusal>
     requires { length list.old ≡ list_room }
     ensures refusal { number_of result ≡ contig_refusal letters.now }
@@ -51,40 +41,16 @@ pub fn mask_letters(letters: &[u8], list: &mut [Interval]) -> Result<usize, Refu
 {
     let mut ln = [0.0f64; 5001];
     let mut f = [0.0f64; 5002];
-    let mut queue = [0u32; 5000];
-    let mut window_counts = [0u16; 16384];
-    let mut scan_counts = [0u16; 16384];
-    let mut candidates = no_candidates();
-    let mut codes = [0u8; MOST_LETTERS];
-    let mut reverse_codes = [0u8; MOST_LETTERS];
-    let mut forward_list = no_intervals();
-    let mut reverse_list = no_intervals();
-    let mut marks = [0u8; LIST_ROOM];
-    let mut work = Workspace {
-        queue: &mut queue,
-        window_counts: &mut window_counts,
-        scan_counts: &mut scan_counts,
-        candidates: &mut candidates,
-        reverse_codes: &mut reverse_codes,
-        forward_list: &mut forward_list,
-        reverse_list: &mut reverse_list,
-    };
-    let mut out = MarksOut {
-        list,
-        marks: &mut marks,
-    };
+    tables::fill_uniform(&mut ln, &mut f, 7, 5000);
+    let tables = Tables { ln: &ln, f: &f };
     let options = LongdustOptions::default();
-    let answer = longdust::process(
-        letters, options, &mut ln, &mut f, &mut codes, &mut work, &mut out,
-    )?;
-    Ok(answer.count)
+    longdust::process_in::<5000, 16384, MOST_LETTERS, LIST_ROOM>(letters, options, &tables, list)
 }
 
 // Writes what `track` prints for the letters.
 pub fn write_answer(letters: &[u8], text: &mut Text)
-    requires { text.old.len + text_room ≤ length text.old.bytes.now }
-    ensures written { Adds (printed letters.now) text.old text.new }
-    ensures prefix_len { IsPrefixLen text.new.len text.new.bytes.now }
+    requires { AnswerFits text.old }
+    ensures { Adds (printed letters.now) text.old text.new }
 {
     if MOST_LETTERS < letters.len() {
         text.write_size_refusal();
@@ -99,26 +65,21 @@ pub fn write_answer(letters: &[u8], text: &mut Text)
 
 // Writes what `track` prints for bytes that were read block by block: `held` has their letters, in a buffer that would show too many.
 pub fn write_held(held: &Text, text: &mut Text)
-    requires { (most_letters < length held.now.bytes.now) × (held.now.len ≤ length held.now.bytes.now)
-        × (text.old.len + text_room ≤ length text.old.bytes.now) }
-    ensures written { (bytes : List ℕ) → Held bytes held.now.bytes.now held.now.len
+    requires room { most_letters < length held.now.bytes.now }
+    requires fits { AnswerFits text.old }
+    ensures { (bytes : List ℕ) → Held bytes held.now.bytes.now held.now.len
         → Adds (text_of bytes) text.old text.new }
-    ensures prefix_len { IsPrefixLen text.new.len text.new.bytes.now }
 {
-    write_answer(&held.bytes[..held.len], text);
+    write_answer(held.written(), text);
 }
 
 // Writes what `track` prints for all bytes that it reads.
 pub fn write_text(bytes: &[u8], text: &mut Text)
-    requires { text.old.len + text_room ≤ length text.old.bytes.now }
-    ensures written { Adds (text_of bytes.now) text.old text.new }
-    ensures prefix_len { IsPrefixLen text.new.len text.new.bytes.now }
+    requires { AnswerFits text.old }
+    ensures { Adds (text_of bytes.now) text.old text.new }
 {
     let mut letters = [0u8; LETTERS_ROOM];
-    let mut held = Text {
-        bytes: &mut letters,
-        len: 0,
-    };
+    let mut held = Text::new(&mut letters);
     held.keep_letters(bytes);
     write_held(&held, text);
 }

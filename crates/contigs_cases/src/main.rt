@@ -78,6 +78,7 @@ fn print_refusals(rt: &impl Print) -> io::Result<()> {
 }
 
 // One record, then two.
+// The headers are written byte by byte. Tried: with two `copy_from_slice` the proof that the later slices lie inside the file does not close.
 fn print_sizes(rt: &impl Print) -> io::Result<()> {
     let mut file = [b'A'; contigs_text::FILE_ROOM];
     file[0] = b'>';

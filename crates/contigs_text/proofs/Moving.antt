@@ -20,9 +20,9 @@ use Rattle.report.specs.Adds.{Adds}
 use Rattle.report.specs.Terms.Fits.{Fits}
 use Rattle.report.proofs.Writing.{added_length, next}
 use Rattle.contigs_text.specs.Text.{name_line, mask_lines, record_text, records_text}
-use Rattle.contigs_text.specs.Parts.{left, PartOf, Standing, steps, Moved}
+use Rattle.contigs_text.specs.Parts.{left, emptied, PartOf, Standing, steps, Moved}
 use Rattle.contigs_text.specs.declared.Place.{Place}
-use Rattle.contigs_text.proofs.Opening.{named, part_none, part_as}
+use Rattle.contigs_text.proofs.Opening.{named, part_none, part_as, part_emptied}
 
 -- One part after another.
 pub part_next : {all mid rest : List ℕ} {t t' t'' : Text} → PartOf all t t' mid → PartOf mid t' t'' rest → PartOf all t t'' rest
@@ -114,12 +114,12 @@ module _ (file : List ℕ) (list : List Interval) (p : Place) (s : Standing list
           fewer = omega arith;
         }
 
-  module _ (t : Text) (h : p.count ≤ p.line) (k : t.len ≤ length t.bytes.now) where
+  module _ (t : Text) (h : p.count ≤ p.line) where
     -- There is no other.
     stopped : records_text (records_of (contents_of (drop p.next.at file))) ≡ [] → Moved file list p t list t None
     stopped e =
         record {
-          part = part_as (sym e ∙ left_none h) (part_none [] t k);
+          part = part_as (sym e ∙ left_none h) (part_none [] t);
           stands = tt;
           fewer = omega arith;
         }
@@ -139,9 +139,10 @@ pub record Going (file : List ℕ) (list₀ : List Interval) (p₀ : Place) (t�
   pub few : steps file p ≤ steps file p₀
   pub fewer : 0 < t.len → steps file p < steps file p₀
 
-pub go_first : (file : List ℕ) (list : List Interval) (p : Place) (t : Text) → Standing list p → t.len ≡ 0 → Going file list p t list t p
-go_first file list p t s e =
-    record { part = part_none (left file list p) t (omega arith); stands = s; few = omega arith; fewer = λ h. absurd (omega arith) }
+pub go_first : (file : List ℕ) (list : List Interval) (p : Place) (t : Text) (h : 0 ≤ length t.bytes.now) → Standing list p
+    → Going file list p (emptied t) list (record { bytes = t.bytes; len = 0; len_in = h }) p
+go_first file list p t h s =
+    record { part = part_emptied t (part_none (left file list p) _); stands = s; few = omega arith; fewer = λ h. absurd (omega arith) }
 
 module _ {file : List ℕ} {list₀ : List Interval} {p₀ : Place} {t₀ : Text} {list : List Interval} {t : Text} {p : Place} (g : Going file list₀ p₀ t₀ list t p) where
   module _ {list' : List Interval} {t' : Text} where

@@ -18,17 +18,22 @@ use Rattle.report.specs.Terms.Held.{Held}
 use Rattle.report.proofs.Writing.{none}
 use Rattle.contig.specs.Run.{contig_refusal, contig_mask}
 use Rattle.contigs_text.specs.Text.{mask_lines, refused_line, too_long_line, answered, record_text}
-use Rattle.contigs_text.specs.Parts.{PartOf}
+use Rattle.contigs_text.specs.Parts.{emptied, PartOf}
 
 abbrev pub named : List ℕ → List ℕ → Record
 named name letters = record { name = name; letters = letters }
 
 -- Nothing was written yet.
-pub part_none : (all : List ℕ) (t : Text) → t.len ≤ length t.bytes.now → PartOf all t t all
-part_none all t h = record { part = []; fits = record { room = omega arith }; added = none t; all_is = refl }
+pub part_none : (all : List ℕ) (t : Text) → PartOf all t t all
+part_none all t = record { part = []; fits = record { room = omega (arith, t.len_in) }; added = none t; all_is = refl }
 
 pub part_as : {all all' rest : List ℕ} {t t' : Text} → all ≡ all' → PartOf all t t' rest → PartOf all' t t' rest
 part_as e p = record { part = p.part; fits = p.fits; added = p.added; all_is = p.all_is ∙ e }
+
+-- A text of no length is the emptied one, by whatever proof its length is inside.
+pub part_emptied : {all rest : List ℕ} (t : Text) {t' : Text} {h : 0 ≤ length t.bytes.now} → PartOf all (record { bytes = t.bytes; len = 0; len_in = h }) t' rest
+    → PartOf all (emptied t) t' rest
+part_emptied t p = record { part = p.part; fits = record { room = p.fits.room }; added = record { written = p.added.written; same = p.added.same }; all_is = p.all_is }
 
 -- All of it was written.
 pub part_all : {xs all rest : List ℕ} {t t' : Text} → Fits xs t → Adds xs t t' → xs ≡ all → rest ≡ [] → PartOf all t t' rest

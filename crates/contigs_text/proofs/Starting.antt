@@ -18,17 +18,17 @@ use Rattle.report.specs.declared.text.Text.{Text}
 use Rattle.report.specs.Terms.Fits.{Fits}
 use Rattle.report.proofs.Decimal.{length_decimal}
 use Rattle.contigs_text.specs.Text.{file_room, mask_lines, records_text, unless_fault, file_text}
-use Rattle.contigs_text.specs.Parts.{emptied, left}
+use Rattle.contigs_text.specs.Parts.{left}
 use Rattle.contigs_text.specs.declared.Place.{Place}
 
 abbrev pub start : Place
 start = record { name = record { start = 0; end = 0 }; line = 0; count = 0; next = record { at = 0 } }
 
-pub refusal_fits : (n : ℕ) (t : Text) → n < 4294967296 → 131120 ≤ length t.bytes.now → Fits (refusal_line n) (emptied t)
-refusal_fits n t h l = record { room = simp length-append (omega (arith, length_decimal n 10 (omega arith) (omega arith))) }
+pub refusal_fits : (n : ℕ) (t : Text) → n < 4294967296 → t.len ≡ 0 → 131120 ≤ length t.bytes.now → Fits (refusal_line n) t
+refusal_fits n t h e l = record { room = simp length-append (omega (arith, length_decimal n 10 (omega arith) (omega arith))) }
 
-pub size_fits : (t : Text) → 131120 ≤ length t.bytes.now → Fits size_line (emptied t)
-size_fits t l = record { room = omega arith }
+pub size_fits : (t : Text) → t.len ≡ 0 → 131120 ≤ length t.bytes.now → Fits size_line t
+size_fits t e l = record { room = omega arith }
 
 pub too_many : (file : List ℕ) → 65536 < length file → size_line ≡ file_text file
 unfolding file_text

@@ -1,3 +1,4 @@
 pub mod Text
 pub mod Parts
+pub mod Lent
 pub mod Terms

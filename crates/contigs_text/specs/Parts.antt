@@ -1,4 +1,5 @@
 -- The text that is still to be written where the writer stands, and a part of it that was written.
+use Prim.Native.Nat.{zero-le}
 use Rattle.std.specs.Prelude.{ℕ, suc, ◌+◌, ◌*◌, ◌-◌, ◌≤◌, ◌≡◌, Option, None, Some, IfSome, List, [], ◌++◌, length, take, drop}
 use Rattle.intervals.specs.declared.Interval.{Interval}
 use Rattle.fasta.specs.Contents.{contents_of, records_of}
@@ -16,7 +17,7 @@ text_room = 131120
 
 -- The text before anything is written.
 abbrev pub emptied : Text → Text
-emptied t = record { bytes = t.bytes; len = 0 }
+emptied t = record { bytes = t.bytes; len = 0; len_in = zero-le }
 
 -- The lines left of the record whose intervals are in the list, and the records after it.
 unfoldable pub left : List ℕ → List Interval → Place → List ℕ

@@ -78,6 +78,7 @@ pub fn save_interval(list: &mut [Interval], count: usize, start: u32, end: u32) 
 }
 
 // An interval with its marks: whether an interval of the forward list, and one of the reverse list, joined into it.
+// Its ends stand beside them: the definitions of the merge compare and move each end alone.
 #[derive(Clone, Copy)]
 pub struct Marked {
     pub start: u32,
@@ -199,6 +200,7 @@ pub fn merge_intervals(
 {
     let mut i = 0;
     let mut j = reverse.len();
+    // Empty: none yet, as the definition has it.
     let mut part = Marked {
         start: 0,
         end: 0,

@@ -2,11 +2,12 @@
 
 #![tactic(auto)]
 
-ghost use Rattle.std.specs.Prelude.{◌≡◌, ◌^◌, ◌<◌, ◌≤◌, length, nat_lt};
+ghost use Rattle.std.specs.Prelude.{◌≡◌, ◌/◌, ◌^◌, ◌<◌, ◌≤◌, length, nat_lt, IfSome};
 ghost use Rattle.buffers.specs.Fill.{put};
 ghost use Rattle.letters.specs.Code.{code, codes, complement, reverse_complement};
 ghost use Rattle.letters.specs.Gc.{acgt_count, gc_count, gc_of};
 ghost use Rattle.letters.specs.Terms.Rolling.{no_letter, rolled_on, entry_of};
+ghost use Rattle.letters.specs.Terms.Entry.{decode, place_of};
 
 // Each base in either case, U beside T, and all other bytes.
 // The IUPAC letters R Y S W K M B D H V N and the gap signs - and . are among the others.
@@ -73,6 +74,7 @@ pub fn below_n_kmers(len: usize, k: usize) -> bool
 }
 
 // The last letters of a strand: the k-mer that they pack, and how many of them in a row have codes below 4.
+// `next` keeps the k-mer below 4^12, and takes any: a ghost field would ask it of all.
 #[derive(Clone, Copy)]
 pub struct Kmer {
     pub value: u32,
@@ -110,6 +112,18 @@ impl Kmer {
     {
         (self.value << 1) | ((self.run < k) as u32)
     }
+}
+
+// The k-mer of a queue entry, none if its place is ambiguous.
+#[tactic(auto, using(crate::proofs::Entries::by_lowest_bit))]
+pub fn kmer_of(entry: u32) -> Option<usize>
+    ensures place { decode entry ≡ place_of result }
+    ensures kmer { IfSome result (λ kmer. kmer ≡ entry / 2) }
+{
+    if entry & 1 != 0 {
+        return None;
+    }
+    Some((entry >> 1) as usize)
 }
 
 // How many codes are below 4.

@@ -1,18 +1,18 @@
 -- What a run that leaves the mask in the final list answers: an accepted request, with its shape, its evidence and no better shorter stretches.
 use mathlib.Core.Path.{◌≡◌, refl, sym, ap, ap₂, ◌∙◌, subst}
 use mathlib.Core.Bool.{Bool}
-use mathlib.Core.List.{List, ◌++◌}
-use Prim.Native.Nat.{ℕ, ◌+◌, ◌/◌, ◌^◌, ◌≤◌}
+use mathlib.Core.List.{List}
+use Prim.Native.Nat.{ℕ, ◌≤◌}
 use native.Mathlib.Omega.{arith}
 use lib.Dec.{T}
 use lib.Ieee.{Float}
-use lib.ListN.{length, take, drop, length-map}
+use lib.ListN.{length}
 use Rattle.letters.specs.Code.{codes}
 use Rattle.letters.proofs.Codes.{codes_length}
 use Rattle.intervals.specs.declared.Interval.{Interval}
 use Rattle.intervals.specs.Interval.{Canonical, Covers, Wrote}
 use Rattle.intervals.specs.declared.Marked.{Marked}
-use Rattle.intervals.specs.Merge.{range, ranges, mark_of, marks_of, WroteMarked}
+use Rattle.intervals.specs.Merge.{ranges, WroteMarked}
 use Rattle.intervals.proofs.Slice.{wrote_list}
 use Rattle.intervals.specs.declared.output.MarksOut.{MarksOut}
 use Rattle.mask.specs.declared.Workspace.{Workspace}
@@ -26,9 +26,9 @@ use Rattle.longdust.specs.declared.Answer.{Answer}
 use Rattle.longdust.specs.Mask.{setup, mask, marked_mask}
 use Rattle.mask.specs.Mask.{mask_of, marked_mask_of}
 use Rattle.longdust.specs.Buffers.{Buffers, lends, lengths}
-use Rattle.longdust.specs.Call.{ln_read, f_read, list_size, listed, Masked, Accepted}
+use Rattle.longdust.specs.Call.{ln_read, f_read, listed, Masked, Accepted}
 use Rattle.longdust.specs.Terms.Inner.{Bounds, Admitted, Prepared, Ran}
-use Rattle.mask.proofs.Masks.{mask_shape, mask_room, mask_ranges, mask_evidence, scans_find}
+use Rattle.mask.proofs.Masks.{mask_shape, mask_ranges, mask_evidence, scans_find}
 use Rattle.mask.proofs.Marking.{marked_evidence}
 use Rattle.longdust.proofs.Parts.{listed_free}
 use Rattle.longdust.proofs.Setups.{prepared_kmer, prepared_window}

@@ -1,5 +1,5 @@
 -- What the run over both strands asks of its workspace holds for an admitted request, and what it leaves is free in the listed sizes.
-use mathlib.Core.Path.{◌≡◌, ap, ap₂, ◌∙◌}
+use mathlib.Core.Path.{◌≡◌, ap, ap₂}
 use mathlib.Core.List.{List}
 use Prim.Native.Nat.{ℕ, ◌+◌, ◌/◌, ◌^◌}
 use native.Mathlib.Omega.{arith}

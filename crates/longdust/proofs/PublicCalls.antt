@@ -1,5 +1,5 @@
 -- From the run on an accepted request's codes to what the call on filled tables answers, and from there to what the filling call does.
-use mathlib.Core.Path.{◌≡◌, refl, sym, ap, ◌∙◌, subst}
+use mathlib.Core.Path.{◌≡◌, sym, ap, ◌∙◌, subst}
 use mathlib.Core.List.{List}
 use Rattle.std.specs.Prelude.{Ok}
 use Prim.Native.Nat.{ℕ}
@@ -17,7 +17,6 @@ use Rattle.longdust.specs.Checks.{refusal}
 use Rattle.longdust.specs.Buffers.{Buffers, lengths}
 use Rattle.longdust.specs.Call.{Accepted, Answered}
 use Rattle.longdust.specs.Terms.Inner.{Admitted, Ran}
-use Rattle.longdust.proofs.Accept.{admitted}
 
 -- The codes of s over the front of d.
 module _ (s d d' : List ℕ) (e : d' ≡ put (codes s) d) (long : length d' ≡ length d) where

@@ -1,7 +1,7 @@
 -- The filling call against the other one, and the ln table that it leaves against the true logarithm. Demand 3, mirror: the mask of the reverse complement is the mask read backwards, its marks exchanged, over the definition and for two requests of each call.
 -- Shape, evidence and no better shorter stretches are fields of `Accepted`, in the contract of both calls.
-use mathlib.Core.Path.{◌≡◌, refl, sym, ap, ap₂, ◌∙◌}
-use Prim.Native.Nat.{ℕ, zero, suc, ◌+◌, ◌<◌}
+use mathlib.Core.Path.{◌≡◌, sym, ap, ap₂, ◌∙◌}
+use Prim.Native.Nat.{ℕ, ◌+◌, ◌<◌}
 use native.Mathlib.Omega.{arith}
 use mathlib.Core.Bool.{Bool, false}
 use mathlib.Core.List.{List}

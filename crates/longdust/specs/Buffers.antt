@@ -79,3 +79,21 @@ lengths b =
       list = length b.list;
       marks = length b.marks;
     }
+
+-- The sizes of buffers of W places, K counts, N letters and R intervals, where those of the tables and the list are given.
+abbrev pub lent_sizes : (W K N R ln f list : ℕ) → Lent
+lent_sizes W K N R ln f list =
+    record {
+      ln = ln;
+      f = f;
+      queue = W;
+      window_counts = K;
+      scan_counts = K;
+      candidates = W;
+      codes = N;
+      reverse_codes = N;
+      forward_list = R;
+      reverse_list = R;
+      list = list;
+      marks = R;
+    }

@@ -1,5 +1,5 @@
 -- The paper, 'Both strands': the mask of a request.
-use Rattle.std.specs.Prelude.{ℕ, List, Float}
+use Rattle.std.specs.Prelude.{ℕ, ◌+◌, List, take, Float}
 use Rattle.letters.specs.Code.{codes}
 use Rattle.intervals.specs.declared.Interval.{Interval}
 use Rattle.intervals.specs.declared.Marked.{Marked}
@@ -28,3 +28,7 @@ mask o sequence ln f = mask_of (setup o ln f) o.forward_only (codes sequence)
 
 unfoldable pub marked_mask : LongdustOptions → List ℕ → List Float → List Float → List Marked
 marked_mask o sequence ln f = marked_mask_of (setup o ln f) o.forward_only (codes sequence)
+
+-- The mask by the entries of the tables that a run reads: ln entries 0..w and f entries 0..w+1.
+abbrev pub mask_by : LongdustOptions → List ℕ → List Float → List Float → List Interval
+mask_by o sequence ln f = mask o sequence (take (o.window_size + 1) ln) (take (o.window_size + 2) f)

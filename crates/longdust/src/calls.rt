@@ -1,4 +1,5 @@
-// The two public calls.
+// The public calls.
 
 pub mod process;
+pub mod process_in;
 pub mod process_tables;

@@ -1,4 +1,4 @@
-// The two public calls, on filled tables and with tables to fill: checks, flag, both strands, mask.
+// The public calls, on filled tables and with tables to fill: checks, flag, both strands, mask.
 
 #![tactic(auto)]
 
@@ -10,6 +10,7 @@ ghost use Rattle.std.specs.Prelude.{◌≡◌};
 ghost use Rattle.longdust.specs.Options.{defaults};
 
 pub use calls::process::process;
+pub use calls::process_in::process_in;
 pub use calls::process_tables::process_tables;
 pub use refusals::xdrop_bad;
 use tables::GcOption;
@@ -27,12 +28,12 @@ pub struct LongdustOptions {
     pub forward_only: bool,
 }
 
-impl LongdustOptions {
-    // The Rust's own defaults.
+// The Rust's own defaults.
+impl Default for LongdustOptions {
+    ghost is_default = { λ r. r ≡ defaults };
+
     #[tactic(auto, unfolding(crate::specs::Options::defaults))]
-    pub fn default() -> Self
-        ensures { result ≡ defaults }
-    {
+    fn default() -> Self {
         Self {
             window_size: 5000,
             score_threshold: 0.6,

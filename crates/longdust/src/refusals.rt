@@ -19,21 +19,14 @@ use tables::GcOption;
 fn gc_bad(gc: GcOption) -> bool
     ensures { result ≡ gc_bad gc }
 {
-    match gc {
-        GcOption::Uniform => false,
-        GcOption::Fixed(x) => !((0.0 <= x) & (x <= 1.0)),
-        GcOption::Auto => false,
-    }
+    matches!(gc, GcOption::Fixed(x) if !((0.0 <= x) & (x <= 1.0)))
 }
 
 #[tactic(auto, unfolding(crate::specs::Checks::xdrop_bad))]
 pub fn xdrop_bad(xdrop: Option<u32>) -> bool
     ensures { result ≡ xdrop_bad xdrop }
 {
-    match xdrop {
-        None => false,
-        Some(l) => l == 0,
-    }
+    matches!(xdrop, Some(l) if l == 0)
 }
 
 #[tactic(auto, unfolding(crate::specs::Checks::too_short_of))]

@@ -20,17 +20,11 @@ const LN_END: f64 = 16.0;
 const F_END: f64 = 1048576.0;
 
 // Whether entries 1..w of a table lie in 0..high.
-#[tactic(auto, unfolding(scans::specs::Range::table_in_range))]
 fn table_in_range(table: &[f64], w: usize, high: f64) -> bool
     requires { w < length table.now }
     ensures { result ≡ table_in_range high table.now w }
 {
-    let mut ok = true;
-    for i in 0..w {
-        let x = table[i + 1];
-        ok = ok & ((0.0 <= x) & (x <= high));
-    }
-    ok
+    table[1..w + 1].iter().all(|x| (0.0 <= *x) & (*x <= high))
 }
 
 // The flag.
@@ -59,6 +53,7 @@ fn usual_tables(in_range: bool, n: usize, w: usize, ln: &[f64], f: &[f64]) -> bo
 }
 
 // The numbers that a run over n letters goes by.
+// The tables come as two slices: of a slice it is known that its floats are of 64 bits, of `Tables` it is not.
 fn prepare(options: LongdustOptions, flag: bool, n: usize, ln: &[f64], f: &[f64]) -> Params
     requires bounds { Bounds options }
     requires window_size_in_bounds { (options.window_size < length ln.now) × (options.window_size < length f.now) }

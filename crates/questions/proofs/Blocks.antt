@@ -6,6 +6,7 @@ use mathlib.Core.Logic.{⊎_elim}
 use native.Mathlib.Omega.{arith}
 use lib.ListN.{length, get_or, take, drop, set}
 use lib.Seq.{drop-cons, take_all}
+use Rattle.std.specs.Prelude.{min, ◌%◌}
 use Rattle.std.specs.List.{sum}
 use Rattle.std.proofs.lemmas.List.Sums.{sum_by-cons}
 use Rattle.buffers.proofs.Tabulate.{tabulate_length, tabulate_at, Tabulates, tabulate_start, tabulate_turn}
@@ -49,7 +50,7 @@ summary_total n is c =
 -- A range in three parts: up to block f, the blocks f to l - 1 from the summary, and from block l on.
 module _ (is : List Interval) (s : List ℕ) (a b : ℕ) (y : Summed is s b) where
   abbrev f : ℕ
-  f = (a + 1023) / 1024
+  f = a / 1024 + min 1 (a % 1024)
 
   abbrev l : ℕ
   l = b / 1024

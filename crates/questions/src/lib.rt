@@ -15,6 +15,9 @@ ghost use Rattle.questions.specs.Terms.Found.{IsFirstPast, first_from, Summed, A
 use checks::{Refusal, too_many_letters};
 use intervals::{Interval, is_usual};
 
+// The letters of a block: the summary has an entry for each.
+const BLOCK: u32 = 1024;
+
 /// A question about a range of letters, from `from` up to `to`, which is not included.
 /// Its kind: 0 nearest to letter `from`, 1 wholly within, 2 both inside and outside, 3 the masked share.
 #[repr(C)]
@@ -75,7 +78,7 @@ impl<'a> UsualList<'a> {
     fn nearest_interval(&self, x: u32) -> Option<Answer>
         ensures { unwrap_or result none ≡ nearest x self.now.list.now }
     {
-        if self.list.len() == 0 {
+        if self.list.is_empty() {
             return None;
         }
         let j = self.first_past(x);
@@ -112,13 +115,13 @@ impl<'a> UsualList<'a> {
         self.list.partition_point(|interval| interval.start < x)
     }
 
-    // The intervals wholly within [a, b): those that begin at a or later, up to the first whose end lies past b.
+    // The intervals wholly within the range: those that begin at its start or later, up to the first whose end lies past its end.
     #[tactic(auto, using(crate::proofs::RangeSteps::of_within))]
-    fn intervals_within(&self, a: u32, b: u32) -> Option<Answer>
-        ensures { unwrap_or result none ≡ all_that (within a b) self.now.list.now }
+    fn intervals_within(&self, range: Interval) -> Option<Answer>
+        ensures { unwrap_or result none ≡ all_that (within range.start range.end) self.now.list.now }
     {
-        let first = self.first_from(a);
-        let past = self.first_past(b);
+        let first = self.first_from(range.start);
+        let past = self.first_past(range.end);
         if first < past {
             return Some(Answer {
                 first: first as u32,
@@ -128,22 +131,16 @@ impl<'a> UsualList<'a> {
         None
     }
 
-    // The intervals with letters both inside and outside [a, b): at most one over a and one over b, which may be the same.
+    // The intervals with letters both inside and outside the range: at most one over its start and one over its end, which may be the same.
     #[tactic(auto, using(crate::proofs::RangeSteps::of_partly))]
-    fn intervals_partly(&self, a: u32, b: u32) -> Option<Answer>
-        requires a_lt_b { a < b }
-        ensures { unwrap_or result none ≡ all_that (partly a b) self.now.list.now }
+    fn intervals_partly(&self, range: Interval) -> Option<Answer>
+        requires nonempty { range.start < range.end }
+        ensures { unwrap_or result none ≡ all_that (partly range.start range.end) self.now.list.now }
     {
-        let left = self.first_past(a);
-        let right = self.first_past(b);
-        if left < self.first_from(a) {
-            if right <= left {
-                return Some(Answer {
-                    first: left as u32,
-                    second: 1,
-                });
-            }
-            if right < self.first_from(b) {
+        let left = self.first_past(range.start);
+        let right = self.first_past(range.end);
+        if left < self.first_from(range.start) {
+            if left < right && right < self.first_from(range.end) {
                 return Some(Answer {
                     first: left as u32,
                     second: 2,
@@ -154,7 +151,7 @@ impl<'a> UsualList<'a> {
                 second: 1,
             });
         }
-        if right < self.first_from(b) {
+        if right < self.first_from(range.end) {
             return Some(Answer {
                 first: right as u32,
                 second: 1,
@@ -163,17 +160,17 @@ impl<'a> UsualList<'a> {
         None
     }
 
-    // Counts the covered letters of [a, b), from j on, the first interval whose end lies past a.
-    fn walk(&self, j: usize, a: u32, b: u32) -> Walked
-        requires first_past { IsFirstPast self.now.list.now a j }
-        requires a_le_b { a ≤ b }
-        ensures { Walks self.now.list.now a b result }
+    // Counts the range's covered letters, from j on, the first interval whose end lies past the range's start.
+    fn walk(&self, j: usize, range: Interval) -> Walked
+        requires first_past { IsFirstPast self.now.list.now range.start j }
+        requires in_order { range.start ≤ range.end }
+        ensures { Walks self.now.list.now range.start range.end result }
     {
         let mut letters = 0;
         for k in j..self.list.len() {
             let interval = self.list[k];
-            letters += letters_inside(a, b, interval);
-            if b < interval.end {
+            letters += letters_inside(range, interval);
+            if range.end < interval.end {
                 return Walked { letters, next: k };
             }
         }
@@ -183,6 +180,14 @@ impl<'a> UsualList<'a> {
         }
     }
 
+    // The range's covered letters, by a walk from the first interval whose end lies past its start.
+    fn count_letters(&self, range: Interval) -> u32
+        requires in_order { range.start ≤ range.end }
+        ensures { result ≡ covered_in self.now.list.now range.start range.end }
+    {
+        self.walk(self.first_past(range.start), range).letters
+    }
+
     // Writes the covered letters of each block, one walk over the list in all.
     fn fill_summary(&self, summary: &mut [u32])
         requires { length summary.old ≤ 2097152 }
@@ -190,43 +195,47 @@ impl<'a> UsualList<'a> {
     {
         let mut next = 0;
         for (i, entry) in summary.iter_mut().enumerate() {
-            let from = 1024 * i as u32;
-            let walked = self.walk(next, from, from + 1024);
+            let start = BLOCK * i as u32;
+            let end = start + BLOCK;
+            let walked = self.walk(next, Interval { start, end });
             *entry = walked.letters;
             next = walked.next;
         }
     }
 
-    // The covered letters of [a, b): a walk up to the first block that begins in it, whole blocks from the summary, a walk to its end.
+    // The range's covered letters: those up to the first block that begins in it, whole blocks from the summary, those after the last.
     #[tactic(auto, using(crate::proofs::Blocks::of_parts))]
-    fn masked_letters(&self, summary: &[u32], a: u32, b: u32) -> u32
-        requires summed { Summed self.now.list.now summary.now b }
-        requires a_le_b { (a ≤ b) × (b ≤ 2147483647) }
-        ensures { result ≡ covered_in self.now.list.now a b }
+    fn masked_letters(&self, summary: &[u32], range: Interval) -> u32
+        requires summed { Summed self.now.list.now summary.now range.end }
+        requires in_order { (range.start ≤ range.end) × (range.end ≤ 2147483647) }
+        ensures { result ≡ covered_in self.now.list.now range.start range.end }
     {
-        let first = (a + 1023) / 1024;
-        let last = b / 1024;
+        let first = range.start.div_ceil(BLOCK);
+        let last = range.end / BLOCK;
         if last < first {
-            let only = self.walk(self.first_past(a), a, b);
-            return only.letters;
+            return self.count_letters(range);
         }
-        let before = self.walk(self.first_past(a), a, first * 1024);
-        let from = first as usize;
-        let to = last as usize;
-        let whole = total_letters(&summary[from..to]);
-        let after = self.walk(self.first_past(last * 1024), last * 1024, b);
-        before.letters + whole + after.letters
+        let front = Interval {
+            start: range.start,
+            end: first * BLOCK,
+        };
+        let back = Interval {
+            start: last * BLOCK,
+            end: range.end,
+        };
+        let blocks = &summary[first as usize..last as usize];
+        self.count_letters(front) + total_letters(blocks) + self.count_letters(back)
     }
 
-    // The masked share of [a, b) in ten-thousandths, and the remainder.
+    // The range's masked share in ten-thousandths, and the remainder.
     #[tactic(auto, using(crate::proofs::Share::of_share))]
-    fn masked_share(&self, summary: &[u32], a: u32, b: u32) -> Answer
-        requires summed { Summed self.now.list.now summary.now b }
-        requires a_lt_b { (a < b) × (b ≤ 2147483647) }
-        ensures { result ≡ share a b self.now.list.now }
+    fn masked_share(&self, summary: &[u32], range: Interval) -> Answer
+        requires summed { Summed self.now.list.now summary.now range.end }
+        requires nonempty { (range.start < range.end) × (range.end ≤ 2147483647) }
+        ensures { result ≡ share range.start range.end self.now.list.now }
     {
-        let parts = 10000 * (self.masked_letters(summary, a, b) as usize);
-        let long = (b - a) as usize;
+        let parts = 10000 * (self.masked_letters(summary, range) as usize);
+        let long = (range.end - range.start) as usize;
         Answer {
             first: (parts / long) as u32,
             second: (parts % long) as u32,
@@ -239,12 +248,15 @@ impl<'a> UsualList<'a> {
         requires askable { Askable self.now.list.now summary.now question }
         ensures { result ≡ answer_to self.now.list.now question.kind question.from question.to }
     {
-        let Question { kind, from, to } = question;
-        match kind {
-            0 => self.nearest_interval(from).unwrap_or(Answer::NONE),
-            1 => self.intervals_within(from, to).unwrap_or(Answer::NONE),
-            2 => self.intervals_partly(from, to).unwrap_or(Answer::NONE),
-            _ => self.masked_share(summary, from, to),
+        let range = Interval {
+            start: question.from,
+            end: question.to,
+        };
+        match question.kind {
+            0 => self.nearest_interval(question.from).unwrap_or(Answer::NONE),
+            1 => self.intervals_within(range).unwrap_or(Answer::NONE),
+            2 => self.intervals_partly(range).unwrap_or(Answer::NONE),
+            _ => self.masked_share(summary, range),
         }
     }
 
@@ -267,11 +279,13 @@ fn letters_before(x: u32, start: u32) -> u32
     start.saturating_sub(x).saturating_sub(1)
 }
 
-// How many letters of [start, end) lie inside [a, b).
-fn letters_inside(a: u32, b: u32, interval: Interval) -> u32
-    ensures { result ≡ inside a b interval }
+// How many letters of the interval lie inside the range.
+fn letters_inside(range: Interval, interval: Interval) -> u32
+    ensures { result ≡ inside range.start range.end interval }
 {
-    interval.end.min(b).saturating_sub(interval.start.max(a))
+    let start = interval.start.max(range.start);
+    let end = interval.end.min(range.end);
+    end.saturating_sub(start)
 }
 
 // The covered letters of a range, and the first interval whose end lies past the range's.
@@ -310,7 +324,7 @@ fn any_bad(questions: &[Question], n: usize) -> bool
 fn count_blocks(n: usize) -> usize
     ensures { result ≡ blocks n }
 {
-    n.div_ceil(1024)
+    n.div_ceil(BLOCK as usize)
 }
 
 /// Answers a batch of questions about a list of intervals in n letters: the summary is built, and a result written for each question.

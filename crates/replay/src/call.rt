@@ -18,6 +18,7 @@ pub const F_ROOM: usize = 66;
 pub const LETTERS_ROOM: usize = 200;
 
 pub const LIST_ROOM: usize = 100;
+
 // What a record names in place of the short slice where all are empty.
 const ALL_EMPTY: u32 = 13;
 

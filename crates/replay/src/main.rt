@@ -38,7 +38,9 @@ fn replay_record(words: &mut Words) -> Result<bool, Malformed>
     let mut marks = [0xeeu8; call::LIST_ROOM];
     let head = request::head(words)?;
     let options = head.options;
-    request::tables(words, head.lent, &mut ln, &mut f)?;
+    if head.lent {
+        request::tables(words, &mut ln, &mut f)?;
+    }
     let n = request::sequence(words, &mut letters)?;
     call::fill_tables(head.lent, &letters[..n], options, &mut ln, &mut f);
     let ln_size = call::entries(1, head.short, options.window_size + 1, call::LN_ROOM);

@@ -14,20 +14,15 @@ fn has(list: &[Interval], i: usize, start: u32, end: u32) -> bool
     ensures { let L = list.now in
         result ≡ (ltb i (length L) && (eqb (get_or L i (interval 0 0)).start start && eqb (get_or L i (interval 0 0)).end end)) }
 {
-    if list.len() <= i {
-        return false;
-    }
-    (list[i].start == start) & (list[i].end == end)
+    list.get(i)
+        .is_some_and(|interval| interval.start == start && interval.end == end)
 }
 
 // Whether entry i of the marks is there and is `mark`.
 fn has_mark(marks: &[u8], i: usize, mark: u32) -> bool
     ensures { result ≡ (ltb i (length marks.now) && eqb (get_or marks.now i 0) mark) }
 {
-    if marks.len() <= i {
-        return false;
-    }
-    marks[i] as u32 == mark
+    marks.get(i).is_some_and(|entry| *entry as u32 == mark)
 }
 
 // Reads `count` intervals with their marks; whether they are the first ones of a list.

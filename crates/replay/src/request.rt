@@ -9,6 +9,7 @@ use longdust::LongdustOptions;
 use tables::GcOption;
 
 // What stands before the tables and the letters: `short` is the number of the short slice, `lent` whether tables are lent.
+// `short` is a number, as the list has it: the sizes of the slices compare it with each slice's own (`call::entries`).
 // `lent` is a yes or no on which no value hangs: an enum of two names would say no more.
 #[derive(Clone, Copy)]
 pub struct Request {
@@ -90,16 +91,13 @@ fn table(words: &mut Words, table: &mut [f64]) -> Result<(), Malformed>
     Ok(())
 }
 
-// Reads both tables if they are lent.
+// Reads both tables.
 #[tactic(auto, using(crate::proofs::Following::following))]
-pub fn tables(words: &mut Words, lent: bool, ln: &mut [f64], f: &mut [f64]) -> Result<(), Malformed>
+pub fn tables(words: &mut Words, ln: &mut [f64], f: &mut [f64]) -> Result<(), Malformed>
     ensures { Follows words.old.rest.now words.new.rest.now }
 {
-    if lent {
-        table(words, ln)?;
-        table(words, f)?;
-    }
-    Ok(())
+    table(words, ln)?;
+    table(words, f)
 }
 
 #[tactic(auto, unfolding(crate::specs::Request::letter_of))]

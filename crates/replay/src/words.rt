@@ -2,9 +2,9 @@
 
 ghost use Rattle.std.specs.Prelude.{◌≡◌, ◌≤◌, ◌<◌, ◌+◌, true, cond, length, take, drop, get_or, nat_eq, IfOk, OnOk, OnErr, IfSome};
 ghost use Rattle.std.specs.Option.{unwrap_or};
-ghost use Rattle.std.specs.Float.{binary64};
-ghost use Rattle.std.specs.Float.Ieee.{of_bits};
 ghost use Rattle.replay.specs.Words.{digit_of, ends_word, Reads, ReadsNumber, ReadsBits, ReadsFloat, Follows};
+
+use std::num::f64_from_bits_with_nan;
 
 // The list does not have its form; the number that a word began with, 0 where none was read: it is printed as it is.
 #[derive(Clone, Copy)]
@@ -126,32 +126,18 @@ impl<'a> Words<'a> {
             return Err(MALFORMED);
         }
         let mut bits: u64 = 0;
-        for i in 0..16usize {
-            match digit(if i < word.len() { word[i] } else { b'0' }) {
-                Some(digit) => bits = bits * 16 + digit,
-                None => return Err(MALFORMED),
-            }
+        for byte in word {
+            let digit = digit(*byte).ok_or(MALFORMED)?;
+            bits = bits * 16 + digit;
         }
-        Ok(bits)
+        Ok(bits << (4 * (16 - word.len())))
     }
 
+    // The float of the next bits; those of a not-a-number all give the same one.
     pub fn float(&mut self) -> Result<f64, Malformed>
         ensures ok { IfOk result (λ x. ReadsFloat self.old.rest.now self.new.rest.now x) }
         ensures follows { Follows self.old.rest.now self.new.rest.now }
     {
-        Ok(float(self.bits()?))
+        Ok(f64_from_bits_with_nan(self.bits()?))
     }
-}
-
-// The float of these bits; those of a not-a-number all give the same one.
-fn float(bits: u64) -> f64
-    ensures { result ≡ of_bits binary64 bits }
-{
-    if bits % 0x8000_0000_0000_0000 / 0x10_0000_0000_0000 != 2047 {
-        return f64::from_bits(bits);
-    }
-    if bits % 0x10_0000_0000_0000 == 0 {
-        return f64::from_bits(bits);
-    }
-    f64::NAN
 }

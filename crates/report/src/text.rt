@@ -1,5 +1,7 @@
 // A lent text that is written from its front on.
 
+ghost use Rattle.std.specs.Prelude.{◌≤◌, length};
+
 use intervals::Interval;
 
 // The first `len` bytes are written.
@@ -7,18 +9,25 @@ use intervals::Interval;
 pub struct Text<'a> {
     pub bytes: &'a mut [u8],
     pub len: usize,
+    ghost len_in: { len ≤ length bytes.now },
 }
 
 impl<'a> Text<'a> {
-    ghost use Rattle.std.specs.Prelude.{ℕ, ◌≡◌, ◌≤◌, List, ◌++◌, length, take};
-    ghost use Rattle.io.specs.Counts.{IsPrefixLen};
+    ghost use Rattle.std.specs.Prelude.{ℕ, ◌≡◌, List, ◌++◌, length, take};
     ghost use Rattle.report.specs.Text.{decimal, line, lines, numbered, count_line, report, refusal_line, size_line};
     ghost use Rattle.report.specs.Adds.{Adds};
     ghost use Rattle.report.specs.Terms.Fits.{Fits};
     ghost use Rattle.report.specs.Terms.Held.{fitting, Held};
 
+    // Nothing is written yet.
+    pub fn new(bytes: &'a mut [u8]) -> Self
+        ensures len { result.len ≡ 0 }
+        ensures bytes { result.bytes ≡ bytes.entry }
+    {
+        Text { bytes, len: 0 }
+    }
+
     pub fn written(&self) -> &[u8]
-        requires { self.now.len ≤ length self.now.bytes.now }
         ensures { result.now ≡ take self.now.len self.now.bytes.now }
     {
         &self.bytes[..self.len]
@@ -109,16 +118,14 @@ impl<'a> Text<'a> {
 
     // Joins a block of bytes to those read before it: its letters, as many as there is room for, follow those that the text holds.
     pub fn keep_letters(&mut self, block: &[u8])
-        requires { self.old.len ≤ length self.old.bytes.now }
         ensures written { let D = self.old.bytes.now in Adds (fitting block.now D self.old.len) self.old self.new }
         ensures held { (bytes : List ℕ) → Held bytes self.old.bytes.now self.old.len
             → Held (bytes ++ block.now) self.new.bytes.now self.new.len }
-        ensures prefix_len { IsPrefixLen self.new.len self.new.bytes.now }
         ensures room { length self.new.bytes.now ≡ length self.old.bytes.now }
     {
         for byte in block {
             let byte = *byte;
-            if byte == 10 {
+            if byte == b'\n' {
                 continue;
             }
             if self.len == self.bytes.len() {

@@ -1,13 +1,12 @@
 -- What a queue entry is worth by its bits and its count: the tests of the code against the definitions' values.
-use mathlib.Core.Path.{◌≡◌, refl, sym, ap, ◌∙◌}
+use mathlib.Core.Path.{◌≡◌, refl, sym, ap}
 use mathlib.Core.Bool.{Bool, true, false, cond}
 use mathlib.Core.List.{List, [], ◌∷◌}
-use Prim.Native.Nat.{ℕ, suc, ◌+◌, ◌-◌, ◌/◌, ◌%◌, ◌<◌, ◌≤◌}
+use Prim.Native.Nat.{ℕ, suc, ◌+◌, ◌-◌, ◌/◌, ◌%◌, ◌<◌}
 use native.Mathlib.Omega.{arith}
 use lib.ListN.{length, get_or, set}
-use lib.Seq.{get_or-set_same, set-get_or}
+use lib.Seq.{get_or-set_same}
 use lib.Dec.{eqb}
-use lib.Bits.{bit_and, and_mask}
 use lib.Ieee.{Float, nan}
 use Rattle.std.specs.Prelude.{Some}
 use Rattle.std.proofs.lemmas.Option.{none-some, same_Some}
@@ -15,22 +14,13 @@ use Rattle.floats.specs.Arithmetic.{◌⊕◌, ◌⊖◌}
 use Rattle.floats.specs.Binary64.{zero64}
 use Rattle.letters.specs.Place.{Place, ambiguous, plain, BelowAt, Below}
 use Rattle.letters.specs.Terms.Entry.{decode, decoded}
-use Rattle.letters.proofs.Entries.{decode_plain, decode_ambiguous}
+use Rattle.letters.proofs.Entries.{decode_plain, decode_ambiguous, plain_even}
 use Rattle.scans.specs.declared.backward.BackwardState.{BackwardState}
 use Rattle.scans.specs.Setup.{Setup}
-use Rattle.scans.specs.Counts.{count, raise, lower}
+use Rattle.scans.specs.Counts.{count, raise}
 use Rattle.scans.specs.Scans.{window_value, value}
 use Rattle.scans.specs.Terms.Window.{counted_value, raised_count, CountsEntry}
 use Rattle.scans.specs.Terms.Parts.{with_sums, AddsEntry}
-
-pub even : (e : ℕ) → bit_and e 1 ≡ 0 → e % 2 ≡ 0
-even e h = rw (and_mask e 1) at h
-
-pub even_plain : (e : ℕ) → bit_and e 1 ≡ 0 → decode e ≡ plain (e / 2)
-even_plain e h = decode_plain e (even e h)
-
-pub odd_ambiguous : (e : ℕ) → (bit_and e 1 ≡ 0 → ⊥) → decode e ≡ ambiguous
-odd_ambiguous e h = decode_ambiguous e (rw (and_mask e 1) at h)
 
 pub decode_below : (m e : ℕ) → e / 2 < m → BelowAt m (decode e)
 unfolding decode
@@ -59,44 +49,38 @@ raised_value S counts ambiguous h = refl
 raised_value S counts (plain x) h = raised_plain S.ln counts x h
 
 -- An entry whose raised count is c.
-module _ (ln : List Float) (counts : List ℕ) (e c : ℕ) (r : raised_count counts (decode e) ≡ Some c) where
+module _ (counts : List ℕ) (e c : ℕ) (r : Some c ≡ raised_count counts (decode e)) where
   pub entry_plain : decode e ≡ plain (e / 2)
   unfolding decode
   entry_plain = go (eqb (e % 2) 0) r
     where
-      go : (b : Bool) → raised_count counts (cond b (plain (e / 2)) ambiguous) ≡ Some c → cond b (plain (e / 2)) ambiguous ≡ plain (e / 2)
+      go : (b : Bool) → Some c ≡ raised_count counts (cond b (plain (e / 2)) ambiguous) → cond b (plain (e / 2)) ambiguous ≡ plain (e / 2)
       go true h = refl
-      go false h = absurd (none-some c h)
+      go false h = absurd (none-some c (sym h))
 
   pub count_raised : c ≡ get_or counts (e / 2) 0 + 1
-  count_raised = sym (same_Some (get_or counts (e / 2) 0 + 1) c (rw entry_plain at r))
+  count_raised = same_Some c (get_or counts (e / 2) 0 + 1) (rw entry_plain at r)
 
-  pub counts_entry : e / 2 < length counts → CountsEntry ln counts (decode e) (get_or ln c nan) (raise counts (decode e))
-  counts_entry h = rw (entry_plain, count_raised) (record { counts_are = refl; value_is = sym (raised_plain ln counts (e / 2) h) })
+  pub counts_entry : (ln : List Float) → e / 2 < length counts → CountsEntry ln counts (decode e) (get_or ln c nan) (raise counts (decode e))
+  counts_entry ln h = rw (entry_plain, count_raised) (record { counts_are = refl; value_is = sym (raised_plain ln counts (e / 2) h) })
 
--- Both values of an entry, by its bits.
+-- Both values of an entry.
 module _ (t : Float) (window_counts : List ℕ) (ln : List Float) (e : ℕ) (a : BackwardState) (counts : List ℕ) where
-  pub adds_ambiguous : (bit_and e 1 ≡ 0 → ⊥) → AddsEntry t window_counts ln (decode e) a (with_sums a (a.s ⊕ (zero64 ⊖ t)) (a.sw ⊕ (zero64 ⊖ t))) counts counts
-  adds_ambiguous h = rw (odd_ambiguous e h) (record { counts_are = refl; sums_are = refl })
+  pub adds_ambiguous : decode e ≡ ambiguous → AddsEntry t window_counts ln (decode e) a (with_sums a (a.s ⊕ (zero64 ⊖ t)) (a.sw ⊕ (zero64 ⊖ t))) counts counts
+  adds_ambiguous h = rw h (record { counts_are = refl; sums_are = refl })
 
-  abbrev c : ℕ
-  c = get_or counts (e / 2) 0 + 1
+  module _ (x : ℕ) (h : decode e ≡ plain x) where
+    abbrev c : ℕ
+    c = get_or counts x 0 + 1
 
-  pub adds_plain : bit_and e 1 ≡ 0 → e / 2 < length counts
-      → AddsEntry t window_counts ln (decode e) a
-      (with_sums a (a.s ⊕ (get_or ln c nan ⊖ t)) (a.sw ⊕ (get_or ln (get_or window_counts (e / 2) 0 - c + 1) nan ⊖ t)))
-      counts (set counts (e / 2) c)
-  adds_plain h l =
-      let same : get_or (set counts (e / 2) c) (e / 2) 0 ≡ c = get_or-set_same counts (e / 2) c 0 l in
-      rw (even_plain e h) (record { counts_are = refl; sums_are = rw same })
+    pub adds_plain : x < length counts
+        → AddsEntry t window_counts ln (decode e) a
+        (with_sums a (a.s ⊕ (get_or ln c nan ⊖ t)) (a.sw ⊕ (get_or ln (get_or window_counts x 0 - c + 1) nan ⊖ t)))
+        counts (set counts x c)
+    adds_plain l = let same : get_or (set counts x c) x 0 ≡ c = get_or-set_same counts x c 0 l in rw h (record { counts_are = refl; sums_are = rw same })
 
--- A count of 0 stays.
-lower_none : (counts : List ℕ) (x : ℕ) → get_or counts x 0 ≡ 0 → counts ≡ lower counts (plain x)
-lower_none counts x e =
-    let z : get_or counts x 0 - 1 ≡ get_or counts x 0 = omega arith in
-    sym (ap (λ (n : ℕ). set counts x n) z ∙ set-get_or counts x 0)
+-- The laws by which `add_entry` is proved.
+pub ruleset adding = (plain_even, adds_ambiguous, adds_plain)
 
-pub lowered_none : (counts : List ℕ) (e : ℕ) → bit_and e 1 ≡ 0 → get_or counts (e / 2) 0 ≤ 0 → counts ≡ lower counts (decode e)
-lowered_none counts e h l = rw (even_plain e h) (lower_none counts (e / 2) (omega arith))
-
-pub ruleset of_entry = (even_plain, odd_ambiguous, lowered_none)
+-- The laws by which `count_entry` is proved.
+pub ruleset counting = (count_raised, counts_entry)

@@ -42,7 +42,7 @@ pub fn if_backward(setup: &Setup, ring: &Ring, window_counts: &[u16]) -> bool
     let mut s = 0.0;
     for i in (ring.len - steps..ring.len).rev() {
         let v = window_value(window_counts, setup.ln, ring.queue[ring.index(i)]);
-        s = s + (v - p.score_threshold);
+        s += v - p.score_threshold;
         if s < 0.0 {
             return false;
         }

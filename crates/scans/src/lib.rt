@@ -30,7 +30,7 @@ pub use limits::{drop_limit, is_usual, max_test};
 pub use queue::ring_index;
 pub use run::{Ring, Setup};
 
-// The numbers that a run goes by.
+// The numbers that a run goes by. Any make one: that k is at most 12 and the window at most 65,535 is asked by the calls that need it.
 #[derive(Clone, Copy)]
 pub struct Params {
     pub kmer: usize,

@@ -12,10 +12,7 @@ use crate::Params;
 pub fn drop_limit(xdrop: Option<u32>, window: u32, threshold: f64) -> f64
     ensures { result ≡ drop_limit xdrop window threshold }
 {
-    match xdrop {
-        None => threshold * (window as f64),
-        Some(l) => threshold * (l as f64),
-    }
+    threshold * (xdrop.unwrap_or(window) as f64)
 }
 
 // How many entries the back check reads, from the filled tables; 0 where no sum of theirs is above 0.
@@ -27,7 +24,7 @@ pub fn max_test(ln: &[f64], f: &[f64], window: u32, threshold: f64) -> i32
     let mut s = 0.0f64;
     for i in 1..window + 1 {
         let at = i as usize;
-        s = s + (ln[at] - threshold);
+        s += ln[at] - threshold;
         if s - f[at] > 0.0 {
             return floats::to_i32((i as f64) * ln[at] / threshold);
         }
@@ -45,7 +42,7 @@ pub fn is_usual(ln: &[f64], f: &[f64], w: usize) -> bool
     let mut step = f[1];
     for m in 1..w {
         let next = f[m + 1] - f[m];
-        ok = ok & ((ln[m] <= ln[m + 1]) & (step <= next));
+        ok &= (ln[m] <= ln[m + 1]) & (step <= next);
         step = next;
     }
     ok

@@ -4,7 +4,8 @@ use mathlib.Core.Bool.{Bool, true, false, cond}
 use mathlib.Core.List.{List, [], ◌∷◌}
 use Prim.Native.Nat.{ℕ, zero, suc, ◌^◌, ◌<◌, ◌≤◌}
 use native.Mathlib.Omega.{arith}
-use lib.ListN.{length, get_or}
+use lib.ListN.{length, get_or, take}
+use lib.Seq.{get_or-take, length-take-le}
 use lib.Dec.{eqb}
 use Rattle.letters.specs.Place.{Place}
 use Rattle.scans.specs.declared.Params.{Params}
@@ -16,7 +17,7 @@ use Rattle.scans.specs.Counts.{cleared}
 use Rattle.scans.specs.Scans.{none, Outcome, Candidate, no_candidate, backward_start, Backward, backward_from, with_best, try_from, tried, dust_backward}
 use Rattle.scans.specs.Terms.Window.{Windowed}
 use Rattle.scans.specs.Terms.Parts.{Ringed}
-use Rattle.search.specs.Terms.Search.{candidates_in, to_try, ScansBackward, HoldsCandidates}
+use Rattle.search.specs.Terms.Search.{no_position, candidates_in, to_try, ScansBackward, HoldsCandidates}
 use Rattle.search.specs.Terms.Carry.{Answers}
 use Rattle.search.proofs.Noting.{AllBelow}
 use Rattle.scans.proofs.Walk.{windowed_queued}
@@ -40,17 +41,21 @@ to_tried S q b r counts t = go (eqb b.found 0) (with_best b.best b.found b.candi
     go true cs a = a
     go false cs a = a
 
--- What the slice holds can be tried.
-pub all_held : (S : Setup) (q : List Place) (len n : ℕ) (r : Searched) (counts : List ℕ) (records : List ForwardPosition) → ScansBackward S q r counts (candidates_in n records) → length q ≡ len → 0 < len → len ≤ length records → HoldsCandidates len n records
+-- What the front of the slice holds can be tried.
+pub all_held : (S : Setup) (q : List Place) (len n : ℕ) (r : Searched) (counts : List ℕ) (records : List ForwardPosition) → ScansBackward S q r counts (candidates_in n records) → length q ≡ len → 0 < len → len ≤ length records
+    → (n ≤ length records) × HoldsCandidates len (take n records)
 all_held S q len n r counts records h l some room =
     let k = candidates_length n records in
     let fit : (length (candidates_in n records) ≤ length q) × AllBelow (length q) (candidates_in n records) = rw h.all (to_try_fit S q (omega arith)) in
-    record {
-      room = omega (arith, fit.0);
-      inside = λ j m.
-          let e = ap (λ (c : Candidate). c.place) (candidates_at n records j m) in
-          omega (arith, e, below_at (length q) (candidates_in n records) j fit.1 (omega arith));
-    }
+    let in_room : n ≤ length records = omega (arith, fit.0) in
+    let t = length-take-le n records in_room in (
+      in_room,
+      record {
+        inside = λ j m.
+            let e = ap (λ (c : Candidate). c.place) (candidates_at n records j (omega arith)) in
+            rw (get_or-take n records j no_position (omega arith)) (omega (arith, e, below_at (length q) (candidates_in n records) j fit.1 (omega arith)));
+      },
+    )
 
 -- The outcome of all tries is the definition's, but for counts that a search without a find leaves.
 pub answers_tried : (S : Setup) (q : List Place) (n : ℕ) (s : Searched) (counts₁ : List ℕ) (cs : List Candidate) → ScansBackward S q s counts₁ cs → length cs ≡ n → (r : Scanned) (counts : List ℕ)

@@ -6,8 +6,8 @@ use Prim.Native.Nat.{ℕ, zero, suc, ◌+◌, ◌<◌, ◌≤◌}
 use native.Mathlib.Nat.{eq-or-lt_of_le}
 use native.Mathlib.Numerals.{add-one}
 use native.Mathlib.Omega.{arith}
-use lib.ListN.{length, get_or, set, length-append, get_or-append}
-use lib.Seq.{get_or_at, get_or-set_same, get_or-set_other}
+use lib.ListN.{length, get_or, set, take, length-append, get_or-append}
+use lib.Seq.{get_or_at, get_or-set_same, get_or-set_other, get_or-take}
 use Rattle.scans.specs.declared.ForwardPosition.{ForwardPosition}
 use Rattle.scans.specs.Scans.{Candidate, no_candidate}
 use Rattle.search.specs.Terms.Search.{candidate_of, no_position, candidates_in}
@@ -28,6 +28,13 @@ candidates_at (suc n) records j h = go (eq-or-lt_of_le (let l : j ≤ n = omega 
         get_or_at (candidates_in n records) (candidate_of (get_or records n no_position)) [] no_candidate j (candidates_length n records ∙ sym e)
         ∙ ap (λ (z : ℕ). candidate_of (get_or records z no_position)) (sym e)
     go (inr l) later = get_or-append (candidates_in n records) (candidate_of (get_or records n no_position) ∷ []) no_candidate j (omega (arith, candidates_length n records)) ∙ later l
+
+-- The front of the slice holds them too.
+pub candidates_front : (n m : ℕ) (records : List ForwardPosition) → n ≤ m → candidates_in n (take m records) ≡ candidates_in n records
+unfolding candidates_in
+candidates_front zero m records h = refl
+candidates_front (suc n) m records h =
+    ap₂ (λ (l : List Candidate) (x : ForwardPosition). l ++ candidate_of x ∷ []) (candidates_front n m records (omega arith)) (get_or-take m records n no_position (omega arith))
 
 -- A store past them leaves them alone.
 candidates_kept : (n m : ℕ) (records : List ForwardPosition) (c : ForwardPosition) → n ≤ m → candidates_in n (set records m c) ≡ candidates_in n records

@@ -58,7 +58,7 @@ impl Search {
             pos: (found - 1) as u32,
             max_score: self.scan.best,
         };
-        self.noted = self.noted + 1;
+        self.noted += 1;
         self.last = last;
         self.fresh = true;
         self
@@ -154,19 +154,18 @@ pub fn scan_backward(
 pub fn try_candidates(
     setup: &Setup,
     ring: &Ring,
-    noted: usize,
     candidates: &[ForwardPosition],
     scan_counts: &mut [u16],
 ) -> Scanned
     requires tables_reach { TablesReach setup.now ring.now (length scan_counts.old) }
     requires scan_counts_value { scan_counts.old ≡ replicate (4 ^ setup.now.params.kmer) 0 }
-    requires holds_candidates { HoldsCandidates ring.now.len noted candidates.now }
+    requires holds_candidates { HoldsCandidates ring.now.len candidates.now }
     ensures { let S = as_setup setup.now in let q = entries_of ring.now in
-        (before : List ℕ) → Answers S q (try_from S q (candidates_in noted candidates.now) noted 0 before) result
+        (before : List ℕ) → Answers S q (try_from S q (candidates_in (length candidates.now) candidates.now) (length candidates.now) 0 before) result
         scan_counts.new }
 {
     let mut furthest = 0;
-    for i in (0..noted).rev() {
+    for i in (0..candidates.len()).rev() {
         let c = candidates[i];
         let place = c.pos as usize;
         if place + 1 < furthest {

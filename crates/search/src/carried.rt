@@ -28,8 +28,8 @@ impl Carry {
     {
         Self {
             on: true,
-            s: s,
-            best: best,
+            s,
+            best,
             certificate: None,
         }
     }
@@ -49,12 +49,13 @@ impl Carry {
             → CarriesOn (as_setup setup.now) q₀ e start self result scan_counts.old
             scan_counts.new }
     {
+        // A `match`: the closure of `and_then` would have `next`'s contract written out again.
         self.certificate = match self.certificate {
             Some(certificate) => certificate.next(setup, ring, window_counts, scan_counts),
             None => None,
         };
         let v = count_entry(scan_counts, setup.ln, ring.newest());
-        self.s = self.s + (v - setup.params.score_threshold);
+        self.s += v - setup.params.score_threshold;
         let sl = self.s - setup.f[ring.len - start];
         if self.best <= sl {
             self.best = sl;
@@ -74,7 +75,7 @@ impl Carry {
         let sl = s - setup.f[l];
         Self {
             on: sl >= self.best,
-            s: s,
+            s,
             best: sl,
             certificate: None,
         }

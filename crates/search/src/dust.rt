@@ -62,7 +62,8 @@ pub fn dust_backward(
             read: read_in_vain(noted, low, ring.len),
         };
     }
-    let tried = try_candidates(setup, ring, noted, candidates, scan_counts);
+    let to_try = &candidates[..noted];
+    let tried = try_candidates(setup, ring, to_try, scan_counts);
     Answered {
         scanned: tried,
         read: 0,

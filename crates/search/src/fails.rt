@@ -36,7 +36,7 @@ fn newest_fall_short(
     for i in (newest + 1..ring.len).rev() {
         let entry = ring.queue[ring.index(i)];
         let v = window_value(scan_counts, ln, entry);
-        sum = sum + (v - t);
+        sum += v - t;
         if sum < whole - f[i - newest] - DISTANCE {
             return true;
         }

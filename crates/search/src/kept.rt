@@ -39,9 +39,9 @@ impl Certificate {
             return Some(Self {
                 left: self.left - 1,
                 near: self.near + 1,
-                h: h,
-                u: u,
-                gap: gap,
+                h,
+                u,
+                gap,
             });
         }
         None

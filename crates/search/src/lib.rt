@@ -22,7 +22,8 @@ pub use dust::dust_backward;
 pub use kept::DISTANCE;
 
 // The sum and the best score of the last find's forward scan, carried on to the newest entry while `on`, with a certificate of its start, if there is one.
-// `on` is a flag: as an Option, random letters took a tenth longer and E. coli 7 %.
+// `on` is a flag: as an Option, random letters take a tenth longer and E. coli 7 %.
+// The entry where it starts is no field: that is last_q, which the window has.
 #[derive(Clone, Copy)]
 pub struct Carry {
     pub on: bool,
@@ -54,7 +55,7 @@ pub struct Scanned {
     pub carry: Carry,
 }
 
-// The same, and how many entries the search has read where it noted no candidate, else 0.
+// The same, and how many entries the search has read where it noted no candidate, else 0: a count, too small to be worth more than none.
 #[derive(Clone, Copy)]
 pub struct Answered {
     pub scanned: Scanned,

@@ -11,10 +11,8 @@ ghost use Rattle.checks.specs.Refusal.{number_of};
 ghost use Rattle.short_sequences.specs.Terms.Outcome.{letter_at, Filled, Short, outcome_of, counted, one_if_refused};
 
 use checks::{Refusal, below_sum};
-use intervals::{Interval, MarksOut};
+use intervals::Interval;
 use longdust::{LongdustOptions, Tables};
-use mask::Workspace;
-use scans::ForwardPosition;
 
 // The most letters, and room for what their runs need.
 pub const MOST_LETTERS: usize = 8;
@@ -55,6 +53,7 @@ fn count_sequences(m: usize) -> usize
 }
 
 // Fills the slice with the sequence of that index among all of its size: the index in base five.
+// The bound on the letters is asked here and below and is of no type: they are a slice, which `longdust` takes as it is.
 fn write_letters(index: usize, letters: &mut [u8])
     requires letters_len_bound { length letters.old ≤ 8 }
     requires index_bound { index < 5 ^ length letters.old }
@@ -81,9 +80,8 @@ fn short_options() -> LongdustOptions
     }
 }
 
-/// Masks the letters by filled tables, in work buffers of its own that have exactly the paper's sizes for 8 letters.
+/// Masks the letters by filled tables, in work buffers that have exactly the paper's sizes for 8 letters.
 /// The intervals go to the front of the list; returns their number.
-// `contig::mask_letters` with buffers of other sizes, which cannot be worked out of a const parameter, and tables that are lent.
 pub fn mask_letters(
     letters: &[u8],
     tables: &Tables,
@@ -95,36 +93,7 @@ pub fn mask_letters(
     ensures shape { OnOk result (Canonical (length letters.now) 1 (mask_of letters.now)) }
     ensures err { OnErr result (list.new ≡ list.old) }
 {
-    let mut queue = [0u32; 8];
-    let mut window_counts = [0u16; 4];
-    let mut scan_counts = [0u16; 4];
-    let mut candidates = [ForwardPosition {
-        pos: 0,
-        max_score: 0.0,
-    }; 8];
-    let mut codes = [0u8; MOST_LETTERS];
-    let mut reverse_codes = [0u8; MOST_LETTERS];
-    let mut forward_list = [Interval { start: 0, end: 0 }; LIST_ROOM];
-    let mut reverse_list = [Interval { start: 0, end: 0 }; LIST_ROOM];
-    let mut marks = [0u8; LIST_ROOM];
-    let mut work = Workspace {
-        queue: &mut queue,
-        window_counts: &mut window_counts,
-        scan_counts: &mut scan_counts,
-        candidates: &mut candidates,
-        reverse_codes: &mut reverse_codes,
-        forward_list: &mut forward_list,
-        reverse_list: &mut reverse_list,
-    };
-    let mut out = MarksOut {
-        list,
-        marks: &mut marks,
-    };
-    let options = short_options();
-    let answer = longdust::process_tables(
-        letters, options, tables, &mut codes, &mut work, &mut out,
-    )?;
-    Ok(answer.count)
+    longdust::process_in::<8, 4, MOST_LETTERS, LIST_ROOM>(letters, short_options(), tables, list)
 }
 
 // How many of n letters a mask covers.
@@ -140,6 +109,7 @@ fn count_letters(list: &[Interval], n: usize) -> usize
 }
 
 // How many letters the run masks; none if the letters are refused.
+// A `match`: with `ok`, its two cases would be told apart again in the proof.
 fn run_letters(letters: &[u8], tables: &Tables) -> Option<usize>
     requires letters_len_bound { length letters.now ≤ 8 }
     requires filled { Filled tables.now.ln.now tables.now.f.now }

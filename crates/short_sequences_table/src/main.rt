@@ -21,10 +21,8 @@ fn print_line(rt: &impl Print, m: usize, refused: u32, tallies: &[u32]) -> io::R
 fn main(rt: HostRuntime) -> io::Result<()> {
     for m in 1..=short_sequences::MOST_LETTERS {
         let mut tallies = [0u32; 9];
-        let refused = match short_sequences::short_sequences(m, &mut tallies) {
-            Ok(tallied) => tallied.refused,
-            Err(_) => 0,
-        };
+        let tallied = short_sequences::short_sequences(m, &mut tallies);
+        let refused = tallied.map_or(0, |tallied| tallied.refused);
         print_line(&rt, m, refused, &tallies[..m + 1])?;
     }
     Ok(())

@@ -1,33 +1,31 @@
--- What the filling call says of its mask, and the call on filled tables of a run in the work space.
+-- What the filling call says of its mask, and what is written of the list that a run leaves.
 use Prim.Native.Nat.{ℕ, ◌+◌, ◌*◌, ◌≤◌}
-use mathlib.Core.Path.{◌≡◌, ap, ap₂, subst, ◌∙◌}
+use mathlib.Core.Path.{◌≡◌, ap, ap₂, ◌∙◌}
 use mathlib.Core.List.{List}
 use Rattle.std.specs.Prelude.{Ok}
 use native.Mathlib.Omega.{arith}
-use lib.ListN.{length, take, replicate, length-take, length-replicate}
+use lib.ListN.{length, take, length-take}
 use lib.Seq.{take_at}
 use lib.Ieee.{Float}
 use Rattle.buffers.specs.Fill.{put}
 use Rattle.checks.specs.Tests.{most_intervals}
 use Rattle.letters.specs.Code.{codes}
 use Rattle.intervals.specs.declared.Interval.{Interval}
-use Rattle.intervals.specs.Interval.{Canonical, Wrote}
 use Rattle.intervals.proofs.Slice.{wrote_list}
 use Rattle.intervals.proofs.Shape.{canonical_room}
 use Rattle.tables.specs.declared.Density.{Density}
 use Rattle.tables.specs.Density.{density}
 use Rattle.tables.specs.Tables.{ln_table, f_table}
 use Rattle.tables.proofs.Tables.{ln_table_length, f_table_length}
-use Rattle.scans.specs.declared.ForwardPosition.{ForwardPosition}
 use Rattle.longdust.specs.declared.LongdustOptions.{LongdustOptions}
 use Rattle.longdust.specs.declared.Answer.{Answer}
 use Rattle.longdust.specs.Mask.{mask}
-use Rattle.longdust.specs.Buffers.{Buffers, buffers, lengths}
-use Rattle.longdust.specs.Call.{ln_read, f_read, listed, Kept, Filled, Answered}
+use Rattle.longdust.specs.Buffers.{Buffers}
+use Rattle.longdust.specs.Call.{ln_read, f_read, listed, Filled, Answered}
 use Rattle.small.specs.Bytes.{bytes_of}
 use Rattle.small.specs.Profile.{refusal as small_refusal}
 use Rattle.small.specs.Call.{filled_mask}
-use Rattle.small.specs.Terms.Run.{lent, Asked, Serve, Ran}
+use Rattle.small.specs.Terms.Run.{Ran}
 use Rattle.small.proofs.Profile.{list_room_lem, output_room}
 
 -- The mask by the tables that the filling call fills, whatever its buffers are.
@@ -48,47 +46,6 @@ module _ (o : LongdustOptions) (s : List ℕ) {b b' : Buffers} {a : Answer} (A :
 
   pub mask_counted : a.count ≡ length (filled_mask o s)
   mask_counted = A.accepted.buffers.list.count_is ∙ ap length mask_read
-
--- The run in the work space, on tables that serve it, is not refused.
-module _ {o : LongdustOptions} {s : List ℕ} (q : Asked o s) {b b' : Buffers} (e : lengths b ≡ lent) where
-  module _ {a : Answer} (A : Answered Kept o s b b' (Ok a)) (t : Serve o s b.ln b.f) where
-    mask_served : mask o s (ln_read o b') (f_read o b') ≡ filled_mask o s
-    mask_served =
-        let w = o.window_size in
-        let kept = A.tables in
-        ap₂ (λ (ln f : List Float). mask o s (take (w + 1) ln) (take (w + 2) f)) kept.ln kept.f ∙ t.same_mask
-
-    ran_lent : Ran o s b.list b'.list a.count
-    ran_lent =
-        let list : Wrote (filled_mask o s) b.list b'.list a.count = rw mask_served at A.accepted.buffers.list in
-        record { list = list; shape = subst (λ (is : List Interval). Canonical (length s) o.kmer is) (wrote_list list) A.accepted.shape }
-
--- The work space before the run, whatever the tables, the candidates and the lists are.
-abbrev fresh : List Float → List Float → List ForwardPosition → List Interval → List Interval → List Interval → Buffers
-fresh ln f candidates forward_list reverse_list list =
-    buffers
-    ln
-    f
-    (replicate 4096 0)
-    (replicate 4096 0)
-    (replicate 4096 0)
-    candidates
-    (replicate 4096 0)
-    (replicate 4096 0)
-    forward_list
-    reverse_list
-    list
-    (replicate 2048 0)
-
-module _ (ln f : List Float) (cs : List ForwardPosition) (fl rl xs : List Interval) (ll : length ln ≡ 4097) (lf : length f ≡ 4098) (lc : length cs ≡ 4096)
-    (lfl : length fl ≡ 2048) (lrl : length rl ≡ 2048) (lx : length xs ≡ 2048) where
-  fresh_lent : lengths (fresh ln f cs fl rl xs) ≡ lent
-  fresh_lent = simp (length-replicate, ll, lf, lc, lfl, lrl, lx)
-
-  module _ {o : LongdustOptions} {s : List ℕ} {b' : Buffers} (q : Asked o s) where
-    pub ran : Serve o s ln f → {a : Answer} {xs' : List Interval} → Answered Kept o s (fresh ln f cs fl rl xs) b' (Ok a) → b'.list ≡ xs'
-        → Ran o s xs xs' a.count
-    ran t {a} A h = subst (λ (z : List Interval). Ran o s xs z a.count) h (ran_lent q fresh_lent A t)
 
 -- An accepted request of the profile: the list that the run leaves, and what is written of it.
 module _ {o : LongdustOptions} {s : List ℕ} {xs xs' : List Interval} {count : ℕ} (run : Ran o s xs xs' count) (room : ℕ) (e : small_refusal o s room ≡ 0) where

@@ -14,10 +14,8 @@ ghost use Rattle.small.specs.Terms.Run.{Asked, Serve, Ran};
 mod quiet;
 
 use checks::{Refusal, check_sequence, min_start_below, threshold_bad};
-use intervals::{Interval, MarksOut};
+use intervals::Interval;
 use longdust::{LongdustOptions, Tables};
-use mask::Workspace;
-use scans::ForwardPosition;
 use tables::GcOption;
 
 // The profile's bounds, and the most intervals that its letters can have.
@@ -123,8 +121,7 @@ fn fill_read(letters: &[u8], options: LongdustOptions, ln: &mut [f64], f: &mut [
     tables::fill_uniform(ln, f, k, w);
 }
 
-// Masks the letters in work buffers of its own; the intervals go to the front of the list. Answers how many there are.
-// `contig::mask_letters` with buffers of other sizes, which cannot be worked out of a const parameter, and tables filled as far as they are read.
+// Masks the letters by tables of its own, filled as far as they are read; the intervals go to the front of the list. Answers how many there are.
 pub fn mask_letters(letters: &[u8], options: LongdustOptions, list: &mut [Interval]) -> usize
     requires asked { Asked options letters.now }
     requires list_len { length list.old ≡ 2048 }
@@ -132,40 +129,11 @@ pub fn mask_letters(letters: &[u8], options: LongdustOptions, list: &mut [Interv
 {
     let mut ln = [0.0f64; 4097];
     let mut f = [0.0f64; 4098];
-    let mut queue = [0u32; MOST_WINDOW];
-    let mut window_counts = [0u16; 4096];
-    let mut scan_counts = [0u16; 4096];
-    let mut candidates = [ForwardPosition {
-        pos: 0,
-        max_score: 0.0,
-    }; 4096];
-    let mut codes = [0u8; MOST_LETTERS];
-    let mut reverse_codes = [0u8; MOST_LETTERS];
-    let mut forward_list = [Interval { start: 0, end: 0 }; LIST_ROOM];
-    let mut reverse_list = [Interval { start: 0, end: 0 }; LIST_ROOM];
-    let mut marks = [0u8; LIST_ROOM];
     fill_read(letters, options, &mut ln, &mut f);
     let tables = Tables { ln: &ln, f: &f };
-    let mut work = Workspace {
-        queue: &mut queue,
-        window_counts: &mut window_counts,
-        scan_counts: &mut scan_counts,
-        candidates: &mut candidates,
-        reverse_codes: &mut reverse_codes,
-        forward_list: &mut forward_list,
-        reverse_list: &mut reverse_list,
-    };
-    let mut out = MarksOut {
-        list,
-        marks: &mut marks,
-    };
-    let answer = longdust::process_tables(
-        letters, options, &tables, &mut codes, &mut work, &mut out,
-    );
-    match answer {
-        Ok(mask) => mask.count,
-        Err(_) => 0,
-    }
+    longdust::process_in::<MOST_WINDOW, 4096, MOST_LETTERS, LIST_ROOM>(
+        letters, options, &tables, list,
+    ).unwrap_or(0)
 }
 
 /// Writes the mask of the sequence to the front of `out`, each interval as its start and its end, four bytes each, lowest first.

@@ -23,7 +23,7 @@ use Rattle.scans.specs.Counts.{count, raise, lower}
 use Rattle.scans.specs.Terms.Window.{queue, ring_index, window, raised_count, Windowed}
 use Rattle.scans.proofs.Counting.{Counted, hit_self, count_le, raise_counted, lower_counted}
 use Rattle.scans.proofs.Rings.{ring_index_at, queue_length, queue_join, queue_leave, window_join, window_leave, window_length}
-use Rattle.scans.proofs.Values.{decode_below, decoded_below, even_plain, odd_ambiguous, entry_plain, counts_entry}
+use Rattle.scans.proofs.Values.{decode_below, decoded_below, entry_plain, count_raised, counts_entry}
 use Rattle.scans.proofs.Windows.{long}
 use Rattle.step.specs.Step.{sum_without, sum_with, last_q_without, without_oldest, leave, join}
 use Rattle.step.specs.declared.window.Window.{Window}
@@ -42,9 +42,9 @@ module _ (S : Setup) (counts : List ℕ) (q : List Place) (c : (x : ℕ) → get
   more_is (plain x) = ap (λ (n : ℕ). sum ⊕ get_or S.ln n nan) (c x)
 
 -- An entry whose raised count is c joins.
-pub more_plain : (ln : List Float) (counts : List ℕ) (sum : Float) (e c : ℕ) → raised_count counts (decode e) ≡ Some c → e / 2 < length counts
+pub more_plain : (ln : List Float) (counts : List ℕ) (sum : Float) (e c : ℕ) → Some c ≡ raised_count counts (decode e) → e / 2 < length counts
     → sum ⊕ get_or ln c nan ≡ sum_more ln (raise counts (decode e)) sum (decode e)
-more_plain ln counts sum e c r h = rw ((counts_entry ln counts e c r h).value_is, entry_plain ln counts e c r)
+more_plain ln counts sum e c r h = rw ((counts_entry counts e c r ln h).value_is, entry_plain counts e c r)
 
 -- ---- The places of a queue.
 queue_less : (ring : List ℕ) (head n len : ℕ) → n ≤ len → queue ring head n ≡ take n (queue ring head len)
@@ -253,5 +253,5 @@ module _ {p : Params} {ln : List Float} {a : Window} {ring counts counts' : List
         live_is = refl;
       }
 
--- The laws by which `sum_without`, `sum_with`, `is_searched` are proved.
-pub ruleset by_lowest_bit = (even_plain, odd_ambiguous)
+-- The laws by which `sum_with` is proved.
+pub ruleset joining = (count_raised, more_plain)

@@ -24,23 +24,14 @@ fn first_letter(i: usize, len: usize, r: usize, k: usize) -> i64
 {
     let past = i + r + 1;
     let before = len + k;
-    if past < before {
-        return 0;
-    }
-    (past - before) as i64
+    past.saturating_sub(before) as i64
 }
 
 // The start after a find from letter s on.
 fn start_after(start: i64, end: i64, s: i64) -> i64
     ensures { result ≡ start_after start end s }
 {
-    if s < end {
-        if s < start {
-            return s;
-        }
-        return start;
-    }
-    s
+    if s < end { s.min(start) } else { s }
 }
 
 impl Open {

@@ -6,6 +6,8 @@
 // | a turn of its loop up to the new entry | state: `State::enter`, with window: `Window::make_room` and `Window::join` |
 // | the tests before a search | state: `State::is_searched`, `State::look` |
 // | what follows a search | state: `State::passed`, `State::extended`, `State::answered` |
+//
+// The queue and both kinds of counts go side by side through these functions, and those of `strand`: each says by its types which of the three it may write.
 
 #![tactic(auto)]
 

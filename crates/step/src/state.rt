@@ -15,10 +15,12 @@ ghost use Rattle.step.specs.Terms.Finding.{saved_in, Saving, TakesFind, PassedOn
 use crate::hand::Open;
 use crate::window::{Window, is_at};
 use intervals::Interval;
+use letters::kmer_of;
 use scans::Setup;
 
 // What moves on letter by letter: the next letter i, the k-mer of the letters read, the window, and the interval in hand.
 // At letter i itself, once that has entered the window, the k-mer is that of letter i.
+// That i is below 2^31 each step asks: it is so of a sequence's letters, which are lent.
 #[derive(Clone, Copy)]
 pub struct State {
     pub kmer: letters::Kmer,
@@ -93,16 +95,14 @@ impl State {
     }
 
     // Whether letter i is searched from: its place is plain, and its count at least min_start_cnt.
-    #[tactic(auto, using(crate::proofs::Moving::by_lowest_bit))]
     pub fn is_searched(self, setup: &Setup, window_counts: &[u16]) -> bool
         requires { (self.kmer.value < 16777216) × (entry_of setup.now.params.kmer self.kmer / 2 < length window_counts.now) }
         ensures { result ≡ is_searched setup.now.params.min_start_cnt window_counts.now (newest_of setup.now.params self) }
     {
         let entry = self.kmer.entry(setup.params.kmer);
-        if entry & 1 != 0 {
+        let Some(kmer) = kmer_of(entry) else {
             return false;
-        }
-        let kmer = (entry >> 1) as usize;
+        };
         window_counts[kmer] >= setup.params.min_start_cnt
     }
 

@@ -12,6 +12,7 @@ ghost use Rattle.step.specs.Terms.KnownCounts.{Passing, Passes, Clearing, extend
 ghost use Rattle.step.specs.Terms.Entering.{sum_less, sum_more, Left, Joined};
 ghost use Rattle.step.specs.Terms.Finding.{last_q_by};
 
+use letters::kmer_of;
 use scans::{Ring, Setup};
 
 // The window's float sum, last_q, and where its entries stand in the queue: `len` of them, the oldest at `head`.
@@ -30,24 +31,22 @@ pub struct Window {
 
 // The sum without an entry that leaves: if plain, the ln entry of its count leaves the sum, and the count falls.
 // Not by `scans::lower_entry`, which tests for a count of 0 and does not tell the count that it lowers.
-#[tactic(auto, using(crate::proofs::Moving::by_lowest_bit))]
 fn sum_without(sum: f64, entry: u32, ln: &[f64], counts: &mut [u16]) -> f64
     requires { (entry / 2 < length counts.old) × (get_or counts.old (entry / 2) 0 < length ln.now)
         × (decode entry ≡ plain (entry / 2) → 0 < get_or counts.old (entry / 2) 0) }
     ensures { (result ≡ sum_less ln.now counts.old sum (decode entry))
         × (counts.new ≡ lower counts.old (decode entry)) }
 {
-    if entry & 1 != 0 {
+    let Some(kmer) = kmer_of(entry) else {
         return sum;
-    }
-    let kmer = (entry >> 1) as usize;
+    };
     let c = counts[kmer];
     counts[kmer] = c - 1;
     sum - ln[c as usize]
 }
 
 // The sum with an entry that joins: if plain, its count rises, and the ln entry of the count is added.
-#[tactic(auto, using(crate::proofs::Moving::by_lowest_bit))]
+#[tactic(auto, using(crate::proofs::Moving::joining))]
 fn sum_with(sum: f64, entry: u32, ln: &[f64], counts: &mut [u16]) -> f64
     requires { (entry / 2 < length counts.old) × (get_or counts.old (entry / 2) 0 < 65535)
         × (get_or counts.old (entry / 2) 0 + 1 < length ln.now) }
@@ -92,11 +91,7 @@ impl Window {
     pub fn last_q_index(self) -> usize
         ensures { result ≡ whole self.last_q }
     {
-        let last_q = self.last_q;
-        if last_q < 0 {
-            return 0;
-        }
-        last_q as usize
+        self.last_q.max(0) as usize
     }
 
     // The oldest entry leaves a full queue; last_q = 0 lowers its scan count, unless all are 0, and ends a carried scan, which began there.

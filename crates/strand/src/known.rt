@@ -46,7 +46,7 @@ pub fn renewed(
     }
     let starts = certificates::find_low(setup, r.read, ring, window_counts, scan_counts)?;
     Some(LowSince {
-        starts: starts,
+        starts,
         made: i + 1,
     })
 }

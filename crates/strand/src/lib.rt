@@ -71,18 +71,15 @@ fn until_scan(
                 match foretell(setup, st, from.low, queue, window_counts, scan_counts) {
                     Some(r) => {
                         st = st.answered(setup, r, list);
-                        continue;
                     }
                     None => return st,
                 }
             }
             Look::Extension => {
                 st = st.extended(setup, list);
-                continue;
             }
             Look::Pass => {
                 st = st.passed(setup, queue, window_counts, scan_counts);
-                continue;
             }
         }
     }

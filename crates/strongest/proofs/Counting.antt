@@ -26,7 +26,6 @@ use Rattle.strongest.specs.Terms.Reading.{back, back_to, cleared_at}
 use Rattle.strongest.specs.Terms.Places.{Known, Adds}
 use Rattle.strongest.proofs.Largest.{largest_at}
 use Rattle.strongest.proofs.Backward.{back_length}
-use Rattle.scans.proofs.Values.{even_plain, odd_ambiguous}
 
 -- ---- An entry set to 0.
 zero_same : (l : List ℕ) (i : ℕ) → ◌≡◌ {A = ℕ} (get_or (set l i 0) i 0) 0
@@ -120,9 +119,6 @@ module _ (p : Places) where
             value_is = sums_cons (entry ln) (4 ^ k) before here below ∙ ap (λ (z : ℤ). ln_sums (entry ln) (4 ^ k) before +ℤ z) (value here refl).0;
             value_small = (value here refl).1;
           })
-
--- The laws by which `clear_entry` is proved.
-pub ruleset entries = (even_plain, odd_ambiguous)
 
 -- The laws by which `clear_counts` is proved.
 pub ruleset clearing = (cleared_none, cleared_more, cleared_known)

@@ -74,13 +74,11 @@ fn last_entry(letters: &[u8], kmer: usize) -> u32
 }
 
 // Sets the count of an entry's k-mer to 0.
-#[tactic(auto, using(crate::proofs::Counting::entries))]
 fn clear_entry(counts: &mut [u16], entry: u32)
     requires { entry / 2 < length counts.old }
     ensures { counts.new ≡ cleared_at counts.old (decode entry) }
 {
-    if entry & 1 != 0 {
-        return;
+    if let Some(kmer) = letters::kmer_of(entry) {
+        counts[kmer] = 0;
     }
-    counts[(entry >> 1) as usize] = 0;
 }

@@ -41,11 +41,11 @@ ln_taken w ln holds = omega (arith, ap length holds, ln_table_length w)
 pub ln_lent : (w v : ℕ) (entries : List Float) → entries ≡ ln_table w → v ≡ length entries - 1 → entries ≡ ln_table v
 ln_lent w v entries e g = e ∙ ap ln_table (let h : w ≡ v = omega (arith, ap length e, ln_table_length w) in h)
 
-pub ln_entry : (ln : List Float) (n : ℕ) → ln ≡ ln_table (length ln - 1) → n < length ln → get_or ln n nan ≡ ln_of (number n)
+pub ln_entry : (ln : List Float) (n : ℕ) (x : Float) → ln ≡ ln_table (length ln - 1) → n < length ln → get_or ln n x ≡ ln_of (number n)
 unfolding ln_table
-ln_entry ln n e h =
+ln_entry ln n x e h =
     let w = length ln - 1 in
-    ap (λ (l : List Float). get_or l n nan) e ∙ tabulate_at (λ (n : ℕ). ln_of (number n)) (w + 1) n nan (omega arith)
+    ap (λ (l : List Float). get_or l n x) e ∙ tabulate_at (λ (n : ℕ). ln_of (number n)) (w + 1) n x (omega arith)
 
 -- ---- buffers filled entry by entry
 module _ (f : ℕ → Float) (n : ℕ) (d l : List Float) (i : ℕ) (v : Float) (inside : i < n) (fits : n ≤ length d) where

@@ -22,11 +22,9 @@ impl<'a> LnTable<'a> {
     fn at(self, n: u32) -> f64
         ensures { result ≡ ln_of (number n) }
     {
-        let at = n as usize;
-        if at < self.entries.len() {
-            self.entries[at]
-        } else {
-            logarithm::ln(n as f64)
+        match self.entries.get(n as usize) {
+            Some(entry) => *entry,
+            None => logarithm::ln(n as f64),
         }
     }
 }

@@ -1,5 +1,5 @@
 // The two tables of a run: ln n, and the score f that a window of each length has by chance.
-// Both follow the paper's formulas bit for bit.
+// Both follow the paper's formulas bit for bit. Each function asks room for them of the slices that it is lent.
 
 #![tactic(auto)]
 

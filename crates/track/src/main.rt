@@ -3,7 +3,7 @@
 
 #![tactic(auto)]
 
-ghost use Rattle.std.specs.Prelude.{ℕ, ◌≤◌, ◌≡◌, List, length, OnOk};
+ghost use Rattle.std.specs.Prelude.{ℕ, ◌≡◌, List, length, OnOk};
 ghost use Rattle.std.specs.Io.KnownBytes.{Consumes};
 ghost use Rattle.report.specs.Terms.Held.{Held};
 ghost use Rattle.contig.specs.Run.{letters_room};
@@ -20,7 +20,6 @@ fn read_letters<R: Read>(reader: &mut R, letters: &mut Text) -> Result<()>
     requires { length letters.old.bytes.now ≡ letters_room }
     ensures held { OnOk result ((bytes : List ℕ) × Consumes (R.remaining reader.old) (R.remaining reader.new) bytes
         × Held bytes letters.new.bytes.now letters.new.len) }
-    ensures len_le_letters_room { OnOk result (letters.new.len ≤ letters_room) }
     ensures room { OnOk result (length letters.new.bytes.now ≡ letters_room) }
 {
     let mut block = [0u8; BLOCK];
@@ -45,14 +44,8 @@ fn read_letters<R: Read>(reader: &mut R, letters: &mut Text) -> Result<()>
 fn main(rt: HostRuntime) {
     let mut letters = [0u8; contig::LETTERS_ROOM];
     let mut text = [0u8; contig::TEXT_ROOM];
-    let mut letters = Text {
-        bytes: &mut letters,
-        len: 0,
-    };
-    let mut text = Text {
-        bytes: &mut text,
-        len: 0,
-    };
+    let mut letters = Text::new(&mut letters);
+    let mut text = Text::new(&mut text);
     match read_letters(&mut rt.stdin(), &mut letters) {
         Ok(()) => {
             contig::write_held(&letters, &mut text);

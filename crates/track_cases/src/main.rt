@@ -7,10 +7,7 @@ use std::io;
 
 fn print_text(rt: &impl Print, bytes: &[u8]) -> io::Result<()> {
     let mut text = [0u8; contig::TEXT_ROOM];
-    let mut text = Text {
-        bytes: &mut text,
-        len: 0,
-    };
+    let mut text = Text::new(&mut text);
     contig::write_text(bytes, &mut text);
     rt.write_all(text.written())
 }

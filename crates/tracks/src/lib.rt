@@ -51,22 +51,19 @@ struct Side {
 fn side_at(list: &[Interval], i: usize, at: u32, n: u32) -> Side
     ensures { result ≡ side_of n (drop i list.now) at }
 {
-    if list.len() <= i {
-        return Side {
+    match list.get(i) {
+        None => Side {
             covers: false,
             until: n,
-        };
-    }
-    let start = list[i].start;
-    if at < start {
-        return Side {
+        },
+        Some(next) if at < next.start => Side {
             covers: false,
-            until: start,
-        };
-    }
-    Side {
-        covers: true,
-        until: list[i].end,
+            until: next.start,
+        },
+        Some(next) => Side {
+            covers: true,
+            until: next.end,
+        },
     }
 }
 
@@ -75,13 +72,10 @@ fn side_at(list: &[Interval], i: usize, at: u32, n: u32) -> Side
 fn ended(list: &[Interval], i: usize, at: u32) -> usize
     ensures { result ≡ i + ended_first (drop i list.now) at }
 {
-    if list.len() <= i {
-        return i;
+    match list.get(i) {
+        Some(next) if next.end <= at => i + 1,
+        _ => i,
     }
-    if list[i].end <= at {
-        return i + 1;
-    }
-    i
 }
 
 // Where a sweep over both lists stands: at a letter, and how many intervals of each end there or before it.
@@ -146,6 +140,7 @@ fn join_lists(kind: Joined, n: u32, ours: &Track, theirs: &[Interval], out: &mut
         ours: 0,
         theirs: 0,
     };
+    // Empty: no interval yet, as the definition has it.
     let mut start = 0;
     let mut end = 0;
     let mut seen: u8 = 0;

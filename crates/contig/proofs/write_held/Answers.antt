@@ -1,10 +1,9 @@
+use mathlib.Core.Path.{ap, ◌∙◌}
 use Rattle.report.proofs.Writing.{adds_as}
+use Rattle.contig.specs.Printed.{printed}
 use Rattle.contig.proofs.Printed.{printed_held}
 use Rattle.contig.proofs.write_held.Goals as goal
 
 -- `write_held` meets its contract: the letters held print what all bytes do.
-pub returns-clause-written : goal.returns-clause-written
-returns-clause-written c =
-    let W = c.write_answer.ensures in
-    let h = c.requires.0 in
-    λ bytes k. adds_as (printed_held h k) W.written
+pub returns : goal.returns
+returns c = λ bytes k. adds_as (ap printed c.written.ensures ∙ printed_held c.requires.room k) c.write_answer.ensures

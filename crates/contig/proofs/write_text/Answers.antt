@@ -3,8 +3,5 @@ use Rattle.report.proofs.Letters.{held_nothing}
 use Rattle.contig.proofs.write_text.Goals as goal
 
 -- `write_text` meets its contract: all bytes are one block.
-pub returns-clause-written : goal.returns-clause-written
-returns-clause-written c =
-    let W = c.write_held.ensures in
-    let K = c.keep_letters.ensures in
-    W.written _ (K.held [] (held_nothing _))
+pub returns : goal.returns
+returns c = c.write_held.ensures _ (c.keep_letters.ensures.held [] (rw c.new-held.ensures.len (held_nothing _)))

@@ -1,8 +1,15 @@
+use mathlib.Core.Path.{◌∙◌}
 use Rattle.contigs_text.proofs.Moving.{go_turn, go_stop}
 use Rattle.contigs_text.proofs.next_part.Goals as goal
 
-pub returns-in_err-at : goal.returns-in_err-at
-returns-in_err-at c = rw c.from_residual.ensures (go_stop c.loop-text.invariant c.in_err-at.ensures)
+pub returns-in_err-at-clause-moved : goal.returns-in_err-at-clause-moved
+returns-in_err-at-clause-moved c = rw c.from_residual.ensures (go_stop c.loop-text.invariant.going c.in_err-at.ensures.moved)
 
 pub loop-text-preserved : goal.loop-text-preserved
-loop-text-preserved c = go_turn c.loop-text.invariant c.in_ok-at.ensures
+loop-text-preserved c =
+    let I = c.loop-text.invariant in
+    let E = c.in_ok-at.ensures in
+    record {
+      going = go_turn I.going E.moved;
+      same = record { letters = E.same.letters ∙ I.same.letters; list = E.same.list ∙ I.same.list };
+    }

@@ -1,9 +1,9 @@
 use Prim.Native.Nat.{◌≤◌}
-use mathlib.Core.Path.{◌≡◌, ◌∙◌}
+use mathlib.Core.Path.{◌≡◌, ap, ◌∙◌}
 use mathlib.Core.List.{[]}
 use native.Mathlib.Omega.{arith}
 use borrow.Author.Rules.{rules}
-use lib.ListN.{length, take}
+use lib.ListN.{length}
 use Rattle.checks.proofs.Refusing.{number_positive}
 use Rattle.report.specs.Letters.{letters_of}
 use Rattle.report.specs.Terms.Held.{Held}
@@ -15,25 +15,22 @@ use Rattle.contigs_text.proofs.open_record.Goals.{After-keep_letters, After-mask
 
 -- What the buffer holds, the letters of the record's lines, and its size.
 held : (c : After-keep_letters) → let h = c.keep_letters.new.self in Held c.args.lines.now h.bytes.now h.len
-held c = c.keep_letters.ensures.held [] (held_nothing c.args.letters.now)
+held c = c.keep_letters.ensures.held [] (rw c.new-held.ensures.len (held_nothing _))
 
 room : (c : After-keep_letters) → length c.keep_letters.new.self.bytes.now ≡ 32769
-room c = c.keep_letters.ensures.room ∙ c.requires.letters_len
-
-inside : (c : After-keep_letters) → let h = c.keep_letters.new.self in h.len ≤ length h.bytes.now
-inside c = c.keep_letters.ensures.prefix_len.0
+room c = c.keep_letters.ensures.room ∙ ap (λ b. length b.now) c.new-held.ensures.bytes ∙ c.args.room.now.letters_len
 
 -- There are few letters of the record, and the run is on them.
 few : (c : After-mask_letters) → length (letters_of c.args.lines.now) ≤ 32768
-few c = let k = (goal.at.After-mask_letters c).After-keep_letters in held_few (held k) (room k) (inside k) (omega arith)
+few c = let k = (goal.at.After-mask_letters c).After-keep_letters in held_few (held k) (room k) k.keep_letters.new.self.len_in (omega arith)
 
-all : (c : After-mask_letters) → let h = c.keep_letters.new.self in take h.len h.bytes.now ≡ letters_of c.args.lines.now
-all c = let k = (goal.at.After-mask_letters c).After-keep_letters in held_all (held k) (room k) (inside k) (omega arith)
+all : (c : After-mask_letters) → c.written.result.now ≡ letters_of c.args.lines.now
+all c = let k = (goal.at.After-mask_letters c).After-keep_letters in c.written.ensures ∙ held_all (held k) (room k) k.keep_letters.new.self.len_in (omega arith)
 
-pub returns-then-n-gt-MOST_LETTERS-clause-written : goal.returns-then-n-gt-MOST_LETTERS-clause-written
-returns-then-n-gt-MOST_LETTERS-clause-written c =
-    let k = (goal.at.returns-then-n-gt-MOST_LETTERS-clause-written c).After-keep_letters in
-    part_all (too_long_fits c.requires.line_fits) c.write_too_long.ensures (too_long _ _ (held_many (held k) (room k) (inside k) (omega arith))) (no_lines _ [])
+pub returns-then-held-gt-MOST_LETTERS-clause-written : goal.returns-then-held-gt-MOST_LETTERS-clause-written
+returns-then-held-gt-MOST_LETTERS-clause-written c =
+    let k = (goal.at.returns-then-held-gt-MOST_LETTERS-clause-written c).After-keep_letters in
+    part_all (too_long_fits c.requires.line_fits) c.write_too_long.ensures (too_long _ _ (held_many (held k) (room k) k.keep_letters.new.self.len_in (omega arith))) (no_lines _ [])
 
 pub write_refused-requires : goal.write_refused-requires
 write_refused-requires c = refused_fits c.requires.line_fits _ (search rules)
@@ -50,4 +47,4 @@ returns-in-Ok-clause-written c =
     let k = (goal.at.returns-in-Ok-clause-written c).After-mask_letters in
     let r = rw (all k) at c.in-Ok.ensures.refusal in
     let w = rw (all k) at c.in-Ok.ensures.list in
-    part_as (accepted c.args.name.now _ (few k) r w) (part_none _ _ (omega (arith, c.requires.line_fits.room)))
+    part_as (accepted c.args.name.now _ (few k) r w) (part_none _ _)

@@ -12,16 +12,16 @@ written-requires g c =
 pub loop-next-init : goal.loop-next-init
 loop-next-init g c =
     let E = c.first_part-next.ensures in
-    let P = E.part c.args.list.now in
+    let P = E.part c.args.room.now.list.now in
     record {
-      printing = print_first c.args.text.now c.requires.text_len (E.standing _ c.requires.list_len) P E.file_len_bound (rw c.written.ensures at c.in_ok-write_all.ensures.bytes);
+      printing = print_first c.args.text.now c.requires.text_len (E.standing _ c.args.room.now.list_len) P E.file_len_bound (rw c.written.ensures at c.in_ok-write_all.ensures.bytes);
       long = part_long c.args.text.now P ∙ c.requires.text_len;
     }
 
 pub loop-next-preserved : goal.loop-next-preserved
 loop-next-preserved g c =
     let I = c.loop-next.invariant in
-    let M = c.next_part-next.ensures in
+    let M = c.next_part-next.ensures.moved in
     record {
       printing = print_next c.loop-next.text I.long (rw c.in-Some.is at I.printing) M (rw c.written-in-Some.ensures at c.in_ok-write_all-2.ensures.bytes);
       long = part_long c.loop-next.text M.part ∙ I.long;

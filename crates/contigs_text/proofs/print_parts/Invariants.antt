@@ -6,7 +6,7 @@ use Rattle.contigs_text.proofs.print_parts.Given as goal
 
 abbrev pub invariant-loop-next : goal.invariant-loop-next
 invariant-loop-next g l = record {
-  printing : Printing l.file l.list l.count l.next (g.W.Write.contents l.fn.out) (g.W.Write.contents l.out);
+  printing : Printing l.file l.room.list.now l.count l.next (g.W.Write.contents l.fn.out) (g.W.Write.contents l.out);
   long : length l.text.bytes.now ≡ text_room;
 }
 

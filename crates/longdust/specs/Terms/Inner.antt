@@ -1,5 +1,5 @@
 -- The terms of the inner functions' contracts: what the checks leave known of a request, and what the parts of a run answer.
-use Rattle.std.specs.Prelude.{◌≡◌, Bool, false, List, ℕ, ◌+◌, ◌^◌, ◌≤◌, Float}
+use Rattle.std.specs.Prelude.{◌≡◌, false, List, ℕ, ◌+◌, ◌^◌, ◌≤◌, Float}
 use Rattle.checks.specs.Tests.{threshold_bad, most_intervals}
 use Rattle.letters.specs.Code.{codes}
 use Rattle.scans.specs.declared.Params.{Params}

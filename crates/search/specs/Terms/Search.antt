@@ -118,7 +118,6 @@ pub record ScansBackward (S : Setup) (q : List Place) (r : Searched) (counts : L
   pub searched : SearchedAll S q r counts
 
 -- ---- The candidates are tried.
--- A slice holds n candidates or more, the first n being places of the window.
-pub record HoldsCandidates (len n : ℕ) (records : List ForwardPosition) : Type 0 where
-  pub room : n ≤ length records
-  pub inside : (j : ℕ) → j < n → (get_or records j no_position).pos < len
+-- The candidates of a slice are places of the window.
+pub record HoldsCandidates (len : ℕ) (records : List ForwardPosition) : Type 0 where
+  pub inside : (j : ℕ) → j < length records → (get_or records j no_position).pos < len

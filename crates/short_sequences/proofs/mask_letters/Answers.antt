@@ -1,27 +1,15 @@
-use borrow.Author.Rules.{rules}
-use Rattle.std.proofs.lemmas.Result.{err_from_is_err_and}
-use Rattle.short_sequences.proofs.Runs.{ran_refusal, ran_list, ran_shape}
+use mathlib.Core.Path.{◌∙◌}
+use Rattle.short_sequences.proofs.Runs.{refusal_short, mask_short, kmer_short}
 use Rattle.short_sequences.proofs.mask_letters.Goals as goal
 
--- `short_sequences::mask_letters` meets its contract: what the call on filled tables says of such buffers.
 pub returns-clause-refusal : goal.returns-clause-refusal
 returns-clause-refusal c =
-    ran_refusal _ _ _ _ _ c.args.list.now c.requires.tables (search rules) (search rules) (search rules) c.requires.room c.short_options-options.ensures
-    c.in_ok-answer.ensures.answered
-
-pub returns-in_err-answer-clause-refusal : goal.returns-in_err-answer-clause-refusal
-returns-in_err-answer-clause-refusal c =
-    let p = err_from_is_err_and c.from_residual.result c.from_residual.ensures.1 in
-    rw (p.1, p.2)
-    (ran_refusal _ _ _ _ _ c.args.list.now c.requires.tables (search rules) (search rules) (search rules) c.requires.room c.short_options-options.ensures
-    c.in_err-answer.ensures.answered)
+    c.process_in.ensures.refusal ∙ refusal_short c.short_options.ensures c.requires.tables _ c.args.list.now c.requires.room
 
 pub returns-clause-list : goal.returns-clause-list
-returns-clause-list c =
-    ran_list _ _ _ _ _ c.args.list.now c.requires.tables (search rules) (search rules) (search rules) c.requires.room c.short_options-options.ensures
-    c.in_ok-answer.ensures.answered (search rules)
+returns-clause-list c = rw (mask_short c.short_options.ensures c.requires.tables c.args.letters.now) at c.process_in.ensures.list
 
 pub returns-clause-shape : goal.returns-clause-shape
 returns-clause-shape c =
-    ran_shape _ _ _ _ _ c.args.list.now c.requires.tables (search rules) (search rules) (search rules) c.requires.room c.short_options-options.ensures
-    c.in_ok-answer.ensures.answered
+    rw (mask_short c.short_options.ensures c.requires.tables c.args.letters.now, kmer_short c.short_options.ensures c.requires.tables c.args.letters.now)
+    at c.process_in.ensures.shape

@@ -10,12 +10,12 @@ loop-byte-preserved-then-byte-eq10 c =
 pub returns-then-self-clause-written : goal.returns-then-self-clause-written
 returns-then-self-clause-written c =
     let I = c.loop-byte.invariant in
-    record { written = full _ _ _ _ _ _ I.keeping c.requires (omega arith); same = I.same }
+    record { written = full _ _ _ _ _ _ I.keeping c.args.self.now.len_in (omega arith); same = I.same }
 
 pub returns-then-self-clause-held : goal.returns-then-self-clause-held
 returns-then-self-clause-held c =
     let K = c.loop-byte.invariant.keeping in
-    held_next _ c.requires K.long (full _ _ _ _ _ _ K c.requires (omega arith))
+    held_next _ c.args.self.now.len_in K.long (full _ _ _ _ _ _ K c.args.self.now.len_in (omega arith))
 
 pub loop-byte-preserved : goal.loop-byte-preserved
 loop-byte-preserved c =
@@ -25,9 +25,9 @@ loop-byte-preserved c =
 pub returns-clause-written : goal.returns-clause-written
 returns-clause-written c =
     let I = c.loop-byte.invariant in
-    record { written = ended _ _ _ _ _ _ I.keeping c.requires c.loop-byte-test.false; same = I.same }
+    record { written = ended _ _ _ _ _ _ I.keeping c.args.self.now.len_in c.loop-byte-test.false; same = I.same }
 
 pub returns-clause-held : goal.returns-clause-held
 returns-clause-held c =
     let K = c.loop-byte.invariant.keeping in
-    held_next _ c.requires K.long (ended _ _ _ _ _ _ K c.requires c.loop-byte-test.false)
+    held_next _ c.args.self.now.len_in K.long (ended _ _ _ _ _ _ K c.args.self.now.len_in c.loop-byte-test.false)

@@ -1,0 +1,8 @@
+-- Terms of contracts: room for an answer.
+use Rattle.std.specs.Prelude.{◌+◌, ◌≤◌, length}
+use Rattle.report.specs.declared.text.Text.{Text}
+use Rattle.contig.specs.Run.{text_room}
+
+-- The text has room for the longest that `track` prints.
+pub record AnswerFits (t : Text) : Type 0 where
+  pub room : t.len + text_room ≤ length t.bytes.now
