@@ -14,7 +14,8 @@ const TINY: f64 = 1e-9;
 
 // The two sums of a backward scan, the score before and the best score, one past the index that had the best (0: none),
 // and where it rests: the oldest entry read, whether it paused there, and whether it has stopped.
-// Numbers and flags, no Option and no enum: the state is made anew at each entry. With an Option the satellites of SPEED.md take 3.5 % longer.
+// One past an index, no Option: the state is made anew at each entry, and with an Option the satellites of SPEED.md take 3.5 % longer.
+// That it paused and that it has stopped are two answers of yes or no, on which no value hangs: a scan may do both at one entry.
 #[derive(Clone, Copy)]
 pub struct BackwardState {
     pub s: f64,
@@ -207,7 +208,7 @@ fn backward_part(
 }
 
 // The same while no place is best: nothing is noted, nothing is too low, and the scan rests at its first best place, where the score is 0 or more.
-// A loop of its own, since it runs faster without the tests of a best place.
+// A loop of its own: with one loop for both, human X takes 4.9 % longer, its centromere 8.8.
 #[inline(never)]
 fn backward_low(
     setup: &Setup,

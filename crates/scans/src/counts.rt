@@ -60,7 +60,7 @@ pub fn window_value(window_counts: &[u16], ln: &[f64], entry: u32) -> f64
 }
 
 // Takes an entry out of the counts; a count of 0 stays.
-// It is tested for and not written again: with `saturating_sub` satellites take 3 % longer.
+// It is tested for and not written again: with `saturating_sub` satellites take 3.2 % longer.
 pub fn lower_entry(counts: &mut [u16], entry: u32)
     requires { entry / 2 < length counts.old }
     ensures { counts.new ≡ lower counts.old (decode entry) }

@@ -15,7 +15,7 @@ pub fn drop_limit(xdrop: Option<u32>, window: u32, threshold: f64) -> f64
     threshold * (xdrop.unwrap_or(window) as f64)
 }
 
-// How many entries the back check reads, from the filled tables; 0 where no sum of theirs is above 0.
+// How many entries the back check reads, from the filled tables; 0 where no sum of theirs is above 0: a number, as the definition has it.
 #[tactic(auto, using(crate::proofs::MaxTest::of_testing))]
 pub fn max_test(ln: &[f64], f: &[f64], window: u32, threshold: f64) -> i32
     requires { (window ≤ 65535) × (window < length ln.now) × (window < length f.now) }

@@ -14,7 +14,7 @@ pub struct Setup<'a> {
 
 // The window's entries in their ring: `len` of them, the oldest at `head`.
 // Window counts and scan counts are not in it: most calls read one and write the other, and some are lent only one.
-// That it has an entry is asked where one is read: the first letter finds it empty.
+// That it has an entry is asked where one is read: the first letter finds it empty. That scan counts are cleared is asked where it has to be so: they change in every call.
 #[derive(Clone, Copy)]
 pub struct Ring<'a> {
     pub queue: &'a [u32],

@@ -7,7 +7,6 @@ use native.Mathlib.Omega.{arith}
 use lib.ListN.{length, take, length-take}
 use lib.Seq.{take_at}
 use lib.Ieee.{Float}
-use Rattle.buffers.specs.Fill.{put}
 use Rattle.checks.specs.Tests.{most_intervals}
 use Rattle.letters.specs.Code.{codes}
 use Rattle.intervals.specs.declared.Interval.{Interval}
@@ -22,11 +21,10 @@ use Rattle.longdust.specs.declared.Answer.{Answer}
 use Rattle.longdust.specs.Mask.{mask}
 use Rattle.longdust.specs.Buffers.{Buffers}
 use Rattle.longdust.specs.Call.{ln_read, f_read, listed, Filled, Answered}
-use Rattle.small.specs.Bytes.{bytes_of}
 use Rattle.small.specs.Profile.{refusal as small_refusal}
 use Rattle.small.specs.Call.{filled_mask}
 use Rattle.small.specs.Terms.Run.{Ran}
-use Rattle.small.proofs.Profile.{list_room_lem, output_room}
+use Rattle.small.proofs.Profile.{output_room}
 
 -- The mask by the tables that the filling call fills, whatever its buffers are.
 module _ (o : LongdustOptions) (s : List ℕ) {b b' : Buffers} {a : Answer} (A : Answered Filled o s b b' (Ok a)) where
@@ -52,11 +50,5 @@ module _ {o : LongdustOptions} {s : List ℕ} {xs xs' : List Interval} {count : 
   intervals_few : count ≤ most_intervals (length s) o.kmer
   intervals_few = omega (arith, run.list.count_is, canonical_room (length s) o.kmer (filled_mask o s) run.shape)
 
-  pub count_room : count ≤ 2048
-  count_room = omega (arith, intervals_few, list_room_lem o s room e)
-
   pub bytes_room : 8 * length (take count xs') ≤ room
   bytes_room = omega (arith, intervals_few, output_room o s room e, length-take count xs')
-
-  pub bytes_held : (d : List ℕ) {d' : List ℕ} → d' ≡ put (bytes_of (take count xs')) d → d' ≡ put (bytes_of (filled_mask o s)) d
-  bytes_held d p = p ∙ ap (λ (is : List Interval). put (bytes_of is) d) (wrote_list run.list)

@@ -13,8 +13,5 @@ read c =
     ])
     c.sequence.ensures.follows
 
-pub returns-in_err-n : goal.returns-in_err-n
-returns-in_err-n c = read (goal.at.returns-in_err-n c).After-sequence
-
 pub returns : goal.returns
 returns c = then (read (goal.at.returns c).After-sequence) c.compare.ensures

@@ -28,7 +28,7 @@ At w head j i = (i < w) × ((i ≡ head + j) ⊎ (i + w ≡ head + j))
 abbrev pub window : List ℕ → ℕ → ℕ → List Place
 window ring head len = decoded (queue ring head len)
 
--- A ring of w numbers holds a window, the window counts are its counts, and the ln table reaches to w.
+-- A ring of w numbers holds a window, the window counts are its counts, and the ln table reaches to w. Not a field of a type: each letter writes to the queue and to the counts, which are lent.
 pub record Windowed (p : Params) (ring : List ℕ) (head len : ℕ) (window_counts : List ℕ) (ln_length : ℕ) : Type 0 where
   pub ring_is : length ring ≡ p.window_size
   pub wide : 1 < p.window_size

@@ -3,7 +3,7 @@ use lib.ListN.{length}
 use Rattle.small.specs.Profile.{refusal}
 use Rattle.small.proofs.Profile.{asked}
 use Rattle.small.proofs.Repeating.{none_written}
-use Rattle.small.proofs.Runs.{count_room, bytes_room, bytes_held}
+use Rattle.small.proofs.Runs.{bytes_room}
 use Rattle.small.proofs.write_mask.Goals as goal
 use Rattle.small.proofs.write_mask.Goals.{In_ok-check}
 
@@ -13,23 +13,11 @@ passed c = sym c.in_ok-check.ensures
 pub is_quiet-requires : goal.is_quiet-requires
 is_quiet-requires c = asked _ _ _ (passed (goal.at.is_quiet-requires c).In_ok-check)
 
-pub returns-then-is_quiet-clause-count : goal.returns-then-is_quiet-clause-count
-returns-then-is_quiet-clause-count c = (none_written _ c.args.out.now (c.is_quiet.ensures c.if-is_quiet.true)).0
-
 pub returns-then-is_quiet-clause-bytes : goal.returns-then-is_quiet-clause-bytes
 returns-then-is_quiet-clause-bytes c = (none_written _ _ (c.is_quiet.ensures c.if-is_quiet.true)).1
 
 pub mask_letters-count-requires-clause-asked : goal.mask_letters-count-requires-clause-asked
 mask_letters-count-requires-clause-asked c = asked _ _ _ (passed (goal.at.mask_letters-count-requires-clause-asked c).In_ok-check)
-
-pub returns-clause-count : goal.returns-clause-count
-returns-clause-count c = c.mask_letters-count.ensures.list.count_is
-
-pub returns-clause-few : goal.returns-clause-few
-returns-clause-few c = count_room c.mask_letters-count.ensures _ (passed (goal.at.returns-clause-few c).In_ok-check)
-
-pub returns-clause-bytes : goal.returns-clause-bytes
-returns-clause-bytes c = bytes_held c.mask_letters-count.ensures _ (passed (goal.at.returns-clause-bytes c).In_ok-check) _ c.write_list.ensures
 
 pub write_list-requires : goal.write_list-requires
 write_list-requires c = bytes_room c.mask_letters-count.ensures _ (passed (goal.at.write_list-requires c).In_ok-check)

@@ -1,8 +1,5 @@
 use Rattle.replay.proofs.Following.{then}
 use Rattle.replay.proofs.recorded.intervals.Goals as goal
 
-pub returns-in_err-mark : goal.returns-in_err-mark
-returns-in_err-mark c = then c.loop-i.invariant (then c.number.ensures.follows (then c.number-in-loop-i.ensures.follows c.number-in-loop-i-2.ensures.follows))
-
 pub loop-i-preserved : goal.loop-i-preserved
 loop-i-preserved c = then c.loop-i.invariant (then c.number.ensures.follows (then c.number-in-loop-i.ensures.follows c.number-in-loop-i-2.ensures.follows))

@@ -2,9 +2,6 @@
 use Rattle.replay.proofs.Following.{then}
 use Rattle.replay.proofs.request.head.Goals as goal
 
-pub returns-in_err-xdrop_set-clause-follows : goal.returns-in_err-xdrop_set-clause-follows
-returns-in_err-xdrop_set-clause-follows c = then c.number.ensures.follows (then c.number-2.ensures.follows (then c.number-3.ensures.follows c.number-4.ensures.follows))
-
 pub returns-in_err-number-clause-follows : goal.returns-in_err-number-clause-follows
 returns-in_err-number-clause-follows c = then c.number.ensures.follows (then c.number-2.ensures.follows (then c.number-3.ensures.follows (then c.number-4.ensures.follows c.number-5.ensures.follows)))
 
