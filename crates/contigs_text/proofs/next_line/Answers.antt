@@ -1,9 +1,5 @@
-use Rattle.contigs_text.proofs.Fitting.{part_fits}
 use Rattle.contigs_text.proofs.Moving.{moved_line}
 use Rattle.contigs_text.proofs.next_line.Goals as goal
-
-pub write_name_line-requires : goal.write_name_line-requires
-write_name_line-requires c = part_fits c.args.place.name c.bytes-name.ensures c.requires.line_fits
 
 pub returns : goal.returns
 returns c =

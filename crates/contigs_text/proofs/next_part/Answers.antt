@@ -1,9 +1,6 @@
 use mathlib.Core.Path.{◌∙◌}
-use Rattle.contigs_text.proofs.Moving.{go_turn, go_stop}
+use Rattle.contigs_text.proofs.Moving.{go_turn}
 use Rattle.contigs_text.proofs.next_part.Goals as goal
-
-pub returns-in_err-at-clause-moved : goal.returns-in_err-at-clause-moved
-returns-in_err-at-clause-moved c = rw c.from_residual.ensures (go_stop c.loop-text.invariant.going c.in_err-at.ensures.moved)
 
 pub loop-text-preserved : goal.loop-text-preserved
 loop-text-preserved c =
