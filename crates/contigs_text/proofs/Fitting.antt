@@ -1,12 +1,9 @@
 -- A line that begins with a name fits where the name and 24 bytes do.
-use Prim.Native.Nat.{ℕ, ◌-◌, ◌<◌}
-use mathlib.Core.Path.{◌≡◌, ap}
+use Prim.Native.Nat.{ℕ, ◌<◌}
 use mathlib.Core.List.{List}
 use native.Mathlib.Omega.{arith}
-use lib.ListN.{length, drop, length-append, length-take, length-drop}
+use lib.ListN.{length-append}
 use Rattle.intervals.specs.declared.Interval.{Interval}
-use Rattle.fasta.specs.declared.Part.{Part}
-use Rattle.fasta.specs.Steps.{bytes_of}
 use Rattle.report.specs.declared.text.Text.{Text}
 use Rattle.report.specs.Terms.Fits.{Fits}
 use Rattle.report.proofs.Decimal.{length_decimal}
@@ -27,8 +24,3 @@ module _ {name : List ℕ} {t : Text} (h : LineFits name t) where
 
   pub too_long_fits : Fits (too_long_line name) t
   too_long_fits = record { room = simp length-append (omega (arith, h.room)) }
-
--- A name that is a part of the file.
-pub part_fits : {file name : List ℕ} {t : Text} (p : Part) → name ≡ bytes_of p file → LineFits file t → LineFits name t
-part_fits {file} p e h =
-    record { room = omega (arith, h.room, ap length e, length-take (p.end - p.start) (drop p.start file), length-drop p.start file) }

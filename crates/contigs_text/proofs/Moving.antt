@@ -155,10 +155,6 @@ module _ {file : List ℕ} {list₀ : List Interval} {p₀ : Place} {t₀ : Text
           fewer = λ _. omega (arith, g.few, m.fewer);
         }
 
-    -- There is no more.
-    pub go_stop : Moved file list p t list' t' None → Moved file list₀ p₀ t₀ list' t' None
-    go_stop m = record { part = part_next g.part m.part; stands = tt; fewer = omega arith }
-
   -- The text is full.
   pub go_full : 0 < t.len → Moved file list₀ p₀ t₀ list t (Some p)
   go_full h = record { part = g.part; stands = g.stands; fewer = omega (arith, g.fewer h) }
