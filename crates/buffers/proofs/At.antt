@@ -1,9 +1,5 @@
 -- The entry of a list at an index inside it does not depend on the default.
-use mathlib.Core.Path.{◌≡◌, refl}
-use mathlib.Core.List.{List, [], ◌∷◌}
-use Prim.Native.Nat.{ℕ, zero, suc, ◌<◌}
-use native.Mathlib.Omega.{arith}
-use lib.ListN.{length, get_or}
+use Rattle.std.proofs.Common.{◌≡◌, refl, List, [], ◌∷◌, ℕ, zero, suc, ◌<◌, arith, length, get_or}
 
 pub default_free {ℓ} : {A : Type ℓ} (l : List A) (i : ℕ) (y z : A) → i < length l → get_or l i y ≡ get_or l i z
 default_free [] i y z h = absurd (let b : ⊥ = omega arith in b)

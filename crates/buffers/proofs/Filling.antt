@@ -1,11 +1,6 @@
 -- A loop that fills the front of a buffer d with the entries of a list xs, one store a turn: after i turns the buffer is `part xs d i`.
-use mathlib.Core.Path.{◌≡◌, refl, sym, ap, ◌∙◌}
-use mathlib.Core.List.{List, ◌∷◌, ◌++◌, append-nil}
-use Prim.Native.Nat.{ℕ, suc, ◌+◌, ◌≤◌, ◌<◌}
-use native.Mathlib.Numerals.{add-one}
-use native.Mathlib.Omega.{arith}
-use lib.ListN.{length, take, drop, get_or, set, length-set, drop_of_length-le}
-use lib.Seq.{take-suc, drop-cons, append_snoc, set_at, length-take-le, take-length}
+use Rattle.std.proofs.Common.{◌≡◌, refl, sym, ap, ◌∙◌, List, ◌∷◌, ◌++◌, append-nil, ℕ, suc, ◌+◌, ◌≤◌, ◌<◌, add-one, arith, length, take, drop, get_or, set, length-set, drop_of_length-le, take-suc, drop-cons, length-take-le}
+use lib.Seq.{append_snoc, set_at, take-length}
 use Rattle.buffers.specs.Fill.{put}
 
 abbrev pub part {ℓ} : {A : Type ℓ} → List A → List A → ℕ → List A

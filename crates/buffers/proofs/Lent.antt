@@ -1,10 +1,6 @@
 -- The first m entries of a buffer xs were lent as a part and came back as ys, so that the buffer is now `ys ++ drop m xs`.
-use mathlib.Core.Path.{◌≡◌, sym, ap, ◌∙◌}
-use mathlib.Core.List.{List, ◌++◌}
-use Prim.Native.Nat.{ℕ, ◌≤◌}
-use native.Mathlib.Omega.{arith}
-use lib.ListN.{length, take, drop, length-append, length-drop}
-use lib.Seq.{length-take-le, drop-append_seam}
+use Rattle.std.proofs.Common.{◌≡◌, sym, ap, ◌∙◌, List, ◌++◌, ℕ, ◌≤◌, arith, length, take, drop, length-append, length-drop, length-take-le}
+use lib.Seq.{drop-append_seam}
 use Rattle.buffers.specs.Free.{Free}
 
 module _ {A : Type 0} (m : ℕ) (xs ys : List A) (fits : m ≤ length xs) (long : length ys ≡ length (take m xs)) where

@@ -1,10 +1,6 @@
 -- What `put` and `put_at` leave: the length, one write after another, and a single store.
-use mathlib.Core.Path.{◌≡◌, sym, ap, ap₂, ◌∙◌}
-use mathlib.Core.List.{List, [], ◌∷◌, ◌++◌, append_assoc}
-use Prim.Native.Nat.{ℕ, suc, ◌+◌, ◌≤◌, ◌<◌}
-use native.Mathlib.Omega.{arith}
-use lib.ListN.{length, take, drop, set, length-append, length-drop, take-append-drop}
-use lib.Seq.{length-take-le, take-append_seam, take_at, drop_at, drop-drop, set_split}
+use Rattle.std.proofs.Common.{◌≡◌, sym, ap, ap₂, ◌∙◌, List, [], ◌∷◌, ◌++◌, append_assoc, ℕ, suc, ◌+◌, ◌≤◌, ◌<◌, arith, length, take, drop, set, length-append, length-drop, take-append-drop, length-take-le, take_at, drop_at, drop-drop}
+use lib.Seq.{take-append_seam, set_split}
 use Rattle.buffers.specs.Fill.{put, put_at}
 
 module _ {ℓ} {A : Type ℓ} where

@@ -1,10 +1,5 @@
 -- `tabulate f n`: its length, its entries, and a loop that fills the front of a buffer with it.
-use mathlib.Core.Path.{◌≡◌, refl, sym, ap, ◌∙◌}
-use mathlib.Core.List.{List}
-use Prim.Native.Nat.{ℕ, zero, suc, ◌+◌, ◌≤◌, ◌<◌}
-use native.Mathlib.Nat.{add-zero}
-use native.Mathlib.Omega.{arith}
-use lib.ListN.{length, get_or, set}
+use Rattle.std.proofs.Common.{◌≡◌, refl, sym, ap, ◌∙◌, List, ℕ, zero, suc, ◌+◌, ◌≤◌, ◌<◌, add-zero, arith, length, get_or, set}
 use Rattle.buffers.specs.Fill.{tabulate, tabulate_from}
 use Rattle.buffers.proofs.Filling.{Fills, fill_start, fill_turn}
 

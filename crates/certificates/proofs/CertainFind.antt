@@ -1,16 +1,9 @@
 -- Tables in range: a start that is certain is what the backward scan finds, with the counts of the places from there on (`units_find`, from facts in naturals).
 -- Each comparison of the scans is settled by exact scores that are apart by 2^-12, the floats being off by less than 2^-16.
-use mathlib.Core.Path.{◌≡◌, sym, ap, ◌∙◌, subst}
-use Prim.Native.Nat.{ℕ, ◌+◌, ◌*◌, ◌-◌, ◌^◌, ◌≤◌, ◌<◌}
-use native.Mathlib.Nat.{mul-le-mul_left, mul-le-mul_right, eq-zero-or-pos}
-use native.Mathlib.Omega.{arith}
-use mathlib.Core.Bool.{not}
-use mathlib.Core.Logic.{◌⊎◌, inl, inr}
-use mathlib.Core.List.{List, [], reverse}
-use lib.ListN.{length, take, drop, length-drop}
+use Rattle.std.proofs.Common.{◌≡◌, sym, ap, ◌∙◌, subst, ℕ, ◌+◌, ◌*◌, ◌-◌, ◌^◌, ◌≤◌, ◌<◌, mul-le-mul_left, mul-le-mul_right, eq-zero-or-pos, arith, not, ◌⊎◌, inl, inr, List, [], reverse, length, take, drop, length-drop, T, lit≤, Float}
 use lib.Seq.{take-length}
-use lib.Dec.{T, not_T, lit≤}
-use lib.Ieee.{Float, binary64, fits, lt, le, of_bits, of_fields}
+use lib.Dec.{not_T}
+use lib.Ieee.{binary64, fits, lt, le, of_bits, of_fields}
 use Rattle.floats.specs.Value.{magnitude}
 use Rattle.floats.specs.Arithmetic.{◌⊕◌, ◌⊖◌}
 use Rattle.floats.specs.Binary64.{one, zero64, tiny, slack}

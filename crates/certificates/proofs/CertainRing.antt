@@ -1,15 +1,7 @@
 -- The find that a carried scan and a certificate of its start tell, in a ring (`certain_found`), and where they tell none.
-use mathlib.Core.Path.{◌≡◌, refl, sym, ap, ◌∙◌, subst}
-use mathlib.Core.Bool.{Bool, true, ◌&&◌, true≢false}
-use mathlib.Core.List.{List, [], ◌∷◌, ◌++◌}
-use Rattle.std.specs.Prelude.{Option, Some, None, IfSome, is_some}
-use Prim.Native.Nat.{ℕ, ◌+◌, ◌-◌, ◌^◌, ◌<◌}
-use native.Mathlib.Omega.{arith}
-use native.Mathlib.Numerals.{add-one}
-use lib.ListN.{length, get_or, drop, length-append, length-drop}
+use Rattle.std.proofs.Common.{◌≡◌, refl, sym, ap, ◌∙◌, subst, Bool, true, ◌&&◌, true≢false, List, [], ◌∷◌, ◌++◌, Option, Some, None, IfSome, is_some, ℕ, ◌+◌, ◌-◌, ◌^◌, ◌<◌, arith, add-one, length, get_or, drop, length-append, length-drop, T, Float}
 use lib.Seq.{drop-append-le}
-use lib.Dec.{T}
-use lib.Ieee.{Float, le}
+use lib.Ieee.{le}
 use lib.Ieee.Fits.{and_l, and_r}
 use Rattle.floats.specs.Arithmetic.{◌⊕◌}
 use Rattle.letters.specs.Place.{Place, Below}

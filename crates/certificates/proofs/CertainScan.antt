@@ -1,16 +1,9 @@
 -- Scans by what their scores' comparisons say. The backward scan whose low places are below 0, whose middle neither drops nor passes the place j, and whose older places are neither best nor near ties, has its best at j,
 -- and tries it first (`sure_backward`); the forward scan whose last score is the highest and that is not stopped before is best there (`sure_forward`). For any float bits.
-use mathlib.Core.Path.{◌≡◌, refl, sym, ap, subst}
-use Prim.Native.Nat.{ℕ, zero, suc, ◌+◌, ◌≤◌, ◌<◌}
-use native.Mathlib.Nat.{eq-or-lt_of_le, eq-zero-or-pos, lt_of_not-le}
-use native.Mathlib.Omega.{arith}
-use mathlib.Core.Bool.{Bool, cond, not, ◌&&◌}
-use mathlib.Core.Logic.{◌⊎◌, inl, inr, ⊎_elim}
-use mathlib.Core.List.{List, [], ◌∷◌, ◌++◌}
-use lib.ListN.{length}
-use lib.Dec.{T, T_not, not_T, eqb}
+use Rattle.std.proofs.Common.{◌≡◌, refl, sym, ap, subst, ℕ, zero, suc, ◌+◌, ◌≤◌, ◌<◌, eq-or-lt_of_le, eq-zero-or-pos, lt_of_not-le, arith, Bool, cond, not, ◌&&◌, ◌⊎◌, inl, inr, ⊎_elim, List, [], ◌∷◌, ◌++◌, length, T, T_not, eqb, Float}
+use lib.Dec.{not_T}
 use borrow.Author.Tests.{ne_eqb}
-use lib.Ieee.{Float, lt, le}
+use lib.Ieee.{lt, le}
 use lib.Ieee.Fits.{and_i, and_l, and_r}
 use Rattle.floats.specs.Arithmetic.{◌⊖◌}
 use Rattle.floats.specs.Binary64.{zero64, tiny}

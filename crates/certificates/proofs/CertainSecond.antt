@@ -1,13 +1,9 @@
 -- Tables in range. The backward scan's second sum over the L newest places is what they add to the places before them in the window: its float score is within (L + 1) / 2^33 (`second_near`).
 -- Where ln does not fall, that is at least what they add to the places from an index j on (`second_rise`).
-use mathlib.Core.Path.{◌≡◌, refl, sym, ap, ◌∙◌, subst}
-use Prim.Native.Nat.{ℕ, suc, ◌+◌, ◌*◌, ◌-◌, ◌≤◌, ◌<◌}
-use native.Mathlib.Omega.{arith}
-use mathlib.Core.List.{List, [], ◌∷◌, ◌++◌, reverse, reverse-append}
-use lib.ListN.{length, take, drop, length-append, length-take, length-drop, length-reverse, take-append-drop}
-use lib.Seq.{take-add, drop-drop}
-use lib.IntN.{nat_abs}
-use lib.Ieee.{Float, binary64}
+use Rattle.std.proofs.Common.{◌≡◌, refl, sym, ap, ◌∙◌, subst, ℕ, suc, ◌+◌, ◌*◌, ◌-◌, ◌≤◌, ◌<◌, arith, List, [], ◌∷◌, ◌++◌, reverse, length, take, drop, length-append, length-take, length-drop, take-append-drop, take-add, drop-drop, nat_abs, Float}
+use mathlib.Core.List.{reverse-append}
+use lib.ListN.{length-reverse}
+use lib.Ieee.{binary64}
 use Rattle.floats.specs.Arithmetic.{◌⊕◌, ◌⊖◌}
 use Rattle.floats.specs.Binary64.{zero64}
 use Rattle.floats.proofs.Binary64.{near_as}

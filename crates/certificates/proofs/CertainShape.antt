@@ -1,7 +1,5 @@
 -- Tables of the usual shape: f of a sum is at least the sum of the f (`f_adds`), up to 2^-31 for each place.
-use mathlib.Core.Path.{◌≡◌, subst}
-use Prim.Native.Nat.{ℕ, zero, suc, ◌+◌, ◌*◌, ◌≤◌, ◌<◌}
-use native.Mathlib.Omega.{arith}
+use Rattle.std.proofs.Common.{◌≡◌, subst, ℕ, zero, suc, ◌+◌, ◌*◌, ◌≤◌, ◌<◌, arith}
 use Rattle.floats.proofs.Rounded.{pos64}
 use Rattle.scans.specs.Setup.{Setup, f_at}
 use Rattle.scans.specs.Terms.Units.{unevenness}

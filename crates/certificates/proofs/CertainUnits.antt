@@ -1,10 +1,6 @@
 -- What makes the start at index j of a window a backward scan's find, in naturals: places from `low_from` on score below 0; those between it and j stay within the drop limit of all newer ones there, and below j;
 -- those older than j stay below j down to `oldest`, where the scan is at its end or drops; and the forward scan from j is best at the newest place.
-use mathlib.Core.Path.{◌≡◌}
-use Prim.Native.Nat.{ℕ, ◌+◌, ◌-◌, ◌≤◌, ◌<◌}
-use mathlib.Core.Logic.{◌⊎◌}
-use mathlib.Core.List.{List}
-use lib.ListN.{length, take, drop}
+use Rattle.std.proofs.Common.{◌≡◌, ℕ, ◌+◌, ◌-◌, ◌≤◌, ◌<◌, ◌⊎◌, List, length, take, drop}
 use lib.Ieee.{binary64}
 use Rattle.floats.specs.Value.{Finite}
 use Rattle.floats.proofs.Rounded.{pos64, neg64}

@@ -1,16 +1,8 @@
 -- Tables in range. What the carried forward scan tells: its sum and best are those of all the float scores (`whole_sum`, `whole_top`), so that a newest score above the best by 2^-10 is best by exact scores (`carried_newest`).
 -- With the certificate of its start the backward scan finds that start (`start_find`).
-use mathlib.Core.Path.{◌≡◌, refl, sym, ap, ap₂, ◌∙◌, subst}
-use Rattle.std.specs.Prelude.{None}
-use Prim.Native.Nat.{ℕ, zero, suc, ◌+◌, ◌-◌, ◌≤◌, ◌<◌}
-use native.Mathlib.Nat.{mul-le-mul_left, mul-le-mul_right}
-use native.Mathlib.Omega.{arith}
-use mathlib.Core.Bool.{true, false}
-use mathlib.Core.List.{List, [], ◌∷◌, ◌++◌}
-use lib.ListN.{length, take, drop, length-append, length-take, length-drop}
+use Rattle.std.proofs.Common.{◌≡◌, refl, sym, ap, ap₂, ◌∙◌, subst, None, ℕ, zero, suc, ◌+◌, ◌-◌, ◌≤◌, ◌<◌, mul-le-mul_left, mul-le-mul_right, arith, true, false, List, [], ◌∷◌, ◌++◌, length, take, drop, length-append, length-take, length-drop, T, lit≤, Float}
 use lib.Seq.{take-append-le, drop-append-le}
-use lib.Dec.{T, lit≤}
-use lib.Ieee.{Float, binary64, inf, lt, le, neg}
+use lib.Ieee.{binary64, inf, lt, le, neg}
 use Rattle.floats.specs.Arithmetic.{◌⊕◌, ◌⊖◌}
 use Rattle.floats.specs.Binary64.{one}
 use Rattle.floats.proofs.Binary64.{one_eps, near_self, count_add}

@@ -1,12 +1,6 @@
 -- Tables in range and of the usual shape. While the float bounds of a start's certificate hold, what is left to know is that the forward scan from it is best at the newest place (`start_used`).
-use mathlib.Core.Path.{◌≡◌}
-use Prim.Native.Nat.{ℕ, ◌+◌, ◌*◌, ◌-◌, ◌≤◌, ◌<◌}
-use native.Mathlib.Omega.{arith}
-use mathlib.Core.Logic.{◌⊎◌, inl, inr}
-use mathlib.Core.List.{List}
-use lib.ListN.{length, take, drop}
-use lib.Dec.{T}
-use lib.Ieee.{Float, lt, le, neg}
+use Rattle.std.proofs.Common.{◌≡◌, ℕ, ◌+◌, ◌*◌, ◌-◌, ◌≤◌, ◌<◌, arith, ◌⊎◌, inl, inr, List, length, take, drop, T, Float}
+use lib.Ieee.{lt, le, neg}
 use Rattle.floats.proofs.Rounded.{pos64, neg64}
 use Rattle.letters.specs.Place.{Place}
 use Rattle.scans.specs.Setup.{Setup}

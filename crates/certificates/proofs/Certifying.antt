@@ -1,15 +1,8 @@
 -- The making of a certificate in the code: an entry read, the loops over the entries newer and older than the start, and what they give together.
-use mathlib.Core.Path.{◌≡◌, refl, sym, ap, ◌∙◌, subst}
-use mathlib.Core.Bool.{Bool, true, false, not, ◌&&◌}
-use mathlib.Core.List.{List, [], ◌∷◌}
-use mathlib.Core.Logic.{◌⊎◌, inl, inr}
-use Prim.Native.Nat.{ℕ, suc, ◌+◌, ◌-◌, ◌/◌, ◌^◌, ◌≤◌, ◌<◌}
-use Rattle.std.specs.Prelude.{Option, Some, None, IfSome}
-use native.Mathlib.Omega.{arith}
-use lib.ListN.{length, get_or, drop, replicate, length-drop, length-replicate}
-use lib.Seq.{drop-cons, drop-length}
-use lib.Dec.{T, leb, leb→le, le→leb}
-use lib.Ieee.{Float, nan, le, lt, neg}
+use Rattle.std.proofs.Common.{◌≡◌, refl, sym, ap, ◌∙◌, subst, Bool, true, false, not, ◌&&◌, List, [], ◌∷◌, ◌⊎◌, inl, inr, ℕ, suc, ◌+◌, ◌-◌, ◌/◌, ◌^◌, ◌≤◌, ◌<◌, Option, Some, None, IfSome, arith, length, get_or, drop, replicate, length-drop, drop-cons, T, leb, leb→le, le→leb, Float}
+use lib.ListN.{length-replicate}
+use lib.Seq.{drop-length}
+use lib.Ieee.{nan, le, lt, neg}
 use lib.Ieee.Fits.{and_l, and_r}
 use Rattle.floats.specs.Arithmetic.{◌⊕◌, ◌⊖◌}
 use Rattle.floats.specs.Binary64.{zero64, two_to20}

@@ -1,17 +1,7 @@
 -- The scans of low starts in the code, a turn at a time: an entry read from the newest back, the scan that finds low starts, and the one over the newest entries that tells by them that nothing is found.
-use mathlib.Core.Path.{◌≡◌, refl, sym, ap, ◌∙◌, subst}
-use mathlib.Core.Bool.{Bool, true, false, not, true≢false}
-use mathlib.Core.List.{List}
-use mathlib.Core.Logic.{◌⊎◌, inl, inr}
-use Prim.Native.Nat.{ℕ, suc, ◌+◌, ◌*◌, ◌-◌, ◌/◌, ◌%◌, ◌^◌, ◌≤◌, ◌<◌}
-use native.Mathlib.Nat.{mul-le-mul_left, mul-le-mul_right}
-use native.Mathlib.Omega.{arith}
-use Rattle.std.specs.Prelude.{Option, Some, None, IfSome}
-use lib.ListN.{length, get_or, take, drop, replicate, length-take, length-drop}
-use lib.Seq.{drop-cons}
-use lib.Dec.{T, not_T}
-use Rattle.std.proofs.Common.{ltb, ltb→lt}
-use lib.Ieee.{Float, binary64, lt, le, neg, of_bits, of_fields}
+use Rattle.std.proofs.Common.{◌≡◌, refl, sym, ap, ◌∙◌, subst, Bool, true, false, not, true≢false, List, ◌⊎◌, inl, inr, ℕ, suc, ◌+◌, ◌*◌, ◌-◌, ◌/◌, ◌%◌, ◌^◌, ◌≤◌, ◌<◌, mul-le-mul_left, mul-le-mul_right, arith, Option, Some, None, IfSome, length, get_or, take, drop, replicate, length-take, length-drop, drop-cons, T, ltb, ltb→lt, Float}
+use lib.Dec.{not_T}
+use lib.Ieee.{binary64, lt, le, neg, of_bits, of_fields}
 use Rattle.floats.specs.Arithmetic.{◌⊕◌, ◌⊖◌}
 use Rattle.floats.specs.Binary64.{one, zero64, two_to20}
 use Rattle.floats.proofs.Compare.{le_value, le_self}

@@ -1,17 +1,10 @@
 -- Low starts: a search that reads the newest places makes them (`low_made`), they stay while places leave (`low_drop`), and a later search finds nothing where they tell it (`nothing_low`).
 -- For any float bits a backward scan finds nothing if its second sum falls below 0 before any score is 0 or more (`nothing_stops`).
-use mathlib.Core.Path.{◌≡◌, refl, sym, ap, ◌∙◌, subst}
-use Prim.Native.Nat.{ℕ, zero, suc, ◌+◌, ◌*◌, ◌-◌, ◌≤◌, ◌<◌}
-use native.Mathlib.Nat.{eq-zero-or-pos, mul-le-mul_left, mul-le-mul_right}
-use native.Mathlib.Omega.{arith}
-use mathlib.Core.Bool.{cond, not}
-use mathlib.Core.Logic.{◌⊎◌, inl, inr}
-use mathlib.Core.List.{List, [], ◌∷◌, ◌++◌, reverse}
-use lib.ListN.{length, take, drop, length-take, length-drop, take-append-drop}
-use lib.Seq.{take-length, take-take, drop-append-le, drop-length}
-use lib.Dec.{T, T_not, not_T, lit≤}
+use Rattle.std.proofs.Common.{◌≡◌, refl, sym, ap, ◌∙◌, subst, ℕ, zero, suc, ◌+◌, ◌*◌, ◌-◌, ◌≤◌, ◌<◌, eq-zero-or-pos, mul-le-mul_left, mul-le-mul_right, arith, cond, not, ◌⊎◌, inl, inr, List, [], ◌∷◌, ◌++◌, reverse, length, take, drop, length-take, length-drop, take-append-drop, take-take, T, T_not, lit≤, Float}
+use lib.Seq.{take-length, drop-append-le, drop-length}
+use lib.Dec.{not_T}
 use borrow.Author.Tests.{eq-eqb}
-use lib.Ieee.{Float, binary64, lt, le, neg}
+use lib.Ieee.{binary64, lt, le, neg}
 use Rattle.floats.specs.Arithmetic.{◌⊕◌}
 use Rattle.floats.specs.Binary64.{one, zero64}
 use Rattle.floats.proofs.Binary64.{one_pos, near_self, near_add}

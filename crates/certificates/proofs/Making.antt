@@ -1,17 +1,8 @@
 -- Tables in range. The scan that makes a certificate, backwards from the newest place: what its float sums and bounds say of exact scores, kept by one place more.
 -- Newer places (`reads_none`, `reads_next`; `steady_none`, `steady_next`), and older ones (`olds_none`, `olds_next`, `olds_ended`).
-use mathlib.Core.Path.{◌≡◌, refl, sym, ap, ◌∙◌, subst}
-use mathlib.Core.Bool.{Bool, true, false, cond, not, ◌||◌, true≢false}
-use mathlib.Core.List.{List, ◌∷◌}
-use mathlib.Core.Logic.{◌⊎◌, inl, inr, ⊎_elim}
-use Prim.Native.Nat.{ℕ, suc, ◌+◌, ◌-◌, ◌*◌, ◌≤◌, ◌<◌}
-use Rattle.std.specs.Prelude.{Option, Some, None, IfSome}
-use native.Mathlib.Nat.{mul-le-mul_right}
-use native.Mathlib.Omega.{arith}
-use lib.ListN.{length, get_or, drop, length-drop}
-use lib.Seq.{drop-cons, drop-length}
-use lib.Dec.{T, T_not, lit≤}
-use lib.Ieee.{Float, binary64, fits, le, lt, neg, of_bits, of_fields}
+use Rattle.std.proofs.Common.{◌≡◌, refl, sym, ap, ◌∙◌, subst, Bool, true, false, cond, not, ◌||◌, true≢false, List, ◌∷◌, ◌⊎◌, inl, inr, ⊎_elim, ℕ, suc, ◌+◌, ◌-◌, ◌*◌, ◌≤◌, ◌<◌, Option, Some, None, IfSome, mul-le-mul_right, arith, length, get_or, drop, length-drop, drop-cons, T, T_not, lit≤, Float}
+use lib.Seq.{drop-length}
+use lib.Ieee.{binary64, fits, le, lt, neg, of_bits, of_fields}
 use Rattle.floats.specs.Value.{magnitude, Finite}
 use Rattle.floats.specs.Arithmetic.{◌⊕◌, ◌⊖◌}
 use Rattle.floats.specs.Binary64.{one, zero64, two_to20}

@@ -1,12 +1,9 @@
 -- The sums of a backward scan over the l newest places, as a loop has them: nothing at first (`newest_none`), and one place more at each turn (`newest_next`). For any float bits.
 -- Less f entry l they are the scan's scores (`newest_score_lem`, `second_score_lem`).
-use mathlib.Core.Path.{◌≡◌, sym, ap, ◌∙◌, subst}
-use Prim.Native.Nat.{ℕ, suc, ◌+◌, ◌-◌, ◌≤◌, ◌<◌}
-use native.Mathlib.Omega.{arith}
-use mathlib.Core.List.{List, [], ◌∷◌, ◌++◌, append-nil, reverse, reverse-cons}
-use lib.ListN.{length, get_or, take, drop, length-take, length-reverse}
-use lib.Seq.{append_snoc, drop-cons, drop-length}
-use lib.Ieee.{Float}
+use Rattle.std.proofs.Common.{◌≡◌, sym, ap, ◌∙◌, subst, ℕ, suc, ◌+◌, ◌-◌, ◌≤◌, ◌<◌, arith, List, [], ◌∷◌, ◌++◌, append-nil, reverse, length, get_or, take, drop, length-take, drop-cons, Float}
+use mathlib.Core.List.{reverse-cons}
+use lib.ListN.{length-reverse}
+use lib.Seq.{append_snoc, drop-length}
 use Rattle.floats.specs.Arithmetic.{◌⊕◌, ◌⊖◌}
 use Rattle.floats.specs.Binary64.{zero64}
 use Rattle.letters.specs.Place.{Place, ambiguous, BelowAt, Below}

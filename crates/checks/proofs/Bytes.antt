@@ -1,11 +1,6 @@
 -- A test of the bytes, one after another.
-use mathlib.Core.Path.{◌≡◌, sym, ap, ◌∙◌}
-use mathlib.Core.Bool.{Bool, ◌||◌, or_assoc, or-false}
-use mathlib.Core.List.{List}
-use Prim.Native.Nat.{ℕ, suc, ◌+◌, ◌≤◌, ◌<◌}
-use native.Mathlib.Numerals.{add-one}
-use lib.ListN.{length, get_or, drop, drop_of_length-le}
-use lib.Seq.{drop-cons}
+use Rattle.std.proofs.Common.{◌≡◌, sym, ap, ◌∙◌, Bool, ◌||◌, List, ℕ, suc, ◌+◌, ◌≤◌, ◌<◌, add-one, length, get_or, drop, drop_of_length-le, drop-cons}
+use mathlib.Core.Bool.{or_assoc, or-false}
 use Rattle.checks.specs.Tests.{any_byte}
 
 module _ (test : ℕ → Bool) (s : List ℕ) (i : ℕ) (a : Bool) where

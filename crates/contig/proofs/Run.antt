@@ -1,9 +1,5 @@
 -- What the contract of the call with work buffers of its own says of the program's run: the default options, and buffers of exactly the paper's sizes.
-use Prim.Native.Nat.{ℕ}
-use mathlib.Core.Path.{◌≡◌, refl, sym, ap, ap₂, ◌∙◌}
-use mathlib.Core.List.{List}
-use lib.ListN.{length, take}
-use lib.Ieee.{Float}
+use Rattle.std.proofs.Common.{ℕ, ◌≡◌, refl, sym, ap, ap₂, ◌∙◌, List, length, take, Float}
 use Rattle.letters.specs.Code.{codes}
 use Rattle.intervals.specs.declared.Interval.{Interval}
 use Rattle.tables.specs.declared.GcOption.TheVariants.{Uniform}

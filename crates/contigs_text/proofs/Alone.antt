@@ -1,10 +1,6 @@
 -- Each record is masked alone: a file that is cut before a line that opens a record prints what its two parts print, one after the other.
 -- A fault of either part is that of the whole, the first part's before the second's.
-use Prim.Native.Nat.{ℕ, ◌≤◌, ◌<◌}
-use mathlib.Core.Path.{◌≡◌, refl, sym, ap, ap₂, ◌∙◌}
-use mathlib.Core.List.{List, [], ◌∷◌, ◌++◌, append_assoc}
-use native.Mathlib.Omega.{arith}
-use lib.ListN.{length, length-append}
+use Rattle.std.proofs.Common.{ℕ, ◌≤◌, ◌<◌, ◌≡◌, refl, sym, ap, ap₂, ◌∙◌, List, [], ◌∷◌, ◌++◌, append_assoc, arith, length, length-append}
 use Rattle.fasta.specs.Contents.{Record, contents_of, records_of, fault_of}
 use Rattle.fasta.proofs.Joined.{records_follow, fault_follows, fault_stays}
 use Rattle.contigs_text.specs.Text.{most_bytes, record_text, records_text, file_text}

@@ -1,5 +1,5 @@
 -- Files and their texts.
-use mathlib.Core.Path.{◌≡◌, refl}
+use Rattle.std.proofs.Common.{◌≡◌, refl}
 use Rattle.fasta.specs.Lines.{lines, word}
 use Rattle.fasta.specs.Contents.{letters_below, contents}
 use Rattle.report.specs.Ascii.{ascii}

@@ -1,8 +1,5 @@
 -- A line that begins with a name fits where the name and 24 bytes do.
-use Prim.Native.Nat.{ℕ, ◌<◌}
-use mathlib.Core.List.{List}
-use native.Mathlib.Omega.{arith}
-use lib.ListN.{length-append}
+use Rattle.std.proofs.Common.{ℕ, ◌<◌, List, arith, length-append}
 use Rattle.intervals.specs.declared.Interval.{Interval}
 use Rattle.report.specs.declared.text.Text.{Text}
 use Rattle.report.specs.Terms.Fits.{Fits}

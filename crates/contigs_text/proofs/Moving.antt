@@ -1,16 +1,9 @@
 -- The writer moves on: by a line of the record in the list, by a record, and by one part after another.
-use Prim.Native.Nat.{ℕ, ◌+◌, ◌≤◌, ◌<◌}
-use mathlib.Core.Path.{◌≡◌, sym, ap, ap₂, ◌∙◌}
-use mathlib.Core.List.{List, [], ◌∷◌, ◌++◌, append_assoc}
-use native.Mathlib.Numerals.{add-one}
-use native.Mathlib.Omega.{arith}
-use lib.ListN.{length, take, drop, get_or, length-append, drop_of_length-le}
-use lib.Seq.{drop-cons, get_or-take, length-take-le}
+use Rattle.std.proofs.Common.{ℕ, ◌+◌, ◌≤◌, ◌<◌, ◌≡◌, sym, ap, ap₂, ◌∙◌, List, [], ◌∷◌, ◌++◌, append_assoc, add-one, arith, length, take, drop, get_or, length-append, drop_of_length-le, drop-cons, get_or-take, length-take-le, None, Some, Ok, Err}
 use Rattle.intervals.specs.declared.Interval.{Interval}
 use Rattle.intervals.specs.Interval.{interval}
 use Rattle.fasta.specs.declared.Part.{Part}
 use Rattle.fasta.specs.declared.Cursor.{Cursor}
-use Rattle.std.specs.Prelude.{None, Some, Ok, Err}
 use Rattle.fasta.specs.declared.Fault.{Fault}
 use Rattle.fasta.specs.Contents.{Contents, contents_of, records_of}
 use Rattle.fasta.specs.Steps.{bytes_of, Told}

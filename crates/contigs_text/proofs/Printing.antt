@@ -1,10 +1,5 @@
 -- The parts that are written, one after the other, are the file's text, and so many bytes are counted.
-use Prim.Native.Nat.{ℕ, ◌+◌, ◌*◌, ◌≤◌}
-use mathlib.Core.Path.{◌≡◌, ap, subst, ◌∙◌}
-use mathlib.Core.List.{List, ◌++◌, append_assoc}
-use native.Mathlib.Omega.{arith}
-use lib.ListN.{length, take, length-append}
-use Rattle.std.specs.Prelude.{Option, None, Some, IfSome, OnSome}
+use Rattle.std.proofs.Common.{ℕ, ◌+◌, ◌*◌, ◌≤◌, ◌≡◌, ap, subst, ◌∙◌, List, ◌++◌, append_assoc, arith, length, take, length-append, Option, None, Some, IfSome, OnSome}
 use Rattle.std.specs.Io.KnownBytes.{Appends}
 use Rattle.std.proofs.KnownBytes.{Appends-trans}
 use Rattle.intervals.specs.declared.Interval.{Interval}

@@ -1,6 +1,6 @@
 -- Files and what they hold.
 use Prim.Native.String.{String}
-use mathlib.Core.Path.{◌≡◌, refl}
+use Rattle.std.proofs.Common.{◌≡◌, refl}
 use Rattle.report.specs.Ascii.{ascii}
 use Rattle.fasta.specs.Lines.{lines, word}
 use Rattle.fasta.specs.Contents.{Record, ends, fails, holds, letters_below, contents, contents_of}

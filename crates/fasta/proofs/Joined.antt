@@ -1,11 +1,5 @@
 -- A file cut where a line opens a record: it holds what its two parts hold, one after the other.
-use Prim.Native.Nat.{ℕ, ◌<◌}
-use mathlib.Core.Path.{◌≡◌, refl, ap, ap₂, ◌∙◌}
-use mathlib.Core.Logic.{◌⊎◌, inl, inr}
-use mathlib.Core.Bool.{Bool, true, false, cond, ◌||◌}
-use mathlib.Core.List.{List, [], ◌∷◌, ◌++◌}
-use native.Mathlib.Omega.{arith}
-use lib.Dec.{eqb}
+use Rattle.std.proofs.Common.{ℕ, ◌<◌, ◌≡◌, refl, ap, ap₂, ◌∙◌, ◌⊎◌, inl, inr, Bool, true, false, cond, ◌||◌, List, [], ◌∷◌, ◌++◌, arith, eqb}
 use Rattle.fasta.specs.Lines.{onto, lines, is_empty, opens, name_of}
 use Rattle.fasta.specs.Contents.{Record, Contents, ends, fails, holds, letters_below, opened, contents, contents_of, records_of, fault_of, followed}
 

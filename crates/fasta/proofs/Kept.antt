@@ -1,9 +1,5 @@
 -- The records of a file without fault have all its names, in order, and all letters of its other lines, in order: none lost, none invented.
-use Prim.Native.Nat.{ℕ}
-use mathlib.Core.Path.{◌≡◌, refl, ap, ◌∙◌}
-use mathlib.Core.Bool.{Bool, true, false, cond, ◌||◌}
-use mathlib.Core.List.{List, [], ◌∷◌, ◌++◌, append_assoc}
-use native.Mathlib.Omega.{arith}
+use Rattle.std.proofs.Common.{ℕ, ◌≡◌, refl, ap, ◌∙◌, Bool, true, false, cond, ◌||◌, List, [], ◌∷◌, ◌++◌, append_assoc, arith}
 use Rattle.fasta.specs.Lines.{lines, is_empty, opens, name_of}
 use Rattle.fasta.specs.Contents.{Record, Contents, fails, letters_below, opened, contents, contents_of, records_of, fault_of}
 

@@ -1,13 +1,5 @@
 -- The count of `lines_length` as its loop makes it, and that it counts no more bytes than there are.
-use Prim.Native.Nat.{ℕ, suc, ◌+◌, ◌≤◌, ◌<◌}
-use mathlib.Core.Path.{◌≡◌, refl}
-use mathlib.Core.Bool.{Bool, true, false, cond, ◌&&◌}
-use mathlib.Core.List.{List, [], ◌∷◌}
-use native.Mathlib.Numerals.{add-one}
-use native.Mathlib.Omega.{arith}
-use lib.Dec.{eqb}
-use lib.ListN.{length, drop, get_or, drop_of_length-le}
-use lib.Seq.{drop-cons}
+use Rattle.std.proofs.Common.{ℕ, suc, ◌+◌, ◌≤◌, ◌<◌, ◌≡◌, refl, Bool, true, false, cond, ◌&&◌, List, [], ◌∷◌, add-one, arith, eqb, length, drop, get_or, drop_of_length-le, drop-cons}
 use Rattle.fasta.specs.Terms.Lengths.{lines_length}
 
 module _ (s : List ℕ) (i t : ℕ) (fresh : Bool) (left : i + lines_length fresh (drop i s) ≡ t) where

@@ -1,19 +1,10 @@
 -- The answers of a step, by what its inner functions found.
-use Prim.Native.Nat.{ℕ, suc, ◌+◌, ◌-◌, ◌≤◌, ◌<◌, min}
-use mathlib.Core.Path.{◌≡◌, refl, sym, ap, ap₂, ◌∙◌}
-use mathlib.Core.Logic.{◌≢◌}
-use mathlib.Core.Bool.{true}
-use mathlib.Core.List.{List, [], ◌∷◌}
-use native.Mathlib.Omega.{arith}
-use native.Mathlib.Numerals.{add-one}
-use lib.ListN.{length, take, drop, get_or, length-drop, drop_of_length-le}
-use lib.Seq.{drop-cons, drop-drop, get_or-drop, length-take-le}
+use Rattle.std.proofs.Common.{ℕ, suc, ◌+◌, ◌-◌, ◌≤◌, ◌<◌, min, ◌≡◌, refl, sym, ap, ap₂, ◌∙◌, ◌≢◌, true, List, [], ◌∷◌, arith, add-one, length, take, drop, get_or, length-drop, drop_of_length-le, drop-cons, drop-drop, get_or-drop, length-take-le, None, Some, Ok, Err}
 use Rattle.report.specs.Letters.{letters_of}
 use Rattle.fasta.specs.Lines.{lines}
 use Rattle.fasta.specs.Contents.{Contents, holds, letters_below, opened, contents, contents_of}
 use Rattle.fasta.specs.Steps.{Told}
 use Rattle.fasta.specs.Terms.Lengths.{empty_lines, name_length, line_length, lines_length}
-use Rattle.std.specs.Prelude.{None, Some, Ok, Err}
 use Rattle.fasta.specs.declared.Fault.TheVariants.{LettersFirst, EmptyName}
 use Rattle.std.proofs.lemmas.List.{drop_min, take_rest}
 use Rattle.std.proofs.lemmas.List.Sums.{prefix_len-le-length}

@@ -1,11 +1,7 @@
 -- Steps one after the other, from the start of the file on, give its records, in order, each with its name and its letters, and then the
 -- end or the first fault: none is lost, and none is invented.
-use Prim.Native.Nat.{ℕ}
-use mathlib.Core.Path.{◌≡◌, ap, ◌∙◌}
-use mathlib.Core.List.{List, [], ◌∷◌}
-use lib.ListN.{drop}
+use Rattle.std.proofs.Common.{ℕ, ◌≡◌, ap, ◌∙◌, List, [], ◌∷◌, drop, None, Some, Ok, Err}
 use Rattle.fasta.specs.Contents.{Contents, holds, contents_of}
-use Rattle.std.specs.Prelude.{None, Some, Ok, Err}
 use Rattle.fasta.specs.Steps.{Step, record_at}
 use Rattle.fasta.specs.Walk.{Answers, gathered}
 

@@ -1,12 +1,5 @@
 -- The test of a covered letter agrees with `Covers`; how many letters of a stretch are covered.
-use Prim.Native.Nat.{ℕ, zero, suc, ◌+◌, ◌-◌, ◌≤◌, ◌<◌}
-use mathlib.Core.Path.{◌≡◌, refl, sym, ap₂, ◌∙◌}
-use mathlib.Core.Bool.{Bool, true, false, ◌&&◌, ◌||◌, cond}
-use mathlib.Core.List.{List, [], ◌∷◌}
-use mathlib.Core.Logic.{◌⊎◌, inl, inr, ⊎_elim, ◌↔◌}
-use native.Mathlib.Omega.{arith}
-use lib.Dec.{ltb, leb}
-use lib.ListN.{length, get_or}
+use Rattle.std.proofs.Common.{ℕ, zero, suc, ◌+◌, ◌-◌, ◌≤◌, ◌<◌, ◌≡◌, refl, sym, ap₂, ◌∙◌, Bool, true, false, ◌&&◌, ◌||◌, cond, List, [], ◌∷◌, ◌⊎◌, inl, inr, ⊎_elim, ◌↔◌, arith, ltb, leb, length, get_or}
 use borrow.Author.Tests.{leb-true, ltb-true, le-leb, lt-leb, lt-ltb}
 use Rattle.intervals.specs.declared.Interval.{Interval}
 use Rattle.intervals.specs.Interval.{interval, Holds, Covers, covered, covered_in}
@@ -48,11 +41,6 @@ covered_same is js x e =
     let a = covered_agrees is x in
     let b = covered_agrees js x in
     same_test (covered is x) (covered js x) (λ h. b.1 (e.0 (a.0 h))) (λ h. a.1 (e.1 (b.0 h)))
-
-covers_at : (is : List Interval) (j x : ℕ) → j < length is → Holds (get_or is j (interval 0 0)) x → Covers is x
-covers_at [] j x h c = absurd (let b : ⊥ = omega arith in b)
-covers_at (i ∷ is) zero x h c = inl c
-covers_at (i ∷ is) (suc j) x h c = inr (covers_at is j x (omega arith) c)
 
 module _ (is : List Interval) (a : ℕ) where
   pub covered_more : (b : ℕ) → a ≤ b → covered_in is a (suc b) ≡ covered_in is a b + cond (covered is b) 1 0

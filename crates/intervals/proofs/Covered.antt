@@ -1,8 +1,5 @@
 -- The letters that a merge covers are those of either list. `first_apart` is the step of such laws over a list: what holds of its tail holds with the first interval before it.
-use Prim.Native.Nat.{ℕ, max}
-use mathlib.Core.List.{List, [], ◌∷◌, ◌++◌}
-use mathlib.Core.Logic.{◌⊎◌, inl, inr, ⊎_elim, ◌↔◌}
-use native.Mathlib.Omega.{arith}
+use Rattle.std.proofs.Common.{ℕ, max, List, [], ◌∷◌, ◌++◌, ◌⊎◌, inl, inr, ⊎_elim, ◌↔◌, arith}
 use Rattle.intervals.specs.declared.Interval.{Interval}
 use Rattle.intervals.specs.Interval.{interval, Holds, Covers, Canonical}
 use Rattle.intervals.specs.Merge.{insert, interleave, nonempty, join, merge}

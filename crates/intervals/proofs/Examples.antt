@@ -1,7 +1,5 @@
 -- The paper's worked examples of merging and saving, the first of them with marks too.
-use mathlib.Core.Path.{◌≡◌, refl}
-use mathlib.Core.Bool.{true, false}
-use mathlib.Core.List.{[], ◌∷◌}
+use Rattle.std.proofs.Common.{◌≡◌, refl, true, false, [], ◌∷◌}
 use Rattle.intervals.specs.Interval.{interval}
 use Rattle.intervals.specs.Save.{staying, save}
 use Rattle.intervals.specs.Merge.{insert, interleave, nonempty, join, merge, marked, insert_marked, interleave_marked, nonempty_marked, join_marked, merge_marked}

@@ -1,9 +1,5 @@
 -- Of two opposite orders of numbers one holds.
-use Prim.Native.Nat.{ℕ, ◌≤◌, ◌<◌}
-use mathlib.Core.Path.{◌≡◌, refl}
-use mathlib.Core.Bool.{Bool, true, false}
-use mathlib.Core.Logic.{◌⊎◌, inl, inr}
-use lib.Dec.{ltb}
+use Rattle.std.proofs.Common.{ℕ, ◌≤◌, ◌<◌, ◌≡◌, refl, Bool, true, false, ◌⊎◌, inl, inr, ltb}
 use borrow.Author.Tests.{ltb-true, ltb-false}
 
 pub lt_or_le : (a b : ℕ) → (a < b) ⊎ (b ≤ a)

@@ -1,8 +1,5 @@
 -- An interval put after others, if it has a letter, and its mark beside it.
-use Prim.Native.Nat.{ℕ, ◌≤◌, ◌<◌}
-use mathlib.Core.Path.{◌≡◌, sym, ap, ◌∙◌}
-use mathlib.Core.List.{List, map}
-use lib.ListN.{length, set}
+use Rattle.std.proofs.Common.{ℕ, ◌≤◌, ◌<◌, ◌≡◌, sym, ap, ◌∙◌, List, map, length, set}
 use Rattle.buffers.specs.Fill.{put_at}
 use Rattle.buffers.proofs.Put.{put_at_store, put_at_none}
 use Rattle.intervals.specs.declared.Interval.{Interval}

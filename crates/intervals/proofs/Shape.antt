@@ -1,10 +1,5 @@
 -- Canonical lists: their bounds, how many intervals they have, and that a merge of two is one.
-use Prim.Native.Nat.{ℕ, ◌+◌, ◌*◌, ◌/◌, ◌≤◌, ◌<◌, max}
-use mathlib.Core.List.{List, [], ◌∷◌}
-use mathlib.Core.Logic.{⊎_elim}
-use native.Mathlib.Omega.{arith}
-use native.Mathlib.Nat.{suc-mul, le-div_iff_mul-le}
-use lib.ListN.{length}
+use Rattle.std.proofs.Common.{ℕ, ◌+◌, ◌*◌, ◌/◌, ◌≤◌, ◌<◌, max, List, [], ◌∷◌, ⊎_elim, arith, suc-mul, le-div_iff_mul-le, length}
 use Rattle.intervals.specs.declared.Interval.{Interval}
 use Rattle.intervals.specs.Interval.{Covers, Ascending, Canonical}
 use Rattle.intervals.specs.Terms.Bounds.{Inside}

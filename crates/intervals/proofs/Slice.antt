@@ -1,11 +1,5 @@
 -- A list of intervals in a slice: its parts, one that lies inside n letters, and one written after another.
-use Prim.Native.Nat.{ℕ, zero, suc, ◌+◌, ◌≤◌, ◌<◌}
-use mathlib.Core.Path.{◌≡◌, ap₂, ◌∙◌}
-use mathlib.Core.List.{List, [], ◌∷◌, ◌++◌}
-use native.Mathlib.Omega.{arith}
-use native.Mathlib.Numerals.{add-one}
-use lib.ListN.{length, take, drop, get_or, length-append}
-use lib.Seq.{drop-cons}
+use Rattle.std.proofs.Common.{ℕ, zero, suc, ◌+◌, ◌≤◌, ◌<◌, ◌≡◌, ap₂, ◌∙◌, List, [], ◌∷◌, ◌++◌, arith, add-one, length, take, drop, get_or, length-append, drop-cons}
 use Rattle.buffers.specs.Fill.{put, put_at}
 use Rattle.buffers.proofs.Put.{take_put, put_next}
 use Rattle.intervals.specs.declared.Interval.{Interval}

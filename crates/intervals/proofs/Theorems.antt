@@ -1,9 +1,5 @@
 -- Canonical lists are told by the letters they cover; what follows for merges and for reading backwards.
-use Prim.Native.Nat.{ℕ, ◌+◌, ◌-◌, ◌<◌}
-use mathlib.Core.Path.{◌≡◌}
-use mathlib.Core.List.{List, []}
-use mathlib.Core.Logic.{inl, inr, ⊎_elim, ◌↔◌}
-use native.Mathlib.Omega.{arith}
+use Rattle.std.proofs.Common.{ℕ, ◌+◌, ◌-◌, ◌<◌, ◌≡◌, List, [], inl, inr, ⊎_elim, ◌↔◌, arith}
 use Rattle.intervals.specs.declared.Interval.{Interval}
 use Rattle.intervals.specs.Interval.{Covers, Canonical}
 use Rattle.intervals.specs.Merge.{merge, backwards}

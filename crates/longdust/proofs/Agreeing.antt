@@ -1,12 +1,6 @@
 -- Tables that agree on entries 1..m and lead to the same max_test give the same mask and the same marks, if w or the number of letters is at most m, and with m = w the same flag: neither reads ln[0], f[0] or f[w + 1].
-use mathlib.Core.Path.{◌≡◌, refl, sym, ap, ◌∙◌}
-use Prim.Native.Nat.{ℕ, ◌≤◌, ◌<◌, min}
-use mathlib.Core.Bool.{Bool, true, false}
-use mathlib.Core.List.{List}
-use lib.ListN.{length, get_or, take}
-use lib.Seq.{get_or-take}
-use lib.Ieee.{Float, nan}
-use native.Mathlib.Omega.{arith}
+use Rattle.std.proofs.Common.{◌≡◌, refl, sym, ap, ◌∙◌, ℕ, ◌≤◌, ◌<◌, min, Bool, true, false, List, length, get_or, take, get_or-take, Float, arith}
+use lib.Ieee.{nan}
 use Rattle.letters.specs.Code.{codes, reverse_complement}
 use Rattle.letters.proofs.Codes.{codes_length, reverse_complement_length}
 use Rattle.scans.specs.Setup.{Setup, max_test}

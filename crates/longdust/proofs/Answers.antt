@@ -1,12 +1,5 @@
 -- What a run that leaves the mask in the final list answers: an accepted request, with its shape, its evidence and no better shorter stretches.
-use mathlib.Core.Path.{◌≡◌, refl, sym, ap, ap₂, ◌∙◌, subst}
-use mathlib.Core.Bool.{Bool}
-use mathlib.Core.List.{List}
-use Prim.Native.Nat.{ℕ, ◌≤◌}
-use native.Mathlib.Omega.{arith}
-use lib.Dec.{T}
-use lib.Ieee.{Float}
-use lib.ListN.{length}
+use Rattle.std.proofs.Common.{◌≡◌, refl, sym, ap, ap₂, ◌∙◌, subst, Bool, List, ℕ, ◌≤◌, arith, T, Float, length}
 use Rattle.letters.specs.Code.{codes}
 use Rattle.letters.proofs.Codes.{codes_length}
 use Rattle.intervals.specs.declared.Interval.{Interval}

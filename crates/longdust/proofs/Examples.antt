@@ -1,11 +1,7 @@
 -- Worked examples of the paper: which refusal comes first, and 0.6 as a float.
-use mathlib.Core.Path.{◌≡◌, refl}
-use mathlib.Core.Bool.{false}
-use mathlib.Core.List.{[], ◌∷◌}
-use Prim.Native.Nat.{ℕ}
+use Rattle.std.proofs.Common.{◌≡◌, refl, false, [], ◌∷◌, ℕ, None}
 use lib.Ieee.{binary64, of_bits, round}
 use Rattle.checks.specs.Tests.{any_byte}
-use Rattle.std.specs.Prelude.{None}
 use Rattle.tables.specs.declared.GcOption.TheVariants.{Uniform}
 use Rattle.longdust.specs.declared.LongdustOptions.{LongdustOptions}
 use Rattle.longdust.specs.declared.Lent.{Lent}

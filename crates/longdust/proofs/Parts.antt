@@ -1,9 +1,5 @@
 -- What the run over both strands asks of its workspace holds for an admitted request, and what it leaves is free in the listed sizes.
-use mathlib.Core.Path.{◌≡◌, ap, ap₂}
-use mathlib.Core.List.{List}
-use Prim.Native.Nat.{ℕ, ◌+◌, ◌/◌, ◌^◌}
-use native.Mathlib.Omega.{arith}
-use lib.Ieee.{Float}
+use Rattle.std.proofs.Common.{◌≡◌, ap, ap₂, List, ℕ, ◌+◌, ◌/◌, ◌^◌, arith, Float}
 use Rattle.buffers.specs.Free.{Free}
 use Rattle.buffers.proofs.Lent.{free_at}
 use Rattle.checks.specs.Tests.{most_intervals}

@@ -1,12 +1,5 @@
 -- From the run on an accepted request's codes to what the call on filled tables answers, and from there to what the filling call does.
-use mathlib.Core.Path.{◌≡◌, sym, ap, ◌∙◌, subst}
-use mathlib.Core.List.{List}
-use Rattle.std.specs.Prelude.{Ok}
-use Prim.Native.Nat.{ℕ}
-use native.Mathlib.Omega.{arith}
-use lib.ListN.{length, take, drop}
-use lib.Seq.{take_at, drop_at}
-use lib.Ieee.{Float}
+use Rattle.std.proofs.Common.{◌≡◌, sym, ap, ◌∙◌, subst, List, Ok, ℕ, arith, length, take, drop, take_at, drop_at, Float}
 use Rattle.buffers.specs.Fill.{put}
 use Rattle.buffers.specs.Free.{Free}
 use Rattle.letters.specs.Code.{codes}

@@ -1,8 +1,5 @@
 -- The request 'RNA letters': a sequence and the same with T for U have the same mask and the same tables; the flag goes by options and tables alone.
-use mathlib.Core.Path.{◌≡◌, ap}
-use mathlib.Core.List.{List}
-use Prim.Native.Nat.{ℕ}
-use lib.Ieee.{Float}
+use Rattle.std.proofs.Common.{◌≡◌, ap, List, ℕ, Float}
 use Rattle.letters.specs.Code.{codes}
 use Rattle.letters.specs.Rna.{with_t}
 use Rattle.letters.proofs.Rna.{same_codes}

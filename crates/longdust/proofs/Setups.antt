@@ -1,13 +1,6 @@
 -- The setup that a run's numbers make is that of the options, its floats are such as the evidence asks for, and its tables of the usual shape where the numbers say so.
-use mathlib.Core.Path.{◌≡◌, sym, ap, subst, ◌∙◌}
-use mathlib.Core.Bool.{Bool, true, false, not, ◌&&◌}
-use mathlib.Core.List.{List}
-use Prim.Native.Nat.{ℕ, ◌-◌}
-use native.Mathlib.Omega.{arith}
-use lib.IntN.{ℤ}
-use lib.ListN.{get_or}
-use lib.Dec.{T}
-use lib.Ieee.{Float, nan, inf, binary64, fits, lt}
+use Rattle.std.proofs.Common.{◌≡◌, sym, ap, subst, ◌∙◌, Bool, true, false, not, ◌&&◌, List, ℕ, ◌-◌, arith, ℤ, get_or, T, Float}
+use lib.Ieee.{nan, inf, binary64, fits, lt}
 use lib.Ieee.Fits.{and_l, and_r}
 use Rattle.floats.specs.Binary64.{zero64}
 use Rattle.checks.specs.Tests.{threshold_bad}

@@ -1,17 +1,9 @@
 -- The filling call against the other one, and the ln table that it leaves against the true logarithm. Demand 3, mirror: the mask of the reverse complement is the mask read backwards, its marks exchanged, over the definition and for two requests of each call.
 -- Shape, evidence and no better shorter stretches are fields of `Accepted`, in the contract of both calls.
-use mathlib.Core.Path.{◌≡◌, sym, ap, ap₂, ◌∙◌}
-use Prim.Native.Nat.{ℕ, ◌+◌, ◌<◌}
-use native.Mathlib.Omega.{arith}
-use mathlib.Core.Bool.{Bool, false}
-use mathlib.Core.List.{List}
-use Rattle.std.specs.Prelude.{Result, Ok, Err}
+use Rattle.std.proofs.Common.{◌≡◌, sym, ap, ap₂, ◌∙◌, ℕ, ◌+◌, ◌<◌, arith, Bool, false, List, Result, Ok, Err, length, take, drop, take_at, Float}
 use Rattle.checks.specs.declared.refusal.Refusal.{Refusal}
 use Rattle.checks.specs.Refusal.{number_of}
 use Rattle.checks.proofs.Refusing.{number_positive, number_injective}
-use lib.ListN.{length, take, drop}
-use lib.Seq.{take_at}
-use lib.Ieee.{Float}
 use Rattle.buffers.specs.Fill.{put}
 use Rattle.letters.specs.Code.{codes, reverse_complement}
 use Rattle.letters.proofs.Codes.{codes_length, reverse_complement_twice, reverse_complement_length}

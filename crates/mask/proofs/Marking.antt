@@ -1,13 +1,7 @@
 -- The marks of a mask: what they say of the two strands' lists, that each interval has one, the evidence by marks, and the mirror.
-use mathlib.Core.Path.{◌≡◌, refl, sym, ap, ap₂, ◌∙◌, subst}
-use Prim.Native.Nat.{ℕ, ◌+◌, ◌-◌, ◌<◌}
-use native.Mathlib.Omega.{arith}
-use mathlib.Core.Logic.{⊎_elim}
-use mathlib.Core.Bool.{Bool, true, false, cond}
-use mathlib.Core.List.{List, [], ◌∷◌, ◌++◌, map-append}
-use lib.ListN.{length, take, drop, length-map}
-use lib.Seq.{take_at}
-use lib.Dec.{T}
+use Rattle.std.proofs.Common.{◌≡◌, refl, sym, ap, ap₂, ◌∙◌, subst, ℕ, ◌+◌, ◌-◌, ◌<◌, arith, ⊎_elim, Bool, true, false, cond, List, [], ◌∷◌, ◌++◌, length, take, drop, take_at, T}
+use mathlib.Core.List.{map-append}
+use lib.ListN.{length-map}
 use Rattle.buffers.specs.Fill.{put}
 use Rattle.letters.specs.Code.{reverse_complement}
 use Rattle.letters.proofs.Codes.{reverse_complement_length, reverse_complement_twice}

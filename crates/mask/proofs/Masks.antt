@@ -1,12 +1,5 @@
 -- The mask over its definition: shape and room for any float bits, evidence and no better shorter stretch where the flag says yes.
-use mathlib.Core.Path.{◌≡◌, refl, sym, subst}
-use Prim.Native.Nat.{ℕ, ◌+◌, ◌-◌, ◌/◌, ◌≤◌, ◌<◌}
-use native.Mathlib.Omega.{arith}
-use mathlib.Core.Logic.{inl, inr, ⊎_elim}
-use mathlib.Core.Bool.{Bool, true, false}
-use mathlib.Core.List.{List}
-use lib.ListN.{length}
-use lib.Dec.{T}
+use Rattle.std.proofs.Common.{◌≡◌, refl, sym, subst, ℕ, ◌+◌, ◌-◌, ◌/◌, ◌≤◌, ◌<◌, arith, inl, inr, ⊎_elim, Bool, true, false, List, length, T}
 use Rattle.letters.specs.Code.{reverse_complement}
 use Rattle.letters.proofs.Codes.{reverse_complement_length}
 use Rattle.intervals.specs.Interval.{Canonical, Covers}

@@ -1,10 +1,5 @@
 -- Both strands' lists in the fronts of their slices, merged: what the merge asks, and that it leaves the mask.
-use mathlib.Core.Path.{◌≡◌, sym, ap₂, subst, ◌∙◌}
-use mathlib.Core.Bool.{Bool, false}
-use mathlib.Core.List.{List}
-use Prim.Native.Nat.{ℕ, ◌+◌, ◌/◌, ◌≤◌, ◌<◌}
-use native.Mathlib.Omega.{arith}
-use lib.ListN.{length, take}
+use Rattle.std.proofs.Common.{◌≡◌, sym, ap₂, subst, ◌∙◌, Bool, false, List, ℕ, ◌+◌, ◌/◌, ◌≤◌, ◌<◌, arith, length, take}
 use Rattle.buffers.specs.Fill.{put}
 use Rattle.buffers.proofs.Filling.{put_all}
 use Rattle.letters.specs.Code.{reverse_complement}

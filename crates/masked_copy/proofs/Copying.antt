@@ -1,14 +1,7 @@
 -- The copy, byte by byte and interval by interval.
-use mathlib.Core.Path.{◌≡◌, refl, sym, ap, ◌∙◌}
-use mathlib.Core.Bool.{Bool, true, false, ◌&&◌, ◌||◌, cond}
-use mathlib.Core.Logic.{⊎_elim}
-use mathlib.Core.List.{List, [], ◌∷◌, ◌++◌, map}
-use Prim.Native.Nat.{ℕ, ◌+◌, ◌-◌, ◌≤◌, ◌<◌, min}
-use native.Mathlib.Omega.{arith}
+use Rattle.std.proofs.Common.{◌≡◌, refl, sym, ap, ◌∙◌, Bool, true, false, ◌&&◌, ◌||◌, cond, ⊎_elim, List, [], ◌∷◌, ◌++◌, map, ℕ, ◌+◌, ◌-◌, ◌≤◌, ◌<◌, min, arith, ltb, leb, set, length, take, drop, get_or, length-append, length-drop, drop_of_length-le, ext_get_or, get_or-append-add, get_or-take, get_or-drop, length-take-le}
 use borrow.Author.Tests.{lt-ltb, le-ltb, le-leb, lt-leb}
-use lib.Dec.{ltb, leb}
-use lib.ListN.{set, length, take, drop, get_or, length-map, length-append, length-drop, drop_of_length-le, get_or-map, get_or-append}
-use lib.Seq.{ext_get_or, get_or-append-add, get_or-take, get_or-drop, length-take-le}
+use lib.ListN.{length-map, get_or-map, get_or-append}
 use Rattle.std.proofs.lemmas.List.Edits.{map_over_more}
 use Rattle.std.proofs.lemmas.List.{get_or_default}
 use borrow.Rule.Slice.PartMut.{put_mid}

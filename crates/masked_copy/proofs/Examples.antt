@@ -1,7 +1,5 @@
 -- Worked examples: ACGTN-7 and a byte of 200, with the list 6 to 9, 1 to 3, 2 to 4, 5 to 5, 4 to 2.
-use mathlib.Core.Path.{◌≡◌, refl}
-use mathlib.Core.List.{List, [], ◌∷◌}
-use Prim.Native.Nat.{ℕ}
+use Rattle.std.proofs.Common.{◌≡◌, refl, List, [], ◌∷◌, ℕ}
 use Rattle.buffers.specs.Fill.{tabulate, tabulate_from}
 use Rattle.intervals.specs.declared.Interval.{Interval}
 use Rattle.intervals.specs.Interval.{interval, covered}

@@ -1,14 +1,8 @@
 -- The steps of `answer_one`, `answer_all` and `any_bad`: one kind after another, one question after another.
-use Prim.Native.Nat.{ℕ, zero, suc, ◌+◌, ◌≤◌, ◌<◌}
-use mathlib.Core.Path.{◌≡◌, sym, ap, ap₂, ◌∙◌}
-use mathlib.Core.Bool.{false, ◌||◌}
-use mathlib.Core.List.{List, [], ◌∷◌, ◌++◌, map-append}
+use Rattle.std.proofs.Common.{ℕ, zero, suc, ◌+◌, ◌≤◌, ◌<◌, ◌≡◌, sym, ap, ap₂, ◌∙◌, false, ◌||◌, List, [], ◌∷◌, ◌++◌, arith, add-one, leb, ltb, length, take, get_or, set, take-suc, take_all, length-take-le}
+use mathlib.Core.List.{map-append}
 use mathlib.Mathlib.Data.Bool.Basic.{or-eq-false-eq-eq-false-and-eq-false}
-use native.Mathlib.Omega.{arith}
-use native.Mathlib.Numerals.{add-one}
-use lib.Dec.{leb, ltb}
-use lib.ListN.{length, take, get_or, set, length-map}
-use lib.Seq.{take-suc, take_all, length-take-le}
+use lib.ListN.{length-map}
 use borrow.Author.Tests.{ne_eqb, leb-false, ltb-false}
 use Rattle.buffers.specs.Fill.{put}
 use Rattle.buffers.proofs.Put.{put_more}

@@ -1,12 +1,5 @@
 -- Blocks of 1,024 letters: their sum, a range made up of them and its two ends, and the loop that writes them.
-use Prim.Native.Nat.{ℕ, zero, suc, ◌+◌, ◌-◌, ◌*◌, ◌/◌, ◌≤◌, ◌<◌}
-use mathlib.Core.Path.{◌≡◌, sym, ap, ap₂, ◌∙◌}
-use mathlib.Core.List.{List}
-use mathlib.Core.Logic.{⊎_elim}
-use native.Mathlib.Omega.{arith}
-use lib.ListN.{length, get_or, take, drop, set}
-use lib.Seq.{drop-cons, take_all}
-use Rattle.std.specs.Prelude.{min, ◌%◌}
+use Rattle.std.proofs.Common.{ℕ, zero, suc, ◌+◌, ◌-◌, ◌*◌, ◌/◌, ◌≤◌, ◌<◌, ◌≡◌, sym, ap, ap₂, ◌∙◌, List, ⊎_elim, arith, length, get_or, take, drop, set, drop-cons, take_all, min, ◌%◌}
 use Rattle.std.specs.List.{sum}
 use Rattle.std.proofs.lemmas.List.Sums.{sum_by-cons}
 use Rattle.buffers.proofs.Tabulate.{tabulate_length, tabulate_at, Tabulates, tabulate_start, tabulate_turn}

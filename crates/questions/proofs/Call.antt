@@ -1,11 +1,6 @@
 -- The call: what an accepted request gives the parts that answer it.
-use Prim.Native.Nat.{ℕ, ◌≤◌, ◌<◌}
-use mathlib.Core.Path.{◌≡◌, sym, ap, ap₂, subst, ◌∙◌}
-use mathlib.Core.Bool.{true, false}
-use mathlib.Core.List.{List, ◌++◌}
-use native.Mathlib.Omega.{arith}
-use lib.ListN.{length, get_or, take, drop, get_or-append}
-use lib.Seq.{length-take-le}
+use Rattle.std.proofs.Common.{ℕ, ◌≤◌, ◌<◌, ◌≡◌, sym, ap, ap₂, subst, ◌∙◌, true, false, List, ◌++◌, arith, length, get_or, take, drop, length-take-le}
+use lib.ListN.{get_or-append}
 use borrow.Author.Tests.{ltb-false}
 use Rattle.buffers.specs.Fill.{put, tabulate}
 use Rattle.buffers.proofs.Put.{put_length}

@@ -1,7 +1,5 @@
 -- L8's answers, worked on a list of three intervals in 40 letters.
-use mathlib.Core.Path.{◌≡◌, refl}
-use Prim.Native.Nat.{ℕ}
-use mathlib.Core.List.{List, [], ◌∷◌}
+use Rattle.std.proofs.Common.{◌≡◌, refl, ℕ, List, [], ◌∷◌}
 use Rattle.buffers.specs.Fill.{tabulate, tabulate_from}
 use Rattle.intervals.specs.declared.Interval.{Interval}
 use Rattle.intervals.specs.Interval.{interval, covered, covered_in, usual_from}

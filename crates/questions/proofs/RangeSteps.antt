@@ -1,9 +1,5 @@
 -- The steps of `first_from`, `intervals_within` and `intervals_partly`: each of their answers.
-use Prim.Native.Nat.{ℕ, ◌-◌, ◌≤◌, ◌<◌}
-use mathlib.Core.Path.{◌≡◌, sym, ap, ap₂, ◌∙◌}
-use mathlib.Core.List.{List, [], ◌∷◌}
-use mathlib.Core.Logic.{inl, inr}
-use native.Mathlib.Omega.{arith}
+use Rattle.std.proofs.Common.{ℕ, ◌-◌, ◌≤◌, ◌<◌, ◌≡◌, sym, ap, ap₂, ◌∙◌, List, [], ◌∷◌, inl, inr, arith}
 use Rattle.intervals.specs.declared.Interval.{Interval}
 use Rattle.questions.specs.Answers.{answer, none, first_and_count, all_that, within, partly}
 use Rattle.questions.specs.Usual.{Usual}

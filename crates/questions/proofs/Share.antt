@@ -1,9 +1,5 @@
 -- The share: share times length + remainder = 10,000 times masked letters, remainder below the length; both fit 32 bits.
-use Prim.Native.Nat.{ℕ, ◌+◌, ◌-◌, ◌*◌, ◌/◌, ◌%◌, ◌<◌}
-use mathlib.Core.Path.{◌≡◌, ap}
-use mathlib.Core.List.{List}
-use native.Mathlib.Nat.{div-add-mod', mod-lt, div-lt_iff_lt-mul}
-use native.Mathlib.Omega.{arith}
+use Rattle.std.proofs.Common.{ℕ, ◌+◌, ◌-◌, ◌*◌, ◌/◌, ◌%◌, ◌<◌, ◌≡◌, ap, List, div-add-mod', mod-lt, div-lt_iff_lt-mul, arith}
 use Rattle.intervals.specs.declared.Interval.{Interval}
 use Rattle.intervals.specs.Interval.{covered_in}
 use Rattle.intervals.proofs.Counted.{covered_at_most}

@@ -1,10 +1,6 @@
 -- The fewest decimal digits of a number: there is one such count, it is `digit_count`, and a bound on the number bounds it.
-use Prim.Native.Nat.{ℕ, zero, suc, ◌-◌, ◌/◌, ◌^◌, ◌≤◌, ◌<◌}
-use mathlib.Core.Path.{◌≡◌, refl, ◌∙◌}
-use mathlib.Core.Logic.{⊎_elim}
-use native.Mathlib.Nat.{pow-suc, pow-le-pow_right}
-use native.Mathlib.Omega.{arith}
-use lib.ListN.{length, length-append}
+use Rattle.std.proofs.Common.{ℕ, zero, suc, ◌-◌, ◌/◌, ◌^◌, ◌≤◌, ◌<◌, ◌≡◌, refl, ◌∙◌, ⊎_elim, pow-suc, arith, length, length-append}
+use native.Mathlib.Nat.{pow-le-pow_right}
 use borrow.Author.Tests.{lt-ltb, le-ltb}
 use Rattle.intervals.proofs.Order.{lt_or_le}
 use Rattle.io.specs.Digits.{last_digits, IsDigitCount}

@@ -1,6 +1,5 @@
 -- The text that the paper gives for twenty A and for nine A, and the text of a refusal.
-use mathlib.Core.Path.{◌≡◌, refl}
-use mathlib.Core.List.{[], ◌∷◌}
+use Rattle.std.proofs.Common.{◌≡◌, refl, [], ◌∷◌}
 use Rattle.intervals.specs.Interval.{interval}
 use Rattle.report.specs.Ascii.{ascii}
 use Rattle.report.specs.Text.{digit_count, decimal, lines, report, refusal_line}

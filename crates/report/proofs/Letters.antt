@@ -1,14 +1,6 @@
 -- Letters of bytes: joined to a buffer a byte at a time, as `keep_letters` does, and block by block, as a program reads them.
-use Prim.Native.Nat.{ℕ, zero, suc, ◌+◌, ◌-◌, ◌≤◌, ◌<◌}
-use mathlib.Core.Path.{◌≡◌, refl, sym, ap, ap₂, ◌∙◌}
-use mathlib.Core.Bool.{Bool, true, false, cond}
-use mathlib.Core.Logic.{◌≢◌}
-use mathlib.Core.List.{List, [], ◌∷◌, ◌++◌, append_assoc, append-nil}
-use native.Mathlib.Numerals.{add-one}
-use native.Mathlib.Omega.{arith}
-use lib.Dec.{eqb}
-use lib.ListN.{length, take, drop, get_or, set, length-set, drop_of_length-le}
-use lib.Seq.{drop-cons, drop-drop, drop-set-lt, length-take-le, take-nil, take-suc-set}
+use Rattle.std.proofs.Common.{ℕ, zero, suc, ◌+◌, ◌-◌, ◌≤◌, ◌<◌, ◌≡◌, refl, sym, ap, ap₂, ◌∙◌, Bool, true, false, cond, ◌≢◌, List, [], ◌∷◌, ◌++◌, append_assoc, append-nil, add-one, arith, eqb, length, take, drop, get_or, set, length-set, drop_of_length-le, drop-cons, drop-drop, drop-set-lt, length-take-le, take-suc-set}
+use lib.Seq.{take-nil}
 use borrow.Author.Tests.{eq-eqb, ne_eqb}
 use Rattle.report.specs.Letters.{letters_of}
 use Rattle.report.specs.Written.{Written}

@@ -1,11 +1,5 @@
 -- Texts written one after the other into a lent text.
-use Prim.Native.Nat.{ℕ, ◌+◌, ◌≤◌}
-use mathlib.Core.Path.{◌≡◌, refl, sym, ap, ap₂, ◌∙◌}
-use mathlib.Core.List.{List, [], ◌++◌, append_assoc}
-use native.Mathlib.Nat.{add-zero}
-use native.Mathlib.Omega.{arith}
-use lib.ListN.{length, take, drop, length-append, take-append-drop}
-use lib.Seq.{take_at, drop-drop, length-take-le}
+use Rattle.std.proofs.Common.{ℕ, ◌+◌, ◌≤◌, ◌≡◌, refl, sym, ap, ap₂, ◌∙◌, List, [], ◌++◌, append_assoc, add-zero, arith, length, take, drop, length-append, take-append-drop, take_at, drop-drop, length-take-le}
 use Rattle.buffers.specs.Fill.{put_at}
 use Rattle.buffers.proofs.Put.{put_at_none, put_at_next, put_at_length}
 use Rattle.report.specs.declared.text.Text.{Text}

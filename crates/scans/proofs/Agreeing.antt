@@ -1,15 +1,7 @@
 -- Tables that agree on entries 1..m: no other entry of them is read over a window of at most m places, so the back check, extend and both scans are the same; and what of them max_test reads.
-use mathlib.Core.Path.{◌≡◌, refl, ap, ◌∙◌}
-use Prim.Native.Nat.{ℕ, zero, suc, ◌+◌, ◌-◌, ◌≤◌, ◌<◌}
-use native.Mathlib.Omega.{arith}
-use mathlib.Core.Bool.{Bool, true, false, cond, ◌&&◌}
-use mathlib.Core.Logic.{◌≢◌}
-use mathlib.Core.List.{List, [], ◌∷◌}
-use lib.ListN.{length, get_or, drop, length-drop, replicate, length-replicate}
-use lib.Seq.{get_or-set_same}
-use lib.Dec.{T, leb, leb→le}
-use lib.IntN.{ℤ, pos}
-use lib.Ieee.{Float, nan, lt, to_signed}
+use Rattle.std.proofs.Common.{◌≡◌, refl, ap, ◌∙◌, ℕ, zero, suc, ◌+◌, ◌-◌, ◌≤◌, ◌<◌, arith, Bool, true, false, cond, ◌&&◌, ◌≢◌, List, [], ◌∷◌, length, get_or, drop, length-drop, replicate, get_or-set_same, T, leb, leb→le, ℤ, pos, Float}
+use lib.ListN.{length-replicate}
+use lib.Ieee.{nan, lt, to_signed}
 use Rattle.floats.specs.Arithmetic.{◌⊕◌, ◌⊖◌, ◌⊗◌, ◌⊘◌}
 use Rattle.floats.specs.Binary64.{zero64, slack, number}
 use Rattle.letters.specs.Place.{Place, ambiguous, plain, BelowAt, Below}

@@ -1,12 +1,6 @@
 -- The back check, a turn at a time: what is left of the check, from the present sum, is the whole check. A turn reads the entry before index i, which stands at index `at` of the ring; v is its value.
-use mathlib.Core.Path.{◌≡◌, sym, ap, ◌∙◌}
-use mathlib.Core.Bool.{true, false, cond}
-use mathlib.Core.List.{List}
-use Prim.Native.Nat.{ℕ, suc, ◌-◌, ◌/◌, ◌<◌, ◌≤◌}
-use native.Mathlib.Omega.{arith}
-use lib.ListN.{length, get_or}
-use lib.IntN.{ℤ, pos, negsuc}
-use lib.Ieee.{Float, lt}
+use Rattle.std.proofs.Common.{◌≡◌, sym, ap, ◌∙◌, true, false, cond, List, ℕ, suc, ◌-◌, ◌/◌, ◌<◌, ◌≤◌, arith, length, get_or, ℤ, pos, negsuc, Float}
+use lib.Ieee.{lt}
 use Rattle.floats.specs.Arithmetic.{◌⊕◌, ◌⊖◌}
 use Rattle.floats.specs.Binary64.{zero64}
 use Rattle.letters.specs.Place.{Place, ambiguous}

@@ -1,12 +1,6 @@
 -- The backward scan over a straight part of the ring while no place is best (`ScanningLow`): where it meets its first best place, it has gone over the newest of the part's entries (`low_raised`).
-use mathlib.Core.Path.{◌≡◌, refl, sym, ap, ◌∙◌, subst}
-use mathlib.Core.Bool.{Bool, true, false, ◌&&◌}
-use mathlib.Core.List.{List}
-use Prim.Native.Nat.{ℕ, suc, ◌+◌, ◌-◌, ◌<◌, ◌≤◌}
-use native.Mathlib.Omega.{arith}
-use lib.ListN.{length, get_or, drop, length-drop}
-use lib.Seq.{get_or-drop}
-use lib.Ieee.{Float, lt, le}
+use Rattle.std.proofs.Common.{◌≡◌, refl, sym, ap, ◌∙◌, subst, Bool, true, false, ◌&&◌, List, ℕ, suc, ◌+◌, ◌-◌, ◌<◌, ◌≤◌, arith, length, get_or, drop, length-drop, get_or-drop, Float}
+use lib.Ieee.{lt, le}
 use Rattle.floats.specs.Arithmetic.{◌⊖◌}
 use Rattle.floats.specs.Binary64.{zero64, tiny}
 use Rattle.letters.specs.Place.{Place}

@@ -1,13 +1,7 @@
 -- The backward scan, a turn at a time: over a straight part of the ring (`Scanning`), from one rest to the next over the window (`goes_on`), and the definition's scan from one rest to the next (`backward_rest`).
-use mathlib.Core.Path.{◌≡◌, refl, sym, ap, ap₂, ◌∙◌, subst}
-use mathlib.Core.Bool.{Bool, true, false, cond, not, ◌&&◌, ◌||◌, true≢false}
-use mathlib.Core.List.{List, [], ◌∷◌, ◌++◌}
-use Prim.Native.Nat.{ℕ, zero, suc, ◌+◌, ◌-◌, ◌/◌, ◌%◌, ◌^◌, ◌<◌, ◌≤◌}
-use native.Mathlib.Omega.{arith}
-use lib.ListN.{length, get_or, take, drop, replicate, length-drop}
-use lib.Seq.{drop-cons, drop-length}
-use lib.Dec.{T}
-use lib.Ieee.{Float, nan, neg, lt, le, eq, of_bits, of_fields}
+use Rattle.std.proofs.Common.{◌≡◌, refl, sym, ap, ap₂, ◌∙◌, subst, Bool, true, false, cond, not, ◌&&◌, ◌||◌, true≢false, List, [], ◌∷◌, ◌++◌, ℕ, zero, suc, ◌+◌, ◌-◌, ◌/◌, ◌%◌, ◌^◌, ◌<◌, ◌≤◌, arith, length, get_or, take, drop, replicate, length-drop, drop-cons, T, Float}
+use lib.Seq.{drop-length}
+use lib.Ieee.{nan, neg, lt, le, eq, of_bits, of_fields}
 use Rattle.floats.specs.Arithmetic.{◌⊖◌}
 use Rattle.floats.specs.Binary64.{zero64, near_zero}
 use Rattle.floats.proofs.Order.{lt_self, le_lt_trans}

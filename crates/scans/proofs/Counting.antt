@@ -1,12 +1,7 @@
 -- How often a k-mer stands among places that were joined, dropped or lowered, and `Counted`: a list of counts that holds the counts of some places.
-use mathlib.Core.Path.{◌≡◌, refl, sym, ap, ◌∙◌, subst}
-use Prim.Native.Nat.{ℕ, zero, suc, ◌+◌, ◌-◌, ◌≤◌, ◌<◌}
-use native.Mathlib.Omega.{arith}
-use mathlib.Core.Bool.{Bool, true, false, cond}
-use mathlib.Core.List.{List, [], ◌∷◌, ◌++◌, reverse, reverse-cons}
-use lib.ListN.{length, get_or, take, drop, replicate, length-set, length-replicate, take-append-drop}
-use lib.Seq.{get_or-set_same, get_or-set_other}
-use lib.Dec.{eqb}
+use Rattle.std.proofs.Common.{◌≡◌, refl, sym, ap, ◌∙◌, subst, ℕ, zero, suc, ◌+◌, ◌-◌, ◌≤◌, ◌<◌, arith, Bool, true, false, cond, List, [], ◌∷◌, ◌++◌, reverse, length, get_or, take, drop, replicate, length-set, take-append-drop, get_or-set_same, get_or-set_other, eqb}
+use mathlib.Core.List.{reverse-cons}
+use lib.ListN.{length-replicate}
 use borrow.Author.Tests.{eqb-true, eqb-false, eq-eqb, ne_eqb}
 use Rattle.letters.specs.Place.{Place, ambiguous, plain, BelowAt, Below}
 use Rattle.scans.specs.Counts.{hit, count, raise, lower}

@@ -1,11 +1,5 @@
 -- Tables in range: a stretch whose loss is past its gain by at most (n + w + 4) * 2^-33 is evidence for its letters.
-use mathlib.Core.Path.{◌≡◌, sym, subst}
-use Prim.Native.Nat.{ℕ, ◌+◌, ◌*◌, ◌≤◌, ◌<◌}
-use native.Mathlib.Omega.{arith}
-use mathlib.Core.List.{List}
-use lib.ListN.{length, drop, length-take, length-drop}
-use lib.IntN.{pos, neg_ℤ, ◌*ℤ◌}
-use lib.Signed.{◌≤ℤ◌}
+use Rattle.std.proofs.Common.{◌≡◌, sym, subst, ℕ, ◌+◌, ◌*◌, ◌≤◌, ◌<◌, arith, List, length, drop, length-take, length-drop, pos, neg_ℤ, ◌*ℤ◌, ◌≤ℤ◌}
 use Rattle.floats.specs.Binary64.{one}
 use Rattle.floats.proofs.Whole.{is_neg, is_scaled, is_le}
 use Rattle.floats.proofs.Sums.{err, err_units}

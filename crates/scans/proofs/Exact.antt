@@ -1,15 +1,8 @@
 -- The one law of the exact score's sum over k-mers: one place more, at either end, changes one k-mer's term, by the ln entry of its new count.
-use mathlib.Core.Path.{◌≡◌, refl, sym, ap, ap₂, ◌∙◌, subst}
-use Prim.Native.Nat.{ℕ, zero, suc, ◌+◌, ◌<◌}
-use native.Mathlib.Nat.{le_refl}
-use native.Mathlib.Omega.{arith}
-use mathlib.Core.Bool.{Bool, true, false}
-use mathlib.Core.Logic.{◌≢◌}
-use mathlib.Core.List.{List, [], ◌∷◌, ◌++◌}
-use lib.Dec.{eqb}
+use Rattle.std.proofs.Common.{◌≡◌, refl, sym, ap, ap₂, ◌∙◌, subst, ℕ, zero, suc, ◌+◌, ◌<◌, le_refl, arith, Bool, true, false, ◌≢◌, List, [], ◌∷◌, ◌++◌, eqb, ℤ, pos, ◌+ℤ◌, Float}
 use borrow.Author.Tests.{eqb-true, eqb-false}
-use lib.IntN.{ℤ, pos, ◌+ℤ◌, +ℤ_assoc, +ℤ_comm, +ℤ_idr}
-use lib.Ieee.{Float, of_bits}
+use lib.IntN.{+ℤ_assoc, +ℤ_comm, +ℤ_idr}
+use lib.Ieee.{of_bits}
 use Rattle.floats.specs.Value.{value, magnitude}
 use Rattle.floats.specs.Binary64.{zero64, value64}
 use Rattle.letters.specs.Place.{Place, ambiguous, plain, BelowAt}

@@ -1,10 +1,5 @@
 -- The paper's example of an exact score: "AAAA", k = 2, ln[1..3] = 0 1 2, f = 0, T = 0.5: places 1..3 score 1.5.
-use mathlib.Core.Path.{◌≡◌, refl}
-use Prim.Native.Nat.{◌*◌, ◌^◌}
-use mathlib.Core.Bool.{false}
-use mathlib.Core.List.{List, [], ◌∷◌}
-use lib.ListN.{take}
-use lib.IntN.{pos, ◌+ℤ◌}
+use Rattle.std.proofs.Common.{◌≡◌, refl, ◌*◌, ◌^◌, false, List, [], ◌∷◌, take, pos, ◌+ℤ◌}
 use lib.Ieee.{binary64, of_bits, of_fields, of_int, add, sub, neg, lt, le}
 use Rattle.floats.specs.Value.{value, magnitude}
 use Rattle.floats.specs.Binary64.{number, zero64, half64}

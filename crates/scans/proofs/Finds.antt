@@ -1,11 +1,5 @@
 -- What the backward scan can answer, for any float bits: none, or a place whose forward scan was best at the newest entry, with that scan's counts. So a property of finds and counts that both have, its answer has.
-use mathlib.Core.Path.{◌≡◌}
-use Prim.Native.Nat.{ℕ, zero, suc, ◌+◌, max}
-use mathlib.Core.Bool.{cond}
-use mathlib.Core.List.{List, []}
-use lib.ListN.{length, get_or}
-use lib.Dec.{eqb, ltb, eqb→eq}
-use lib.Ieee.{Float}
+use Rattle.std.proofs.Common.{◌≡◌, ℕ, zero, suc, ◌+◌, max, cond, List, [], length, get_or, eqb, ltb, eqb→eq, Float}
 use Rattle.letters.specs.Place.{Place}
 use Rattle.scans.specs.Setup.{Setup}
 use Rattle.scans.specs.Counts.{cleared}

@@ -1,13 +1,9 @@
 -- Tables in range: the float score of L places, in whatever order a scan reads them, is within (L + 1) / 2^33 of their exact score.
-use mathlib.Core.Path.{◌≡◌, refl, sym, ap, ◌∙◌, subst}
-use Prim.Native.Nat.{ℕ, suc, ◌+◌, ◌*◌, ◌-◌, ◌≤◌, ◌<◌}
-use native.Mathlib.Nat.{mul-le-mul_right}
-use native.Mathlib.Omega.{arith}
-use mathlib.Core.List.{List, [], ◌∷◌, ◌++◌, append-nil, reverse, reverse-append}
-use lib.ListN.{length, take, drop, length-append, length-take, length-drop, length-reverse, take-append-drop}
-use lib.Seq.{append_snoc, take_at}
-use lib.IntN.{ℤ, nat_abs, ◌-ℤ◌}
-use lib.Ieee.{Float, binary64}
+use Rattle.std.proofs.Common.{◌≡◌, refl, sym, ap, ◌∙◌, subst, ℕ, suc, ◌+◌, ◌*◌, ◌-◌, ◌≤◌, ◌<◌, mul-le-mul_right, arith, List, [], ◌∷◌, ◌++◌, append-nil, reverse, length, take, drop, length-append, length-take, length-drop, take-append-drop, take_at, ℤ, nat_abs, ◌-ℤ◌, Float}
+use mathlib.Core.List.{reverse-append}
+use lib.ListN.{length-reverse}
+use lib.Seq.{append_snoc}
+use lib.Ieee.{binary64}
 use Rattle.floats.specs.Arithmetic.{◌⊕◌, ◌⊖◌}
 use Rattle.floats.specs.Binary64.{value64, zero64}
 use Rattle.floats.proofs.Whole.{Is, is_sub, is_size, value_is}

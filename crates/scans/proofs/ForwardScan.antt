@@ -1,11 +1,6 @@
 -- The forward scan, a turn at a time, over a straight part of the ring, and over both parts.
-use mathlib.Core.Path.{◌≡◌, refl, sym, ap, ◌∙◌, subst}
-use mathlib.Core.Bool.{Bool, true, false, cond, true≢false}
-use mathlib.Core.List.{List, [], ◌∷◌, ◌++◌}
-use Prim.Native.Nat.{ℕ, ◌+◌, ◌-◌, ◌/◌, ◌^◌, ◌<◌, ◌≤◌}
-use native.Mathlib.Omega.{arith}
-use lib.ListN.{length, get_or, drop, replicate, drop_of_length-le}
-use lib.Ieee.{Float, lt}
+use Rattle.std.proofs.Common.{◌≡◌, refl, sym, ap, ◌∙◌, subst, Bool, true, false, cond, true≢false, List, [], ◌∷◌, ◌++◌, ℕ, ◌+◌, ◌-◌, ◌/◌, ◌^◌, ◌<◌, ◌≤◌, arith, length, get_or, drop, replicate, drop_of_length-le, Float}
+use lib.Ieee.{lt}
 use Rattle.floats.specs.Arithmetic.{◌⊕◌, ◌⊖◌}
 use Rattle.floats.specs.Binary64.{slack}
 use Rattle.letters.specs.Place.{Place}
@@ -65,10 +60,6 @@ module _ (S : Setup) (limit : Float) (start from : ℕ) (part : List ℕ) (a : F
 
       entry_below : entry / 2 < length counts
       entry_below = omega (arith, r.below i h, c.same)
-
-      -- There is room to count the entry.
-      pub entry_counts : (n : ℕ) → from + length part ≤ 65535 → from + length part < n → (entry / 2 < length counts) × (get_or counts (entry / 2) 0 < 65535) × (get_or counts (entry / 2) 0 + 1 < n)
-      entry_counts n small long = let w = c.few.at_most (entry / 2) in (entry_below, omega arith, omega arith)
 
       module _ (v : Float) (counts' : List ℕ) (k : CountsEntry S.ln counts (decode entry) v counts') (s : start ≤ from) (b' : ForwardState)
           (judged : forward_of b' ≡ forward_judged (forward_of b) (next_sum S (forward_of b) v) (next_score S (from + i + 1 - start) (forward_of b) v) (from + i)) where

@@ -1,16 +1,8 @@
 -- The forward scan's best. For any float bits it is not below 0, and a find, a scan that is best at the newest entry, started at an index of the window.
 -- With tables in range the scores are numbers: none is above that of a find, which is the float score of the L places from the find to the newest, within (L + 1) / 2^33 of the exact score.
-use mathlib.Core.Path.{◌≡◌, refl, sym, ap, ◌∙◌, subst}
-use Prim.Native.Nat.{ℕ, zero, suc, ◌+◌, ◌≤◌, ◌<◌}
-use native.Mathlib.Nat.{eq-or-lt_of_le}
-use native.Mathlib.Omega.{arith}
-use mathlib.Core.Bool.{Bool, false}
-use mathlib.Core.Logic.{⊎_elim}
-use mathlib.Core.List.{List, [], ◌∷◌}
-use lib.ListN.{length, take, drop, length-take, length-drop}
+use Rattle.std.proofs.Common.{◌≡◌, refl, sym, ap, ◌∙◌, subst, ℕ, zero, suc, ◌+◌, ◌≤◌, ◌<◌, eq-or-lt_of_le, arith, Bool, false, ⊎_elim, List, [], ◌∷◌, length, take, drop, length-take, length-drop, T, Float}
 use lib.Seq.{take-length}
-use lib.Dec.{T}
-use lib.Ieee.{Float, binary64, inf, add, sub, lt, le}
+use lib.Ieee.{binary64, inf, add, sub, lt, le}
 use Rattle.floats.specs.Arithmetic.{◌⊕◌}
 use Rattle.floats.specs.Binary64.{zero64, slack}
 use Rattle.floats.proofs.Compare.{le_self}

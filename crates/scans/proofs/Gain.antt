@@ -1,11 +1,6 @@
 -- Tables in the paper's ranges: there the exact score of a stretch is `gain - loss` of naturals, in units of 2^-1074, and the gain is at most 16 a place.
-use mathlib.Core.Path.{◌≡◌, refl, ap, ◌∙◌}
-use Prim.Native.Nat.{ℕ, zero, suc, ◌+◌, ◌*◌, ◌≤◌, ◌<◌}
-use native.Mathlib.Omega.{arith}
-use mathlib.Core.List.{List, [], ◌∷◌, ◌++◌}
-use lib.ListN.{length}
-use lib.IntN.{ℤ, pos, negsuc, nat_abs, ◌+ℤ◌, ◌-ℤ◌, ◌*ℤ◌}
-use lib.Ieee.{Float, binary64}
+use Rattle.std.proofs.Common.{◌≡◌, refl, ap, ◌∙◌, ℕ, zero, suc, ◌+◌, ◌*◌, ◌≤◌, ◌<◌, arith, List, [], ◌∷◌, ◌++◌, length, ℤ, pos, negsuc, nat_abs, ◌+ℤ◌, ◌-ℤ◌, ◌*ℤ◌, Float}
+use lib.Ieee.{binary64}
 use Rattle.floats.specs.Binary64.{one, value64}
 use Rattle.floats.proofs.Whole.{Is, is_as, is_sub, is_times, value_is_pos}
 use Rattle.floats.proofs.Sums.{zero_ranged}

@@ -1,12 +1,8 @@
 -- For any float bits each scan is a function of its scores: the forward scan of those of the places from its index on, the backward scan of those of the window read from its newest end.
-use mathlib.Core.Path.{◌≡◌, refl, sym, ap, ap₂, ◌∙◌, subst}
-use Prim.Native.Nat.{ℕ, zero, suc, ◌+◌, ◌≤◌, ◌<◌}
-use native.Mathlib.Omega.{arith}
-use mathlib.Core.Bool.{false, cond}
-use mathlib.Core.List.{List, [], ◌∷◌, ◌++◌, reverse, reverse-append}
-use lib.ListN.{length, get_or, take, drop, length-append}
-use lib.Seq.{append_snoc, take-append-add, take-suc, take-length}
-use lib.Ieee.{Float, inf, le, lt}
+use Rattle.std.proofs.Common.{◌≡◌, refl, sym, ap, ap₂, ◌∙◌, subst, ℕ, zero, suc, ◌+◌, ◌≤◌, ◌<◌, arith, false, cond, List, [], ◌∷◌, ◌++◌, reverse, length, get_or, take, drop, length-append, take-suc, Float}
+use mathlib.Core.List.{reverse-append}
+use lib.Seq.{append_snoc, take-append-add, take-length}
+use lib.Ieee.{inf, le, lt}
 use Rattle.floats.specs.Arithmetic.{◌⊕◌, ◌⊖◌}
 use Rattle.floats.specs.Binary64.{zero64, slack}
 use Rattle.letters.specs.Place.{Place, ambiguous}

@@ -1,13 +1,6 @@
 -- The straight parts of a ring: entries `from` to `to - 1` of the queue stand in one part before the ring's end and one past it, and the window's places are theirs, one part after the other.
-use mathlib.Core.Path.{◌≡◌, refl, sym, ap, ◌∙◌, subst}
-use mathlib.Core.Bool.{Bool, true, false, cond}
-use mathlib.Core.List.{List, [], ◌∷◌, ◌++◌}
-use mathlib.Core.Logic.{◌⊎◌, inl, inr, ⊎_elim}
-use Prim.Native.Nat.{ℕ, zero, suc, ◌+◌, ◌-◌, ◌/◌, ◌<◌, ◌≤◌}
-use native.Mathlib.Omega.{arith}
-use lib.ListN.{length, get_or, take, drop, length-append, length-drop, length-take, get_or-append}
-use lib.Seq.{ext_get_or, get_or-take, get_or-drop, get_or-append-add}
-use lib.Dec.{ltb}
+use Rattle.std.proofs.Common.{◌≡◌, refl, sym, ap, ◌∙◌, subst, Bool, true, false, cond, List, [], ◌∷◌, ◌++◌, ◌⊎◌, inl, inr, ⊎_elim, ℕ, zero, suc, ◌+◌, ◌-◌, ◌/◌, ◌<◌, ◌≤◌, arith, length, get_or, take, drop, length-append, length-drop, length-take, ext_get_or, get_or-take, get_or-drop, get_or-append-add, ltb}
+use lib.ListN.{get_or-append}
 use borrow.Author.Tests.{ltb-true, ltb-false}
 use Rattle.letters.specs.Place.{Place, ambiguous}
 use Rattle.letters.specs.Terms.Entry.{decode, decoded}

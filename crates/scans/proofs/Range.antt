@@ -1,14 +1,6 @@
 -- Where the flag of a checked setup says yes, T and the table entries lie in the ranges that the evidence asks for.
-use mathlib.Core.Path.{◌≡◌, sym, subst}
-use Prim.Native.Nat.{ℕ, zero, suc, ◌≤◌, ◌<◌}
-use native.Mathlib.Nat.{eq-or-lt_of_le}
-use native.Mathlib.Omega.{arith}
-use mathlib.Core.Logic.{⊎_elim}
-use mathlib.Core.Bool.{Bool, ◌&&◌}
-use mathlib.Core.List.{List}
-use lib.ListN.{get_or}
-use lib.Dec.{T}
-use lib.Ieee.{Float, nan, le}
+use Rattle.std.proofs.Common.{◌≡◌, sym, subst, ℕ, zero, suc, ◌≤◌, ◌<◌, eq-or-lt_of_le, arith, ⊎_elim, Bool, ◌&&◌, List, get_or, T, Float}
+use lib.Ieee.{nan, le}
 use lib.Ieee.Fits.{and_l, and_r}
 use Rattle.floats.specs.Binary64.{zero64, sixteen, two_to20}
 use Rattle.floats.proofs.Order.{lt_le}

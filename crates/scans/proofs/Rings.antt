@@ -1,15 +1,8 @@
 -- The queue in a ring: the index of its j-th entry, its length, the entry that joins and the one that leaves; and the same of the window's places.
-use mathlib.Core.Path.{◌≡◌, refl, sym, ap, ◌∙◌, subst}
-use mathlib.Core.Bool.{Bool, true, false, cond}
-use mathlib.Core.List.{List, [], ◌∷◌, ◌++◌, map-append}
-use mathlib.Core.Logic.{◌⊎◌, inl, inr, ⊎_elim}
-use Prim.Native.Nat.{ℕ, zero, suc, ◌+◌, ◌-◌, ◌<◌, ◌≤◌}
-use native.Mathlib.Omega.{arith}
-use native.Mathlib.Nat.{eq-or-lt_of_le}
-use native.Mathlib.Numerals.{add-one}
-use lib.ListN.{length, get_or, set, take, drop, length-append, length-drop, length-take, length-set, get_or-append}
-use lib.Seq.{ext_get_or, get_or_at, get_or-take, get_or-drop, get_or-append-add, get_or-set_same, get_or-set_other, set-get_or}
-use lib.Dec.{ltb}
+use Rattle.std.proofs.Common.{◌≡◌, refl, sym, ap, ◌∙◌, subst, Bool, true, false, cond, List, [], ◌∷◌, ◌++◌, ◌⊎◌, inl, inr, ⊎_elim, ℕ, zero, suc, ◌+◌, ◌-◌, ◌<◌, ◌≤◌, arith, eq-or-lt_of_le, add-one, length, get_or, set, take, drop, length-append, length-drop, length-take, length-set, ext_get_or, get_or-take, get_or-drop, get_or-append-add, get_or-set_same, get_or-set_other, ltb}
+use mathlib.Core.List.{map-append}
+use lib.ListN.{get_or-append}
+use lib.Seq.{get_or_at, set-get_or}
 use borrow.Author.Tests.{ltb-true, ltb-false}
 use Rattle.letters.specs.Place.{ambiguous}
 use Rattle.letters.specs.Terms.Entry.{decode, decoded}

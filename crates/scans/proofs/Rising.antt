@@ -1,10 +1,5 @@
 -- Tables in range and of the usual shape: the more places stand before it, the more a place adds (`added_more`); so places add the more to the larger of two stretches (`gain_rise`).
-use mathlib.Core.Path.{◌≡◌, ap, subst}
-use Prim.Native.Nat.{ℕ, zero, suc, ◌+◌, ◌-◌, ◌≤◌, ◌<◌}
-use native.Mathlib.Nat.{le_refl}
-use native.Mathlib.Omega.{arith}
-use mathlib.Core.List.{List, [], ◌∷◌, ◌++◌, append-nil}
-use lib.ListN.{length, length-append}
+use Rattle.std.proofs.Common.{◌≡◌, ap, subst, ℕ, zero, suc, ◌+◌, ◌-◌, ◌≤◌, ◌<◌, le_refl, arith, List, [], ◌∷◌, ◌++◌, append-nil, length, length-append}
 use lib.Seq.{append_snoc}
 use Rattle.floats.specs.Binary64.{zero64}
 use Rattle.floats.proofs.Compare.{le_value}

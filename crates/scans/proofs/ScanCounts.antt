@@ -1,12 +1,6 @@
 -- Scan counts are at most as many as the places that were counted, whatever the tables are.
-use mathlib.Core.Path.{◌≡◌, refl}
-use mathlib.Core.Bool.{cond}
-use mathlib.Core.List.{List, [], ◌∷◌}
-use Prim.Native.Nat.{ℕ, zero, suc, ◌+◌, ◌-◌, ◌≤◌, max}
-use native.Mathlib.Omega.{arith}
-use lib.ListN.{length, get_or, set, drop, replicate, length-drop}
-use lib.Dec.{eqb, ltb}
-use lib.Ieee.{Float, lt}
+use Rattle.std.proofs.Common.{◌≡◌, refl, cond, List, [], ◌∷◌, ℕ, zero, suc, ◌+◌, ◌-◌, ◌≤◌, max, arith, length, get_or, set, drop, replicate, length-drop, eqb, ltb, Float}
+use lib.Ieee.{lt}
 use Rattle.floats.specs.Arithmetic.{◌⊕◌, ◌⊖◌}
 use Rattle.floats.specs.Binary64.{zero64}
 use Rattle.letters.specs.Place.{Place, ambiguous, plain}

@@ -1,14 +1,6 @@
 -- Tables of the usual shape: ln entries do not fall, and f grows the more the longer the stretch is, up to 2^-31 for each place (`f_widens`).
-use mathlib.Core.Path.{◌≡◌, refl, subst}
-use mathlib.Core.Bool.{Bool, ◌&&◌}
-use mathlib.Core.List.{List}
-use mathlib.Core.Logic.{⊎_elim}
-use Prim.Native.Nat.{ℕ, zero, suc, ◌+◌, ◌-◌, ◌*◌, ◌≤◌, ◌<◌}
-use native.Mathlib.Nat.{eq-or-lt_of_le}
-use native.Mathlib.Omega.{arith}
-use lib.ListN.{get_or}
-use lib.Dec.{T, lit≤}
-use lib.Ieee.{Float, nan, binary64, le}
+use Rattle.std.proofs.Common.{◌≡◌, refl, subst, Bool, ◌&&◌, List, ⊎_elim, ℕ, zero, suc, ◌+◌, ◌-◌, ◌*◌, ◌≤◌, ◌<◌, eq-or-lt_of_le, arith, get_or, T, lit≤, Float}
+use lib.Ieee.{nan, binary64, le}
 use lib.Ieee.Fits.{and_l, and_r}
 use Rattle.floats.proofs.Binary64.{near_self, near_as, count_sub}
 use Rattle.floats.proofs.Compare.{le_self}

@@ -1,13 +1,6 @@
 -- Tables in range: a stretch that a scan finds has no better shorter one from the same first place, in exact scores and up to the errors of the float scores.
 -- Stated of `dust_backward`, so for both approx settings, and for any window, so for both strands.
-use mathlib.Core.Path.{◌≡◌, subst}
-use Prim.Native.Nat.{ℕ, ◌+◌, ◌*◌, ◌≤◌, ◌<◌}
-use native.Mathlib.Nat.{mul-le-mul_right}
-use native.Mathlib.Omega.{arith}
-use mathlib.Core.List.{List, [], ◌∷◌}
-use lib.ListN.{length, take, drop, length-take, length-drop}
-use lib.IntN.{pos, ◌+ℤ◌, ◌*ℤ◌}
-use lib.Ieee.{Float}
+use Rattle.std.proofs.Common.{◌≡◌, subst, ℕ, ◌+◌, ◌*◌, ◌≤◌, ◌<◌, mul-le-mul_right, arith, List, [], ◌∷◌, length, take, drop, length-take, length-drop, pos, ◌+ℤ◌, ◌*ℤ◌, Float}
 use Rattle.floats.proofs.Sums.{err, err_units}
 use Rattle.floats.proofs.Whole.{is_add, is_scaled, is_le}
 use Rattle.floats.proofs.Rounded.{eps}

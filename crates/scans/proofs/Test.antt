@@ -1,7 +1,5 @@
 -- A fact about what a test chooses follows from the fact in each of its two cases; and two tests neither of which holds.
-use mathlib.Core.Path.{◌≡◌, refl}
-use mathlib.Core.Bool.{Bool, true, false, cond, not, ◌||◌, true≢false}
-use lib.Dec.{T}
+use Rattle.std.proofs.Common.{◌≡◌, refl, Bool, true, false, cond, not, ◌||◌, true≢false, T}
 
 pub by_test {ℓ} : {A : Type ℓ} (Q : A → Type 0) (b : Bool) (x y : A) → (T b → Q x) → (T (not b) → Q y) → Q (cond b x y)
 by_test Q true x y f g = f tt

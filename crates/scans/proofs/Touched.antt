@@ -1,14 +1,9 @@
 -- Counts that only the places of a list can have raised (`Touched`): what a scan, a place that joins and one that leaves make of them, and that clearing the counts
 -- of all the places clears all (`touched_clear`, `touched_none`).
-use mathlib.Core.Path.{◌≡◌, refl, sym, subst}
-use Prim.Native.Nat.{ℕ, zero, suc, ◌+◌, ◌-◌, ◌/◌, ◌%◌, ◌≤◌}
-use native.Mathlib.Omega.{arith}
-use mathlib.Core.Bool.{Bool, true, false, cond}
-use mathlib.Core.List.{List, [], ◌∷◌, ◌++◌, append-nil}
-use lib.ListN.{length, get_or, set, drop, replicate, length-replicate}
-use lib.Seq.{get_or-set_other, ext_get_or, append_snoc}
-use lib.Dec.{eqb}
-use lib.Ieee.{Float, lt}
+use Rattle.std.proofs.Common.{◌≡◌, refl, sym, subst, ℕ, zero, suc, ◌+◌, ◌-◌, ◌/◌, ◌%◌, ◌≤◌, arith, Bool, true, false, cond, List, [], ◌∷◌, ◌++◌, append-nil, length, get_or, set, drop, replicate, get_or-set_other, ext_get_or, eqb, Float}
+use lib.ListN.{length-replicate}
+use lib.Seq.{append_snoc}
+use lib.Ieee.{lt}
 use borrow.Author.Tests.{eqb-true, eqb-false}
 use Rattle.floats.specs.Arithmetic.{◌⊕◌, ◌⊖◌}
 use Rattle.floats.specs.Binary64.{slack}

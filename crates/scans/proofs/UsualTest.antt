@@ -1,13 +1,7 @@
 -- The test whether the tables are of the usual shape, an entry at a time.
-use mathlib.Core.Path.{◌≡◌, refl, ap, ◌∙◌}
-use Prim.Native.Nat.{ℕ, zero, suc, ◌+◌, ◌-◌, ◌≤◌}
-use mathlib.Core.Bool.{Bool, true, ◌&&◌}
-use mathlib.Core.List.{List}
-use lib.ListN.{get_or}
-use lib.Ieee.{Float, nan, le}
+use Rattle.std.proofs.Common.{◌≡◌, refl, ap, ◌∙◌, ℕ, zero, suc, ◌+◌, ◌-◌, ◌≤◌, Bool, true, ◌&&◌, List, get_or, Float, arith, add-one}
+use lib.Ieee.{nan, le}
 use Rattle.floats.specs.Arithmetic.{◌⊖◌}
-use native.Mathlib.Omega.{arith}
-use native.Mathlib.Numerals.{add-one}
 use Rattle.scans.specs.Terms.Shape.{f_step, usual_to}
 
 pub usual_start : (ln f : List Float) → true ≡ usual_to ln f (1 - 1)

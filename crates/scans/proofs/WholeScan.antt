@@ -1,13 +1,7 @@
 -- A forward scan and the one that is never stopped: they are the same as far as no score is above the limit (`unstopped`), which the best score tells,
 -- and where the scan is best at the newest entry (`reached`). What it sums up does not depend on where the places stand (`index_free`). For any float bits.
-use mathlib.Core.Path.{◌≡◌, refl, sym, ap, ◌∙◌, subst}
-use Prim.Native.Nat.{ℕ, suc, ◌+◌, ◌≤◌}
-use native.Mathlib.Omega.{arith}
-use mathlib.Core.Bool.{Bool, true, false, cond, not}
-use mathlib.Core.List.{List, [], ◌∷◌, ◌++◌}
-use lib.ListN.{length}
-use lib.Dec.{T, T_not}
-use lib.Ieee.{Float, nan, inf, fin, lt, le}
+use Rattle.std.proofs.Common.{◌≡◌, refl, sym, ap, ◌∙◌, subst, ℕ, suc, ◌+◌, ◌≤◌, arith, Bool, true, false, cond, not, List, [], ◌∷◌, ◌++◌, length, T, T_not, Float}
+use lib.Ieee.{nan, inf, fin, lt, le}
 use Rattle.floats.specs.Arithmetic.{◌⊕◌, ◌⊖◌}
 use Rattle.floats.proofs.Order.{le_trans, le_right, lt_le_trans, lt_past}
 use Rattle.letters.specs.Place.{Place}

@@ -1,9 +1,5 @@
 -- What a window in a ring gives a scan: its entries by their index, as places, and that their k-mers and counts lie in range.
-use mathlib.Core.Path.{◌≡◌, subst}
-use mathlib.Core.List.{List}
-use Prim.Native.Nat.{ℕ, ◌/◌, ◌<◌}
-use native.Mathlib.Omega.{arith}
-use lib.ListN.{length, get_or}
+use Rattle.std.proofs.Common.{◌≡◌, subst, List, ℕ, ◌/◌, ◌<◌, arith, length, get_or}
 use Rattle.letters.specs.Place.{Place, ambiguous}
 use Rattle.letters.specs.Terms.Entry.{decode}
 use Rattle.scans.specs.declared.Params.{Params}

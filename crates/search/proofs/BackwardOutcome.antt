@@ -1,12 +1,5 @@
 -- The backward scan put together: what the slice holds can be tried, and its outcome is the definition's.
-use mathlib.Core.Path.{◌≡◌, sym, ap, ap₂, ◌∙◌, subst}
-use mathlib.Core.Bool.{Bool, true, false, cond}
-use mathlib.Core.List.{List, [], ◌∷◌}
-use Prim.Native.Nat.{ℕ, zero, suc, ◌^◌, ◌<◌, ◌≤◌}
-use native.Mathlib.Omega.{arith}
-use lib.ListN.{length, get_or, take}
-use lib.Seq.{get_or-take, length-take-le}
-use lib.Dec.{eqb}
+use Rattle.std.proofs.Common.{◌≡◌, sym, ap, ap₂, ◌∙◌, subst, Bool, true, false, cond, List, [], ◌∷◌, ℕ, zero, suc, ◌^◌, ◌<◌, ◌≤◌, arith, length, get_or, take, get_or-take, length-take-le, eqb}
 use Rattle.letters.specs.Place.{Place}
 use Rattle.scans.specs.declared.Params.{Params}
 use Rattle.scans.specs.declared.ForwardPosition.{ForwardPosition}
@@ -23,9 +16,6 @@ use Rattle.search.proofs.Noting.{AllBelow}
 use Rattle.scans.proofs.Walk.{windowed_queued}
 use Rattle.search.proofs.Slices.{candidates_length, candidates_at}
 use Rattle.search.proofs.Searching.{to_try_fit}
-
-pub ringed : {p : Params} {ring : List ℕ} {head len : ℕ} {window_counts : List ℕ} {n m k : ℕ} → k ≡ 4 ^ p.kmer → p.window_size < m → Windowed p ring head len window_counts n → Ringed ring head len n m k
-ringed e l w = record { queued = windowed_queued w e; ln_long = omega (arith, w.ring_is, w.ln_long); f_long = omega (arith, w.ring_is) }
 
 pub below_at : (n : ℕ) (cs : List Candidate) (j : ℕ) → AllBelow n cs → j < length cs → (get_or cs j no_candidate).place < n
 below_at n [] j h l = absurd (let b : ⊥ = omega arith in b)

@@ -1,14 +1,6 @@
 -- The find that a quick scan and a carried scan tell together (`carries_ahead`), and where they tell none (`carries_off`).
-use mathlib.Core.Path.{◌≡◌, refl, sym, ap, ◌∙◌, subst}
-use mathlib.Core.Bool.{Bool, true, false, not, true≢false}
-use mathlib.Core.List.{List, [], ◌∷◌, ◌++◌}
-use mathlib.Core.Logic.{◌≢◌}
-use Prim.Native.Nat.{ℕ, suc, ◌+◌, ◌-◌, ◌^◌, ◌/◌, ◌<◌, ◌≤◌}
-use native.Mathlib.Omega.{arith}
-use lib.ListN.{length, get_or, drop, length-append, length-drop}
-use lib.Seq.{drop-drop}
-use lib.Dec.{T}
-use lib.Ieee.{Float, lt, le}
+use Rattle.std.proofs.Common.{◌≡◌, refl, sym, ap, ◌∙◌, subst, Bool, true, false, not, true≢false, List, [], ◌∷◌, ◌++◌, ◌≢◌, ℕ, suc, ◌+◌, ◌-◌, ◌^◌, ◌/◌, ◌<◌, ◌≤◌, arith, length, get_or, drop, length-append, length-drop, drop-drop, T, Float}
+use lib.Ieee.{lt, le}
 use Rattle.floats.specs.Arithmetic.{◌⊕◌, ◌⊖◌}
 use Rattle.floats.specs.Binary64.{slack}
 use Rattle.letters.specs.Place.{Place, Below}
@@ -29,11 +21,6 @@ use Rattle.scans.proofs.Touched.{counted_touched, touched_part}
 use Rattle.scans.proofs.Walk.{queued_below}
 use Rattle.search.proofs.CarriedScan.{carried_forward, found_carried, uncertified}
 use Rattle.search.proofs.QuickFind.{quick_inside, quick_find}
-
--- Nothing is told.
-pub carries_off : (S : Setup) (q : List Place) (b : BackwardState) (counts : List ℕ) (r : Carry) → ScansQuick S q (rest_of b counts) → r ≡ no_carry → CarriesAhead S q b r counts
-carries_off S q b counts r k off =
-    record { tells = λ on. absurd (true≢false (sym on ∙ ap (λ (z : Carry). z.on) off)); touched = λ _. counted_touched (kmers S) counts (drop b.low q) k.here.counted }
 
 -- The quick scan b met no near tie, and its best place is at index j, where the carried scan c began.
 -- `counts` are those of the places from j on, the newest of which is e.

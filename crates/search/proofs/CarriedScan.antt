@@ -1,14 +1,7 @@
 -- The carried scan: one place more (`carried_next`), the find that it tells without a forward scan (`carried_forward`), and how a find begins it (`found_carried`). For any float bits.
-use mathlib.Core.Path.{◌≡◌, refl, sym, ap, ap₂, ◌∙◌, subst}
-use Rattle.std.specs.Prelude.{Option, None}
-use Prim.Native.Nat.{ℕ, ◌+◌, ◌-◌, ◌≤◌, ◌<◌}
-use native.Mathlib.Omega.{arith}
-use mathlib.Core.Bool.{Bool, true, false, cond, not}
-use mathlib.Core.List.{List, [], ◌∷◌, ◌++◌, append-nil}
-use lib.ListN.{length, drop, length-append, length-drop}
-use lib.Seq.{append_snoc, drop-append-le, ext_get_or}
-use lib.Dec.{T, T_not}
-use lib.Ieee.{Float, inf, le, lt}
+use Rattle.std.proofs.Common.{◌≡◌, refl, sym, ap, ap₂, ◌∙◌, subst, Option, None, ℕ, ◌+◌, ◌-◌, ◌≤◌, ◌<◌, arith, Bool, true, false, cond, not, List, [], ◌∷◌, ◌++◌, append-nil, length, drop, length-append, length-drop, ext_get_or, T, T_not, Float}
+use lib.Seq.{append_snoc, drop-append-le}
+use lib.Ieee.{inf, le, lt}
 use Rattle.floats.specs.Arithmetic.{◌⊕◌, ◌⊖◌}
 use Rattle.floats.specs.Binary64.{zero64, slack}
 use Rattle.floats.proofs.Tests.{le_sure}

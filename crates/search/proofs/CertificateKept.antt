@@ -1,14 +1,7 @@
 -- A certificate that is kept letter by letter, as the code does it: the newest place adds nothing to the near ones (`kept_still`, `kept_fresh`), or is so far from its last that T alone outweighs them (`kept_repeated`).
-use mathlib.Core.Path.{◌≡◌, refl, sym, ap, ◌∙◌, subst}
-use mathlib.Core.Bool.{◌&&◌}
-use mathlib.Core.List.{List, [], ◌∷◌, ◌++◌}
-use Rattle.std.specs.Prelude.{Option, Some, None}
+use Rattle.std.proofs.Common.{◌≡◌, refl, sym, ap, ◌∙◌, subst, ◌&&◌, List, [], ◌∷◌, ◌++◌, Option, Some, None, ℕ, suc, ◌+◌, ◌-◌, ◌≤◌, ◌<◌, arith, length, get_or, drop, length-append, length-drop, T, Float}
 use Rattle.std.proofs.lemmas.Option.{IfSome_then}
-use Prim.Native.Nat.{ℕ, suc, ◌+◌, ◌-◌, ◌≤◌, ◌<◌}
-use native.Mathlib.Omega.{arith}
-use lib.ListN.{length, get_or, drop, length-append, length-drop}
-use lib.Dec.{T}
-use lib.Ieee.{Float, lt, le, neg}
+use lib.Ieee.{lt, le, neg}
 use lib.Ieee.Fits.{and_l, and_r}
 use Rattle.floats.specs.Arithmetic.{◌⊕◌, ◌⊖◌, ◌⊗◌}
 use Rattle.floats.specs.Binary64.{zero64, number}

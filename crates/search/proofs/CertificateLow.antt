@@ -1,15 +1,8 @@
 -- Tables in range and of the usual shape. The low places of a certificate, from index d of the window on: none scores 0 or more, which a new place (`low_joined`) and a place that leaves (`low_left`) keep,
 -- as long as the float bounds say so (`low_used`).
-use mathlib.Core.Path.{◌≡◌, ap, ◌∙◌, subst}
-use Prim.Native.Nat.{ℕ, zero, suc, ◌+◌, ◌*◌, ◌-◌, ◌≤◌, ◌<◌}
-use native.Mathlib.Nat.{eq-zero-or-pos, mul-le-mul_left, mul-le-mul_right}
-use native.Mathlib.Omega.{arith}
-use mathlib.Core.Logic.{◌⊎◌, inl, inr}
-use mathlib.Core.List.{List, [], ◌∷◌, ◌++◌}
-use lib.ListN.{length, take, drop, length-append, length-drop}
-use lib.Seq.{drop-append-le, drop-drop, drop-length}
-use lib.Dec.{T, lit≤}
-use lib.Ieee.{Float, le}
+use Rattle.std.proofs.Common.{◌≡◌, ap, ◌∙◌, subst, ℕ, zero, suc, ◌+◌, ◌*◌, ◌-◌, ◌≤◌, ◌<◌, eq-zero-or-pos, mul-le-mul_left, mul-le-mul_right, arith, ◌⊎◌, inl, inr, List, [], ◌∷◌, ◌++◌, length, take, drop, length-append, length-drop, drop-drop, T, lit≤, Float}
+use lib.Seq.{drop-append-le, drop-length}
+use lib.Ieee.{le}
 use Rattle.floats.specs.Arithmetic.{◌⊕◌, ◌⊖◌, ◌⊗◌}
 use Rattle.floats.specs.Binary64.{one, number}
 use Rattle.floats.proofs.Binary64.{one_eps, near_self, count_add, mul_int64}

@@ -1,11 +1,7 @@
 -- The float numbers that a certificate keeps, bounds of exact scores: each letter changes one by at most 16 and rounds it (`raised`, `lowered`, `stepped`).
 -- What rounding may take them away from the exact bounds is `strayed`; what a comparison with `distance` says of them (`far_below`, `far_above`).
-use mathlib.Core.Path.{◌≡◌, refl}
-use Prim.Native.Nat.{ℕ, suc, ◌+◌, ◌*◌, ◌≤◌, ◌<◌}
-use native.Mathlib.Nat.{mul-le-mul_right}
-use native.Mathlib.Omega.{arith}
-use lib.Dec.{T, lit≤}
-use lib.Ieee.{Float, binary64, fits, le, lt, neg, of_bits, of_fields}
+use Rattle.std.proofs.Common.{◌≡◌, refl, ℕ, suc, ◌+◌, ◌*◌, ◌≤◌, ◌<◌, mul-le-mul_right, arith, T, lit≤, Float}
+use lib.Ieee.{binary64, fits, le, lt, neg, of_bits, of_fields}
 use Rattle.floats.specs.Value.{magnitude, Finite}
 use Rattle.floats.specs.Arithmetic.{◌⊕◌, ◌⊖◌}
 use Rattle.floats.specs.Binary64.{one}

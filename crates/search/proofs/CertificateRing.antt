@@ -1,14 +1,7 @@
 -- The certificate and the carried scan of a window in a ring: the newest entry joins them (`next_still`, `next_fresh`, `next_repeated`, `carries_on`).
-use mathlib.Core.Path.{◌≡◌, refl, sym, ap, ◌∙◌, subst}
-use mathlib.Core.Bool.{Bool, true, cond, ◌&&◌}
-use mathlib.Core.List.{List, [], ◌∷◌, ◌++◌}
-use Rattle.std.specs.Prelude.{Option, Some}
-use Prim.Native.Nat.{ℕ, ◌+◌, ◌-◌, ◌^◌, ◌/◌, ◌<◌}
-use native.Mathlib.Omega.{arith}
-use lib.ListN.{length, get_or, drop, length-drop}
+use Rattle.std.proofs.Common.{◌≡◌, refl, sym, ap, ◌∙◌, subst, Bool, true, cond, ◌&&◌, List, [], ◌∷◌, ◌++◌, Option, Some, ℕ, ◌+◌, ◌-◌, ◌^◌, ◌/◌, ◌<◌, arith, length, get_or, drop, length-drop, T, ltb, ltb→lt, Float}
 use lib.Seq.{drop-append-le}
-use lib.Dec.{T, ltb, ltb→lt}
-use lib.Ieee.{Float, nan, le}
+use lib.Ieee.{nan, le}
 use lib.Ieee.Fits.{and_l, and_r}
 use Rattle.floats.specs.Arithmetic.{◌⊕◌, ◌⊖◌, ◌⊗◌}
 use Rattle.floats.specs.Binary64.{zero64, number}

@@ -1,12 +1,6 @@
 -- Tables in range and of the usual shape. The certificate of a start at index j of the window: low places, a middle between them and j, and starts older than j.
 -- A new place (`start_joined`) and a place that leaves (`start_left`) keep it.
-use mathlib.Core.Path.{◌≡◌, refl, ap, ◌∙◌, subst}
-use Prim.Native.Nat.{ℕ, zero, suc, ◌+◌, ◌*◌, ◌-◌, ◌≤◌, ◌<◌}
-use native.Mathlib.Omega.{arith}
-use mathlib.Core.Logic.{◌⊎◌, inl, inr}
-use mathlib.Core.List.{List, [], ◌∷◌, ◌++◌}
-use lib.ListN.{length, drop, length-drop}
-use lib.Ieee.{Float}
+use Rattle.std.proofs.Common.{◌≡◌, refl, ap, ◌∙◌, subst, ℕ, zero, suc, ◌+◌, ◌*◌, ◌-◌, ◌≤◌, ◌<◌, arith, ◌⊎◌, inl, inr, List, [], ◌∷◌, ◌++◌, length, drop, length-drop, Float}
 use Rattle.floats.specs.Arithmetic.{◌⊖◌}
 use Rattle.floats.proofs.Rounded.{pos64, neg64}
 use Rattle.letters.specs.Place.{Place, BelowAt, Below}

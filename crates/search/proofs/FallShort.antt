@@ -1,17 +1,9 @@
 -- Tables in range and of the usual shape. Where the l newest places of a window add less to a stretch from place a than their T and what f grows by over the last l places of a stretch
 -- from place z, with a margin, no forward scan from a place between a and z is best at the newest place (`none_ends`).
 -- A float sum from the newest place back that lies 2^-10 below the difference of the f entries tells it (`told_short`).
-use mathlib.Core.Path.{◌≡◌, refl, sym, ap, ◌∙◌, subst}
-use Prim.Native.Nat.{ℕ, suc, ◌+◌, ◌*◌, ◌-◌, ◌≤◌, ◌<◌}
-use native.Mathlib.Nat.{mul-le-mul_right}
-use native.Mathlib.Numerals.{add-one}
-use native.Mathlib.Omega.{arith}
-use mathlib.Core.Bool.{false}
-use mathlib.Core.List.{List, [], ◌∷◌, ◌++◌}
-use lib.ListN.{length, get_or, take, drop, length-append, length-take, length-drop, take-append-drop}
-use lib.Seq.{take-add, take-suc, take-length, drop-drop, get_or-drop}
-use lib.Dec.{T, lit≤}
-use lib.Ieee.{Float, binary64, lt, of_bits, fits}
+use Rattle.std.proofs.Common.{◌≡◌, refl, sym, ap, ◌∙◌, subst, ℕ, suc, ◌+◌, ◌*◌, ◌-◌, ◌≤◌, ◌<◌, mul-le-mul_right, add-one, arith, false, List, [], ◌∷◌, ◌++◌, length, get_or, take, drop, length-append, length-take, length-drop, take-append-drop, take-add, take-suc, drop-drop, get_or-drop, T, lit≤, Float}
+use lib.Seq.{take-length}
+use lib.Ieee.{binary64, lt, of_bits, fits}
 use Rattle.floats.specs.Value.{magnitude}
 use Rattle.floats.specs.Arithmetic.{◌⊕◌, ◌⊖◌}
 use Rattle.floats.specs.Binary64.{one, zero64}

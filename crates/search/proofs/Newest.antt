@@ -1,14 +1,7 @@
 -- The newest entry of a window as its last place (`newest_place`), and a place that stands nowhere from an index on (`none_counted`).
-use mathlib.Core.Path.{◌≡◌, refl, sym, ap, ◌∙◌}
-use mathlib.Core.Bool.{Bool, true, false, cond}
-use mathlib.Core.List.{List, [], ◌∷◌, ◌++◌}
-use Prim.Native.Nat.{ℕ, zero, suc, ◌+◌, ◌-◌, ◌*◌, ◌/◌, ◌%◌, ◌≤◌, ◌<◌}
-use mathlib.Core.Logic.{⊎_elim}
-use native.Mathlib.Nat.{eq-or-lt_of_le}
-use native.Mathlib.Omega.{arith}
-use lib.ListN.{length, get_or, drop, length-append, get_or-append}
+use Rattle.std.proofs.Common.{◌≡◌, refl, sym, ap, ◌∙◌, Bool, true, false, cond, List, [], ◌∷◌, ◌++◌, ℕ, zero, suc, ◌+◌, ◌-◌, ◌*◌, ◌/◌, ◌%◌, ◌≤◌, ◌<◌, ⊎_elim, eq-or-lt_of_le, arith, length, get_or, drop, length-append, eqb, eqb→eq, T}
+use lib.ListN.{get_or-append}
 use lib.Seq.{get_or-append_seam}
-use lib.Dec.{eqb, eqb→eq, T}
 use Rattle.letters.specs.Place.{Place, ambiguous, plain}
 use Rattle.letters.specs.Terms.Entry.{decode}
 use Rattle.letters.proofs.Entries.{decoded_at}

@@ -1,12 +1,6 @@
 -- The candidates of a backward scan over n entries, for any float bits: at most n with the best place among them, and each a place of the window.
-use mathlib.Core.Path.{◌≡◌, refl, sym, ap, subst}
-use Prim.Native.Nat.{ℕ, zero, suc, ◌+◌, ◌-◌, ◌≤◌, ◌<◌}
-use native.Mathlib.Omega.{arith}
-use mathlib.Core.Bool.{Bool, true, false, cond, ◌&&◌, ◌||◌}
-use mathlib.Core.List.{List, [], ◌∷◌, ◌++◌}
-use lib.ListN.{length, get_or, length-append}
-use lib.Dec.{eqb, ltb}
-use lib.Ieee.{Float, binary64, add, sub, neg, lt, le, of_bits, of_fields}
+use Rattle.std.proofs.Common.{◌≡◌, refl, sym, ap, subst, ℕ, zero, suc, ◌+◌, ◌-◌, ◌≤◌, ◌<◌, arith, Bool, true, false, cond, ◌&&◌, ◌||◌, List, [], ◌∷◌, ◌++◌, length, get_or, length-append, eqb, ltb, Float}
+use lib.Ieee.{binary64, add, sub, neg, lt, le, of_bits, of_fields}
 use Rattle.floats.specs.Binary64.{zero64}
 use Rattle.letters.specs.Place.{Place, ambiguous}
 use Rattle.scans.specs.Setup.{Setup, f_at}

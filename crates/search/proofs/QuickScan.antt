@@ -1,15 +1,9 @@
 -- A backward scan that meets no near tie: its first candidate to be tried is the best place. For any float bits. And the whole quick scan, from one rest to the next.
-use mathlib.Core.Path.{◌≡◌, refl, sym, ap, ◌∙◌, subst}
-use Prim.Native.Nat.{ℕ, zero, suc, ◌+◌, ◌-◌, ◌≤◌, ◌<◌}
-use native.Mathlib.Omega.{arith}
-use mathlib.Core.Bool.{Bool, true, false, cond, not, ◌&&◌, ◌||◌, true≢false}
-use mathlib.Core.List.{List, [], ◌∷◌, ◌++◌}
-use mathlib.Core.Logic.{◌⊎◌, inl, inr}
-use lib.ListN.{length, get_or, drop, length-append}
+use Rattle.std.proofs.Common.{◌≡◌, refl, sym, ap, ◌∙◌, subst, ℕ, zero, suc, ◌+◌, ◌-◌, ◌≤◌, ◌<◌, arith, Bool, true, false, cond, not, ◌&&◌, ◌||◌, true≢false, List, [], ◌∷◌, ◌++◌, ◌⊎◌, inl, inr, length, get_or, drop, length-append, T, T_not, eqb, ltb, nltb→le, Float}
 use lib.Seq.{get_or-append_seam}
-use lib.Dec.{T, T_not, not_T, eqb, ltb, nltb→le}
+use lib.Dec.{not_T}
 use borrow.Author.Tests.{le-ltb, ltb-true, ltb-false, eq-eqb, ne_eqb}
-use lib.Ieee.{Float, binary64, neg, lt, le}
+use lib.Ieee.{binary64, neg, lt, le}
 use lib.Ieee.Fits.{and_l, and_r}
 use Rattle.floats.specs.Arithmetic.{◌⊖◌}
 use Rattle.floats.specs.Binary64.{zero64, tiny, near_zero}

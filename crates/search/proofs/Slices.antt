@@ -1,13 +1,7 @@
 -- The candidates that a slice of records holds: how many, which, and one more.
-use mathlib.Core.Path.{◌≡◌, refl, sym, ap, ap₂, ◌∙◌}
-use mathlib.Core.List.{List, [], ◌∷◌, ◌++◌}
-use mathlib.Core.Logic.{◌≢◌, ◌⊎◌, inl, inr}
-use Prim.Native.Nat.{ℕ, zero, suc, ◌+◌, ◌<◌, ◌≤◌}
-use native.Mathlib.Nat.{eq-or-lt_of_le}
-use native.Mathlib.Numerals.{add-one}
-use native.Mathlib.Omega.{arith}
-use lib.ListN.{length, get_or, set, take, length-append, get_or-append}
-use lib.Seq.{get_or_at, get_or-set_same, get_or-set_other, get_or-take}
+use Rattle.std.proofs.Common.{◌≡◌, refl, sym, ap, ap₂, ◌∙◌, List, [], ◌∷◌, ◌++◌, ◌≢◌, ◌⊎◌, inl, inr, ℕ, zero, suc, ◌+◌, ◌<◌, ◌≤◌, eq-or-lt_of_le, add-one, arith, length, get_or, set, take, length-append, get_or-set_same, get_or-set_other, get_or-take}
+use lib.ListN.{get_or-append}
+use lib.Seq.{get_or_at}
 use Rattle.scans.specs.declared.ForwardPosition.{ForwardPosition}
 use Rattle.scans.specs.Scans.{Candidate, no_candidate}
 use Rattle.search.specs.Terms.Search.{candidate_of, no_position, candidates_in}

@@ -1,13 +1,5 @@
 -- The candidates tried one after the other from cleared counts, a turn at a time.
-use mathlib.Core.Path.{◌≡◌, refl, sym, ap, ◌∙◌, subst}
-use mathlib.Core.Bool.{true, false, cond}
-use mathlib.Core.List.{List}
-use Prim.Native.Nat.{ℕ, suc, ◌+◌, ◌<◌, ◌≤◌, max}
-use native.Mathlib.Numerals.{add-one}
-use native.Mathlib.Omega.{arith}
-use lib.ListN.{length, get_or, drop}
-use lib.Dec.{eqb}
-use lib.Ieee.{Float}
+use Rattle.std.proofs.Common.{◌≡◌, refl, sym, ap, ◌∙◌, subst, true, false, cond, List, ℕ, suc, ◌+◌, ◌<◌, ◌≤◌, max, add-one, arith, length, get_or, drop, eqb, Float}
 use borrow.Author.Tests.{lt-ltb, le-ltb, eq-eqb, ne_eqb}
 use Rattle.letters.specs.Place.{Place}
 use Rattle.scans.specs.declared.forward.ForwardState.{ForwardState}

@@ -1,13 +1,5 @@
 -- For any float bits: where no candidate's forward scan is best at the newest place, nothing is found (`none_found`); and all candidates lie between the last noted and the first (`candidates_between`).
-use mathlib.Core.Path.{◌≡◌, refl, sym, subst}
-use mathlib.Core.Bool.{Bool, true, false, cond}
-use mathlib.Core.List.{List, []}
-use mathlib.Core.Logic.{◌≢◌, ⊎_elim}
-use Prim.Native.Nat.{ℕ, zero, suc, ◌+◌, ◌-◌, ◌≤◌, ◌<◌, max}
-use native.Mathlib.Nat.{eq-or-lt_of_le}
-use native.Mathlib.Omega.{arith}
-use lib.ListN.{length, get_or}
-use lib.Dec.{eqb, ltb, eqb→eq}
+use Rattle.std.proofs.Common.{◌≡◌, refl, sym, subst, Bool, true, false, cond, List, [], ◌≢◌, ⊎_elim, ℕ, zero, suc, ◌+◌, ◌-◌, ◌≤◌, ◌<◌, max, eq-or-lt_of_le, arith, length, get_or, eqb, ltb, eqb→eq}
 use borrow.Author.Tests.{eqb-false}
 use Rattle.letters.specs.Place.{Place}
 use Rattle.scans.specs.Setup.{Setup}

@@ -1,13 +1,8 @@
 -- A list made of blocks: for each of some letters in turn, a block of sequences with that letter before each.
-use mathlib.Core.Path.{◌≡◌, refl, ap, ap₂, ◌∙◌}
-use mathlib.Core.Logic.{⊎_elim}
-use mathlib.Core.List.{List, [], ◌∷◌, ◌++◌, map, flat_map, Memᴰ}
-use Prim.Native.Nat.{ℕ, suc, ◌+◌, ◌-◌, ◌*◌, ◌/◌, ◌%◌, ◌<◌}
-use native.Mathlib.Nat.{suc-mul, div-eq_of_lt, mod-eq_of_lt, add-div_left, add-mod_left}
-use native.Mathlib.Numerals.{add-one}
-use native.Mathlib.Omega.{arith}
-use lib.ListN.{length, get_or, length-append, length-map, get_or-append, get_or-map}
-use lib.Seq.{get_or-append-add}
+use Rattle.std.proofs.Common.{◌≡◌, refl, ap, ap₂, ◌∙◌, ⊎_elim, List, [], ◌∷◌, ◌++◌, map, ℕ, suc, ◌+◌, ◌-◌, ◌*◌, ◌/◌, ◌%◌, ◌<◌, suc-mul, mod-eq_of_lt, add-one, arith, length, get_or, length-append, get_or-append-add}
+use mathlib.Core.List.{flat_map, Memᴰ}
+use native.Mathlib.Nat.{div-eq_of_lt, add-div_left, add-mod_left}
+use lib.ListN.{length-map, get_or-append, get_or-map}
 use Rattle.buffers.proofs.At.{default_free}
 use Rattle.intervals.proofs.Order.{lt_or_le}
 

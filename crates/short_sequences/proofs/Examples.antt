@@ -1,7 +1,6 @@
 -- Worked examples.
-use mathlib.Core.Path.{◌≡◌, refl}
-use mathlib.Core.List.{[], ◌∷◌, flat_map}
-use lib.ListN.{take}
+use Rattle.std.proofs.Common.{◌≡◌, refl, [], ◌∷◌, take}
+use mathlib.Core.List.{flat_map}
 use Rattle.buffers.specs.Fill.{tabulate, tabulate_from}
 use Rattle.checks.specs.Tests.{any_byte, threshold_bad}
 use Rattle.longdust.specs.Options.{defaults}

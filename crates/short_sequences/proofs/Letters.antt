@@ -1,12 +1,5 @@
 -- How many letters a mask covers: the letters of its intervals, one after the other.
-use Prim.Native.Nat.{ℕ, zero, suc, ◌+◌, ◌-◌, ◌≤◌, ◌<◌}
-use mathlib.Core.Path.{◌≡◌, sym, ap, subst, ◌∙◌}
-use mathlib.Core.Logic.{inl, inr, ⊎_elim}
-use mathlib.Core.List.{List, [], ◌∷◌}
-use native.Mathlib.Numerals.{add-one}
-use native.Mathlib.Omega.{arith}
-use lib.ListN.{length, drop, get_or, drop_of_length-le}
-use lib.Seq.{drop-cons}
+use Rattle.std.proofs.Common.{ℕ, zero, suc, ◌+◌, ◌-◌, ◌≤◌, ◌<◌, ◌≡◌, sym, ap, subst, ◌∙◌, inl, inr, ⊎_elim, List, [], ◌∷◌, add-one, arith, length, drop, get_or, drop_of_length-le, drop-cons}
 use Rattle.intervals.specs.declared.Interval.{Interval}
 use Rattle.intervals.specs.Interval.{interval, Holds, Covers, covered_in, Ascending, Canonical}
 use Rattle.intervals.proofs.Shape.{covers_above}
@@ -38,9 +31,6 @@ pub record Counting (n : ℕ) (ps : List Interval) (i letters : ℕ) : Type 0 wh
   pub rest : letters + covered_in (drop i ps) 0 n ≡ covered_in ps 0 n
 
 module _ {n : ℕ} {ps : List Interval} where
-  pub counting_start : Counting n ps 0 0
-  counting_start = record { within = omega arith; rest = omega arith }
-
   module _ (u : Canonical n 1 ps) {i letters : ℕ} (a : Counting n ps i letters) (h : i < length ps) where
     abbrev start : ℕ
     start = (get_or ps i (interval 0 0)).start

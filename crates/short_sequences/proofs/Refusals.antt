@@ -1,12 +1,6 @@
 -- What the checks refuse.
-use mathlib.Core.Path.{◌≡◌, refl}
-use mathlib.Core.Bool.{Bool, true, false, ◌||◌, cond}
-use mathlib.Core.List.{List}
-use Prim.Native.Nat.{ℕ, ◌+◌, ◌≤◌}
-use native.Mathlib.Omega.{arith}
+use Rattle.std.proofs.Common.{◌≡◌, refl, Bool, true, false, ◌||◌, cond, List, ℕ, ◌+◌, ◌≤◌, arith, ltb, length}
 use borrow.Author.Tests.{ltb-false}
-use lib.Dec.{ltb}
-use lib.ListN.{length}
 use Rattle.short_sequences.specs.Tallies.{refusal}
 
 -- An accepted size is one of 1 to 8, and there is room for its tallies.

@@ -1,16 +1,9 @@
 -- What the call with work buffers of its own says of a run on a short sequence: buffers of exactly the paper's sizes, tables filled once.
-use Prim.Native.Nat.{ℕ}
-use mathlib.Core.Path.{◌≡◌, refl, sym, ap, ap₂, ◌∙◌}
-use mathlib.Core.List.{List}
-use Rattle.std.specs.Prelude.{Option, None, Some}
+use Rattle.std.proofs.Common.{ℕ, ◌≡◌, refl, sym, ap, ap₂, ◌∙◌, List, Option, None, Some, arith, length, take, take_all, Float}
 use Rattle.checks.specs.declared.refusal.Refusal.{Refusal}
 use Rattle.checks.specs.Refusal.{number}
 use Rattle.checks.proofs.Refusing.{number_positive}
-use native.Mathlib.Omega.{arith}
 use borrow.Author.Tests.{ne_eqb}
-use lib.ListN.{length, take}
-use lib.Seq.{take_all}
-use lib.Ieee.{Float}
 use Rattle.buffers.specs.Fill.{put}
 use Rattle.buffers.proofs.Filling.{put_all}
 use Rattle.letters.specs.Code.{codes}

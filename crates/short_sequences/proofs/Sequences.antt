@@ -1,13 +1,8 @@
 -- The list of all sequences: how many there are, which one stands at an index, which are in it, and that none comes twice.
-use mathlib.Core.Path.{◌≡◌, refl, sym, ap, ap₂, subst, ◌∙◌}
-use mathlib.Core.Bool.{cond}
+use Rattle.std.proofs.Common.{◌≡◌, refl, sym, ap, ap₂, subst, ◌∙◌, cond, List, [], ◌∷◌, ℕ, zero, suc, ◌+◌, ◌*◌, ◌/◌, ◌%◌, ◌^◌, ◌≤◌, ◌<◌, pow-suc, div-lt_iff_lt-mul, mod-lt, div-add-mod', arith, eqb, length, get_or}
 use mathlib.Core.List.Memᴰ
-use mathlib.Core.List.{List, [], ◌∷◌, Memᴰ, head-eq_of_cons-eq, tail-eq_of_cons-eq}
-use Prim.Native.Nat.{ℕ, zero, suc, ◌+◌, ◌*◌, ◌/◌, ◌%◌, ◌^◌, ◌≤◌, ◌<◌}
-use native.Mathlib.Nat.{pow-suc, one-le-pow, pow-le-pow_right, div-lt_iff_lt-mul, mod-lt, div-add-mod'}
-use native.Mathlib.Omega.{arith}
-use lib.Dec.{eqb}
-use lib.ListN.{length, get_or}
+use mathlib.Core.List.{Memᴰ, head-eq_of_cons-eq, tail-eq_of_cons-eq}
+use native.Mathlib.Nat.{one-le-pow, pow-le-pow_right}
 use Rattle.short_sequences.specs.Sequences.{five_letters, sequences_of, OverFive}
 use Rattle.short_sequences.specs.Terms.Outcome.{letter_at}
 use Rattle.short_sequences.proofs.Blocks.{blocks_length, blocks_at, in_blocks, of_blocks}

@@ -1,19 +1,11 @@
 -- Sequences tallied one after the other.
-use mathlib.Core.Path.{◌≡◌, refl, sym, ap, ap₂, subst, ◌∙◌}
-use mathlib.Core.Bool.{Bool, true, false, not, ◌&&◌, cond}
-use mathlib.Core.List.{List, [], ◌∷◌, ◌++◌}
-use Prim.Native.Nat.{ℕ, zero, suc, ◌+◌, ◌^◌, ◌≤◌, ◌<◌}
-use native.Mathlib.Numerals.{add-one}
-use native.Mathlib.Omega.{arith}
+use Rattle.std.proofs.Common.{◌≡◌, refl, sym, ap, ap₂, subst, ◌∙◌, Bool, true, false, not, ◌&&◌, cond, List, [], ◌∷◌, ◌++◌, ℕ, zero, suc, ◌+◌, ◌^◌, ◌≤◌, ◌<◌, add-one, arith, eqb, length, take, get_or, set, replicate, length-set, ext_get_or, take-suc, take_all, length-take-le, get_or-set_same, get_or-set_other, Option, None, Some, IfSome}
 use borrow.Author.Tests.{eqb-true, eqb-false}
-use lib.Dec.{eqb}
-use lib.ListN.{length, take, get_or, set, replicate, length-set, length-replicate}
+use lib.ListN.{length-replicate}
 use Rattle.std.proofs.lemmas.List.{get_or-replicate}
-use lib.Seq.{ext_get_or, take-suc, take_all, length-take-le, get_or-set_same, get_or-set_other}
 use Rattle.buffers.specs.Fill.{tabulate, tabulate_from}
 use Rattle.buffers.proofs.Tabulate.{tabulate_length, tabulate_at}
 use Rattle.intervals.proofs.Counted.{covered_at_most}
-use Rattle.std.specs.Prelude.{Option, None, Some, IfSome}
 use Rattle.short_sequences.specs.Sequences.{sequences_of}
 use Rattle.short_sequences.specs.Tallies.{is_refused, mask_of, masked_letters, leads_to, count_of, tallies_over, tallies_of, refused_of, total}
 use Rattle.short_sequences.specs.Terms.Outcome.{outcome_of, counted, one_if_refused}

@@ -1,19 +1,11 @@
 -- All short sequences against the masking calls: which are refused, and that a sequence's mask is the filling call's.
 -- The list's own theorems stand in Sequences.antt (5^m members, every sequence, nothing else, none twice), the sum in Tallying.antt (`tallies_sum`).
-use mathlib.Core.Path.{◌≡◌, refl, ap, ap₂, ◌∙◌}
-use mathlib.Core.Bool.{Bool, true, false, not, ◌||◌, cond, true≢false}
-use mathlib.Core.Logic.{⊎_elim}
+use Rattle.std.proofs.Common.{◌≡◌, refl, ap, ap₂, ◌∙◌, Bool, true, false, not, ◌||◌, cond, true≢false, ⊎_elim, List, [], ◌∷◌, Result, Ok, ℕ, zero, suc, ◌+◌, ◌^◌, ◌≤◌, arith, ltb, eqb, length, take, take_at, Float}
 use mathlib.Core.List.Memᴰ
-use mathlib.Core.List.{List, [], ◌∷◌, Memᴰ}
-use Rattle.std.specs.Prelude.{Result, Ok}
+use mathlib.Core.List.{Memᴰ}
 use Rattle.checks.specs.declared.refusal.Refusal.{Refusal}
 use Rattle.checks.specs.Refusal.{number_of}
-use Prim.Native.Nat.{ℕ, zero, suc, ◌+◌, ◌^◌, ◌≤◌}
-use native.Mathlib.Omega.{arith}
-use lib.Dec.{ltb, eqb}
-use lib.ListN.{length, take}
-use lib.Seq.{take_at}
-use lib.Ieee.{Float, of_bits, lt}
+use lib.Ieee.{of_bits, lt}
 use Rattle.checks.specs.Tests.{any_byte, is_high, is_other, threshold_bad}
 use Rattle.intervals.proofs.Slice.{wrote_list}
 use Rattle.letters.specs.Code.{codes}

@@ -1,11 +1,6 @@
 -- A loop that fills a buffer with the sequence of an index, a letter in each turn: the index taken apart in base five.
-use mathlib.Core.Path.{◌≡◌, refl, sym, ap, subst, ◌∙◌}
-use mathlib.Core.List.{List, [], ◌∷◌}
-use Prim.Native.Nat.{ℕ, suc, ◌+◌, ◌-◌, ◌/◌, ◌%◌, ◌^◌, ◌≤◌, ◌<◌}
+use Rattle.std.proofs.Common.{◌≡◌, refl, sym, ap, subst, ◌∙◌, List, [], ◌∷◌, ℕ, suc, ◌+◌, ◌-◌, ◌/◌, ◌%◌, ◌^◌, ◌≤◌, ◌<◌, arith, length, drop, get_or, set, get_or-drop, drop-drop}
 use native.Mathlib.Nat.{mul-div_cancel_left}
-use native.Mathlib.Omega.{arith}
-use lib.ListN.{length, drop, get_or, set}
-use lib.Seq.{get_or-drop, drop-drop}
 use Rattle.buffers.proofs.Filling.{Fills, fill_start, fill_turn, fill_end, put_all}
 use Rattle.short_sequences.specs.Sequences.{sequences_of}
 use Rattle.short_sequences.specs.Terms.Outcome.{letter_at}
@@ -77,6 +72,3 @@ module _ {index : ℕ} {d : List ℕ} where
               ∙ get_or-drop i (wanted index d) 0 0
               ∙ ap (λ (n : ℕ). get_or (wanted index d) n 0) (let q : i + 0 ≡ i = omega arith in q));
         }
-
-  pub writing_end : {i share rest : ℕ} {l : List ℕ} → Writing index d i share rest l → length d ≤ i → l ≡ wanted index d
-  writing_end a h = fill_end a.fills h ∙ put_all (wanted index d) d (sym a.fills.size)

@@ -1,11 +1,5 @@
 -- Intervals written as bytes, one after the other.
-use mathlib.Core.Path.{◌≡◌, refl, sym, ap, ap₂, ◌∙◌}
-use mathlib.Core.List.{List, [], ◌∷◌, ◌++◌, append_assoc}
-use Prim.Native.Nat.{ℕ, ◌+◌, ◌*◌, ◌≤◌, ◌<◌}
-use native.Mathlib.Numerals.{add-one}
-use native.Mathlib.Omega.{arith}
-use lib.ListN.{length, take, get_or}
-use lib.Seq.{take_all, take-suc, length-take-le}
+use Rattle.std.proofs.Common.{◌≡◌, refl, sym, ap, ap₂, ◌∙◌, List, [], ◌∷◌, ◌++◌, append_assoc, ℕ, ◌+◌, ◌*◌, ◌≤◌, ◌<◌, add-one, arith, length, take, get_or, take_all, take-suc, length-take-le}
 use Rattle.buffers.specs.Fill.{put, put_at}
 use Rattle.buffers.proofs.Put.{put_next}
 use Rattle.intervals.specs.declared.Interval.{Interval}
@@ -58,10 +52,6 @@ module _ {ps : List Interval} {d : List ℕ} where
             ∙ put_next xs ys d
             ∙ ap (λ (z : List ℕ). put z d) (sym (bytes_next ps i h));
       }
-
-  pub writing_end : {i : ℕ} {l : List ℕ} → Writing ps d i l → length ps ≤ i → l ≡ put (bytes_of ps) d
-  writing_end {i} a h =
-      a.now ∙ ap (λ (is : List Interval). put (bytes_of is) d) (take_all i ps (omega arith))
 
 -- The laws by which `write_list` is proved.
 pub ruleset bytes = (writing_start, writing_turn)

@@ -1,12 +1,8 @@
 -- Worked examples: bytes, and the order of refusals at the profile's bounds.
-use mathlib.Core.Path.{◌≡◌, refl}
-use mathlib.Core.Bool.{false}
-use mathlib.Core.List.{List, [], ◌∷◌}
-use Prim.Native.Nat.{ℕ}
+use Rattle.std.proofs.Common.{◌≡◌, refl, false, List, [], ◌∷◌, ℕ, Some}
 use lib.Ieee.{of_bits, lt}
 use Rattle.checks.specs.Tests.{any_byte, threshold_bad}
 use Rattle.intervals.specs.Interval.{interval}
-use Rattle.std.specs.Prelude.{Some}
 use Rattle.tables.specs.declared.GcOption.TheVariants.{Uniform}
 use Rattle.longdust.specs.declared.LongdustOptions.{LongdustOptions}
 use Rattle.longdust.specs.Options.{threshold06}

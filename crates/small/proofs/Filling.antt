@@ -1,14 +1,7 @@
 -- Tables filled as far as a run over the letters reads them give its mask.
-use Prim.Native.Nat.{ℕ, ◌+◌, ◌≤◌, ◌<◌, min}
-use mathlib.Core.Path.{◌≡◌, refl, sym, ap, ◌∙◌, subst}
-use mathlib.Core.Bool.{false, true≢false}
-use mathlib.Core.Logic.{◌≢◌}
-use mathlib.Core.List.{List}
-use native.Mathlib.Omega.{arith}
-use lib.ListN.{length, take, drop, get_or-append}
-use lib.Seq.{get_or-take}
-use lib.IntN.{pos}
-use lib.Ieee.{Float, nan}
+use Rattle.std.proofs.Common.{ℕ, ◌+◌, ◌≤◌, ◌<◌, min, ◌≡◌, refl, sym, ap, ◌∙◌, subst, false, true≢false, ◌≢◌, List, arith, length, take, drop, get_or-take, pos, Float}
+use lib.ListN.{get_or-append}
+use lib.Ieee.{nan}
 use Rattle.buffers.specs.Fill.{put, tabulate}
 use Rattle.buffers.proofs.Tabulate.{tabulate_length, tabulate_at}
 use Rattle.floats.specs.Binary64.{number}

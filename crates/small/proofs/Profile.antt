@@ -1,12 +1,6 @@
 -- What a request inside the profile has: the masking calls accept it in the work space, and its output has room.
-use mathlib.Core.Path.{◌≡◌, refl}
-use mathlib.Core.Bool.{Bool, false, cond, true≢false}
-use mathlib.Core.List.{List}
-use Prim.Native.Nat.{ℕ, ◌+◌, ◌*◌, ◌^◌, ◌≤◌, ◌<◌}
-use native.Mathlib.Nat.{pow-le-pow_right, div-lt_iff_lt-mul}
-use native.Mathlib.Omega.{arith}
-use lib.Dec.{ltb}
-use lib.ListN.{length, get_or}
+use Rattle.std.proofs.Common.{◌≡◌, refl, Bool, false, cond, true≢false, List, ℕ, ◌+◌, ◌*◌, ◌^◌, ◌≤◌, ◌<◌, div-lt_iff_lt-mul, arith, ltb, length, get_or}
+use native.Mathlib.Nat.{pow-le-pow_right}
 use borrow.Author.Tests.{le-ltb, ltb-false}
 use Rattle.checks.specs.Checks.{check}
 use Rattle.checks.specs.Tests.{most_intervals}

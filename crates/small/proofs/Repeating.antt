@@ -1,13 +1,5 @@
 -- The search for a k-mer that stands at min_start_cnt places or more; a sequence without one has no mask, whatever the tables are.
-use Prim.Native.Nat.{ℕ, suc, ◌+◌, ◌^◌, ◌/◌, ◌%◌, ◌≤◌, ◌<◌}
-use mathlib.Core.Path.{◌≡◌, refl, ap, ◌∙◌, subst}
-use mathlib.Core.Bool.{Bool, true, false}
-use mathlib.Core.List.{List, [], ◌∷◌, ◌++◌}
-use Rattle.std.specs.Prelude.{Option, IfSome}
-use native.Mathlib.Omega.{arith}
-use lib.ListN.{length, get_or, take, drop, replicate, length-take}
-use lib.Seq.{take_all, take_at, take-suc}
-use lib.Dec.{eqb}
+use Rattle.std.proofs.Common.{ℕ, suc, ◌+◌, ◌^◌, ◌/◌, ◌%◌, ◌≤◌, ◌<◌, ◌≡◌, refl, ap, ◌∙◌, subst, Bool, true, false, List, [], ◌∷◌, ◌++◌, Option, IfSome, arith, length, get_or, take, drop, replicate, length-take, take_all, take_at, take-suc, eqb}
 use borrow.Author.Tests.{eqb-true, eqb-false}
 use Rattle.buffers.specs.Fill.{put}
 use Rattle.letters.specs.declared.Kmer.{Kmer}

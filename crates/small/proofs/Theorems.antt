@@ -1,11 +1,6 @@
 -- The small profile against the filling call: count, starts and ends are its own. A number comes back from its bytes.
-use Prim.Native.Nat.{ℕ, ◌+◌, ◌*◌, ◌/◌, ◌%◌, ◌≤◌, ◌<◌}
-use mathlib.Core.Path.{◌≡◌, sym, ap, subst, ◌∙◌}
-use mathlib.Core.List.{List}
-use Rattle.std.specs.Prelude.{Ok}
-use native.Mathlib.Nat.{div-add-mod', div-div-eq-div-mul, mod-eq_of_lt}
-use native.Mathlib.Omega.{arith}
-use lib.ListN.{length, get_or}
+use Rattle.std.proofs.Common.{ℕ, ◌+◌, ◌*◌, ◌/◌, ◌%◌, ◌≤◌, ◌<◌, ◌≡◌, sym, ap, subst, ◌∙◌, List, Ok, div-add-mod', mod-eq_of_lt, arith, length, get_or}
+use native.Mathlib.Nat.{div-div-eq-div-mul}
 use Rattle.buffers.specs.Fill.{put}
 use Rattle.checks.specs.Tests.{most_intervals}
 use Rattle.letters.specs.Code.{codes}

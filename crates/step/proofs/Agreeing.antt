@@ -1,14 +1,6 @@
 -- Tables that agree on entries 1..m give a strand the same list of intervals, if w or the number of letters is at most m, and with m = w the same flag: no run reads ln[0], f[0], or an entry past w or past the number of letters.
-use mathlib.Core.Path.{◌≡◌, refl, sym, ap, ◌∙◌, subst}
-use Prim.Native.Nat.{ℕ, zero, suc, ◌+◌, ◌≤◌, ◌<◌, min}
-use native.Mathlib.Omega.{arith}
-use mathlib.Core.Bool.{Bool, true, false, cond, ◌&&◌}
-use mathlib.Core.List.{List, [], ◌∷◌, ◌++◌, append-nil}
-use lib.ListN.{length, get_or, length-append}
+use Rattle.std.proofs.Common.{◌≡◌, refl, sym, ap, ◌∙◌, subst, ℕ, zero, suc, ◌+◌, ◌≤◌, ◌<◌, min, arith, Bool, true, false, cond, ◌&&◌, List, [], ◌∷◌, ◌++◌, append-nil, length, get_or, length-append, T, leb, leb→le, ℤ, pos, negsuc, Float}
 use lib.Seq.{append_snoc}
-use lib.Dec.{T, leb, leb→le}
-use lib.IntN.{ℤ, pos, negsuc}
-use lib.Ieee.{Float}
 use Rattle.floats.specs.Binary64.{sixteen, two_to20}
 use Rattle.letters.specs.Place.{Place, ambiguous, plain, Below, places}
 use Rattle.letters.proofs.Places.{places_length, places_below}

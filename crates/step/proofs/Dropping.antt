@@ -1,12 +1,5 @@
 -- Where no find begins below zero, the run is that of the paper's own rule, which drops an interval that starts there.
-use mathlib.Core.Path.{◌≡◌, refl, sym, ap, ◌∙◌, subst}
-use Prim.Native.Nat.{ℕ, ◌+◌}
-use native.Mathlib.Omega.{arith}
-use mathlib.Core.Bool.{cond}
-use mathlib.Core.List.{List, [], ◌∷◌}
-use lib.ListN.{length}
-use lib.Dec.{T, leb}
-use lib.IntN.{ℤ, pos, negsuc}
+use Rattle.std.proofs.Common.{◌≡◌, refl, sym, ap, ◌∙◌, subst, ℕ, ◌+◌, arith, cond, List, [], ◌∷◌, length, T, leb, ℤ, pos, negsuc}
 use lib.Signed.{lt_z, le_z}
 use lib.Ieee.Fits.{and_l, and_r}
 use borrow.Author.Tests.{le-ltb}

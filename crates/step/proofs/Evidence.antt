@@ -1,14 +1,6 @@
 -- With tables in range, every letter that a strand's list covers lies in a stretch with an exact score of at least -(n + w + 4) / 2^32.
-use mathlib.Core.Path.{◌≡◌, refl, sym, subst}
-use Prim.Native.Nat.{ℕ, suc, ◌+◌, ◌*◌, ◌≤◌, ◌<◌}
-use native.Mathlib.Nat.{mul-le-mul_right}
-use native.Mathlib.Omega.{arith}
-use mathlib.Core.Logic.{⊎_elim}
-use mathlib.Core.Bool.{cond}
-use mathlib.Core.List.{List, [], ◌∷◌}
-use lib.ListN.{length, drop, length-drop}
-use lib.Dec.{T, leb, leb→le, nleb→lt, ltb→lt}
-use lib.IntN.{ℤ, pos, negsuc}
+use Rattle.std.proofs.Common.{◌≡◌, refl, sym, subst, ℕ, suc, ◌+◌, ◌*◌, ◌≤◌, ◌<◌, mul-le-mul_right, arith, ⊎_elim, cond, List, [], ◌∷◌, length, drop, length-drop, T, leb, leb→le, ltb→lt, ℤ, pos, negsuc}
+use lib.Dec.{nleb→lt}
 use lib.Signed.{lt_z}
 use lib.Ieee.{binary64}
 use Rattle.floats.proofs.Binary64.{near_as}

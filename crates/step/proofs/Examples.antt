@@ -1,11 +1,5 @@
 -- A find that a run makes by a scan: the two places of `twice`, by the setup `tied`, at the second letter. A find that begins before the first letter.
-use mathlib.Core.Path.{◌≡◌, refl}
-use Prim.Native.Nat.{ℕ, zero, suc, ◌≤◌}
-use native.Mathlib.Omega.{arith}
-use mathlib.Core.Bool.{false}
-use mathlib.Core.List.{[], ◌∷◌}
-use lib.Dec.{T}
-use lib.IntN.{pos}
+use Rattle.std.proofs.Common.{◌≡◌, refl, ℕ, zero, suc, ◌≤◌, arith, false, [], ◌∷◌, T, pos}
 use lib.Ieee.{binary64, fits, of_bits, of_fields, of_int, add, sub, mul, neg, lt, le}
 use Rattle.floats.specs.Binary64.{number, half64}
 use Rattle.letters.specs.Place.{plain, packed, all_plain, place_at, places_from, places}

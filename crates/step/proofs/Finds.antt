@@ -1,12 +1,7 @@
 -- What a search can answer, for any float bits: none, a place whose forward scan was best at the newest entry, or place 0 with a window score above 0.
-use mathlib.Core.Path.{◌≡◌}
-use Prim.Native.Nat.{ℕ}
-use mathlib.Core.Bool.{Bool, cond, ◌&&◌, ◌||◌}
-use lib.ListN.{length}
-use lib.Dec.{T}
-use lib.IntN.{pos, ◌-ℤ◌}
+use Rattle.std.proofs.Common.{◌≡◌, ℕ, Bool, cond, ◌&&◌, ◌||◌, length, T, pos, ◌-ℤ◌, Float}
 use lib.Signed.{le_z}
-use lib.Ieee.{Float, lt}
+use lib.Ieee.{lt}
 use lib.Ieee.Fits.{and_l, and_r}
 use Rattle.floats.specs.Binary64.{zero64}
 use Rattle.letters.specs.Place.{plain}

@@ -1,13 +1,8 @@
 -- What the window says of the scan counts (`KnownCounts`) stays true: when an entry leaves, joins without a find, is a find by extension, or ends a backward scan.
-use mathlib.Core.Path.{◌≡◌, refl, sym, ap, ◌∙◌, subst}
-use mathlib.Core.Bool.{Bool, true, false, not, true≢false}
-use mathlib.Core.List.{List, [], ◌∷◌, ◌++◌}
-use Prim.Native.Nat.{ℕ, zero, suc, ◌-◌, ◌≤◌, ◌<◌}
-use native.Mathlib.Omega.{arith}
-use lib.ListN.{length, get_or, drop, replicate, length-set, length-append, length-replicate}
+use Rattle.std.proofs.Common.{◌≡◌, refl, sym, ap, ◌∙◌, subst, Bool, true, false, not, true≢false, List, [], ◌∷◌, ◌++◌, ℕ, zero, suc, ◌-◌, ◌≤◌, ◌<◌, arith, length, get_or, drop, replicate, length-set, length-append, ℤ, pos, negsuc, eqb}
+use lib.ListN.{length-replicate}
 use lib.Seq.{drop-append-le}
-use lib.IntN.{ℤ, pos, negsuc, pos-ne-negsuc}
-use lib.Dec.{eqb}
+use lib.IntN.{pos-ne-negsuc}
 use borrow.Author.Tests.{ne_eqb}
 use Rattle.floats.specs.Binary64.{zero64}
 use Rattle.letters.specs.Place.{Place, ambiguous, plain, Below}

@@ -1,14 +1,6 @@
 -- One letter as the code takes it: the entry that enters the window, what it leads to and what a find does,
 -- put together to the definitions' `step`.
-use mathlib.Core.Path.{◌≡◌, refl, sym, ap, ap₂, ◌∙◌, subst}
-use mathlib.Core.Bool.{Bool, true, false, cond}
-use mathlib.Core.List.{List, []}
-use Prim.Native.Nat.{ℕ, zero, suc, ◌+◌, ◌≤◌, ◌<◌}
-use native.Mathlib.Omega.{arith}
-use lib.ListN.{length}
-use lib.Dec.{leb}
-use lib.IntN.{ℤ, pos}
-use lib.Ieee.{Float}
+use Rattle.std.proofs.Common.{◌≡◌, refl, sym, ap, ap₂, ◌∙◌, subst, Bool, true, false, cond, List, [], ℕ, zero, suc, ◌+◌, ◌≤◌, ◌<◌, arith, length, leb, ℤ, pos, Float}
 use Rattle.letters.specs.Place.{Place, ambiguous, plain, place_at}
 use Rattle.letters.specs.Terms.Entry.{decode}
 use Rattle.letters.specs.Terms.Rolling.{kmer_after, entry_of}

@@ -1,16 +1,10 @@
 -- The window as the code moves it: the entry that leaves and the one that joins, in the ring, the window counts and the sum,
 -- against the definitions' `leave` and `join`.
-use mathlib.Core.Path.{◌≡◌, refl, sym, ap, ◌∙◌, subst}
-use mathlib.Core.List.{List, [], ◌∷◌, ◌++◌, map-append}
-use mathlib.Core.Logic.{◌≢◌, ◌⊎◌, inl, inr}
-use Prim.Native.Nat.{ℕ, suc, ◌+◌, ◌-◌, ◌/◌, ◌^◌, ◌≤◌, ◌<◌}
-use native.Mathlib.Nat.{eq-or-lt_of_le}
-use native.Mathlib.Omega.{arith}
-use lib.ListN.{length, get_or, set, take, drop, length-set, take-append-drop, get_or-append}
-use lib.Seq.{get_or_at, take-take, take-append_seam}
-use lib.IntN.{ℤ}
-use Rattle.std.specs.Prelude.{Some}
-use lib.Ieee.{Float, nan}
+use Rattle.std.proofs.Common.{◌≡◌, refl, sym, ap, ◌∙◌, subst, List, [], ◌∷◌, ◌++◌, ◌≢◌, ◌⊎◌, inl, inr, ℕ, suc, ◌+◌, ◌-◌, ◌/◌, ◌^◌, ◌≤◌, ◌<◌, eq-or-lt_of_le, arith, length, get_or, set, take, drop, length-set, take-append-drop, take-take, ℤ, Some, Float}
+use mathlib.Core.List.{map-append}
+use lib.ListN.{get_or-append}
+use lib.Seq.{get_or_at, take-append_seam}
+use lib.Ieee.{nan}
 use borrow.Author.Tests.{le-leb, lt-leb}
 use Rattle.floats.specs.Arithmetic.{◌⊕◌, ◌⊖◌}
 use Rattle.letters.specs.Place.{Place, ambiguous, plain, Below}

@@ -1,11 +1,7 @@
 -- Where the window of a run stands in the strand, for any float bits: it is the last of the places read, at most w of them.
-use mathlib.Core.Path.{◌≡◌, refl, sym, ap, ◌∙◌, subst}
-use Prim.Native.Nat.{ℕ, zero, suc, ◌+◌, ◌-◌, ◌≤◌, ◌<◌}
-use native.Mathlib.Omega.{arith}
-use mathlib.Core.List.{List, [], ◌∷◌, ◌++◌}
-use lib.ListN.{length, get_or, take, drop, length-append, length-drop}
-use lib.Seq.{append_snoc, length-take-le, take-suc, drop-append-add, drop-append-le, drop-drop, drop-nil, take_at}
-use lib.Dec.{leb, leb→le, nleb→lt}
+use Rattle.std.proofs.Common.{◌≡◌, refl, sym, ap, ◌∙◌, subst, ℕ, zero, suc, ◌+◌, ◌-◌, ◌≤◌, ◌<◌, arith, List, [], ◌∷◌, ◌++◌, length, get_or, take, drop, length-append, length-drop, length-take-le, take-suc, drop-drop, take_at, leb, leb→le}
+use lib.Seq.{append_snoc, drop-append-add, drop-append-le, drop-nil}
+use lib.Dec.{nleb→lt}
 use Rattle.letters.specs.Place.{Place, ambiguous, plain, Below}
 use Rattle.scans.specs.Setup.{Setup}
 use Rattle.scans.specs.Counts.{count}

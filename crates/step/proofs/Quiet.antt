@@ -1,12 +1,6 @@
 -- A strand on which every k-mer stands at fewer than min_start_cnt places is searched from nowhere, and has no interval.
-use mathlib.Core.Path.{◌≡◌, refl, sym, ap, ◌∙◌}
-use Prim.Native.Nat.{ℕ, ◌≤◌, ◌<◌}
-use native.Mathlib.Omega.{arith}
-use mathlib.Core.List.{List, [], ◌∷◌, ◌++◌, append-nil}
-use lib.ListN.{length}
+use Rattle.std.proofs.Common.{◌≡◌, refl, sym, ap, ◌∙◌, ℕ, ◌≤◌, ◌<◌, arith, List, [], ◌∷◌, ◌++◌, append-nil, length, leb, negsuc}
 use lib.Seq.{append_snoc}
-use lib.Dec.{leb}
-use lib.IntN.{negsuc}
 use borrow.Author.Tests.{lt-leb}
 use Rattle.letters.specs.Place.{Place, ambiguous, plain}
 use Rattle.scans.specs.Setup.{Setup}

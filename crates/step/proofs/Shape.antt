@@ -1,12 +1,5 @@
 -- The shape of a run's intervals, for any float bits: each find has at least k letters and ends past all that is saved, so what is saved is canonical at every letter.
-use mathlib.Core.Path.{◌≡◌, sym, ap, subst}
-use Prim.Native.Nat.{ℕ, ◌+◌, ◌-◌, ◌/◌, ◌≤◌, ◌<◌}
-use native.Mathlib.Omega.{arith}
-use mathlib.Core.Bool.{cond}
-use mathlib.Core.List.{List, [], ◌∷◌}
-use lib.ListN.{length, length-append}
-use lib.Dec.{leb}
-use lib.IntN.{ℤ, pos, negsuc, ◌-ℤ◌}
+use Rattle.std.proofs.Common.{◌≡◌, sym, ap, subst, ℕ, ◌+◌, ◌-◌, ◌/◌, ◌≤◌, ◌<◌, arith, cond, List, [], ◌∷◌, length, length-append, leb, ℤ, pos, negsuc, ◌-ℤ◌}
 use lib.Signed.{lt_z}
 use Rattle.floats.proofs.Whole.{Is, is_as, is_sub}
 use Rattle.letters.specs.Place.{Place, ambiguous, plain, ReadAt, ReadFrom}

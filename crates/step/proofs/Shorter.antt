@@ -1,12 +1,5 @@
 -- Tables in range: a stretch that a run finds by a scan has no better shorter one from the same first place.
-use mathlib.Core.Path.{◌≡◌, sym, ap, ◌∙◌, subst}
-use Prim.Native.Nat.{ℕ, suc, ◌+◌, ◌-◌}
-use native.Mathlib.Omega.{arith}
-use mathlib.Core.Bool.{Bool, true, false, cond, not, ◌&&◌}
-use mathlib.Core.List.{List, ◌∷◌}
-use lib.ListN.{length, drop, length-drop}
-use lib.Dec.{T}
-use lib.IntN.{pos}
+use Rattle.std.proofs.Common.{◌≡◌, sym, ap, ◌∙◌, subst, ℕ, suc, ◌+◌, ◌-◌, arith, Bool, true, false, cond, not, ◌&&◌, List, ◌∷◌, length, drop, length-drop, T, pos}
 use Rattle.letters.specs.Place.{Place, plain, Below}
 use Rattle.scans.specs.Setup.{Setup, kmers}
 use Rattle.scans.specs.Counts.{raise}
@@ -29,12 +22,6 @@ by_scan S i a x j t e =
     go true back o r t e = absurd t
     go false true o r t e = e
     go false false o r t e = let z : ◌≡◌ {A = ℕ} 0 1 = cc in absurd (omega arith)
-
--- The run takes its letters from first - (k - 1) on, or from 0.
-pub found_start : (S : Setup) (ps : List Place) (first size : ℕ) (f : FoundByScan S ps first size)
-    → first_letter S.kmer (length f.before) (length f.state.window) f.index ≡ pos (first + 1 - S.kmer)
-found_start S ps first size f =
-    first_is S.kmer (length f.before) (length f.state.window) f.index ∙ ap pos (omega (arith, f.size_is, f.first_is))
 
 pub found_no_better_shorter : (S : Setup) → InRange S → (ps : List Place) → Below (kmers S) ps → (first size : ℕ) → FoundByScan S ps first size → NoBetterShorter S (stretch ps first size)
 unfolding looked_from

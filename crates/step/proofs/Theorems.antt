@@ -1,10 +1,6 @@
 -- Demand 3 for one strand: the shape of its list and the rows it takes, for any float bits, and its evidence where the flag says yes; then too no shorter stretch is better than one that a scan finds.
 -- That the list depends on nothing but the codes, the options and the tables is by its definition, `intervals_of S codes`.
-use mathlib.Core.Path.{sym, subst}
-use Prim.Native.Nat.{ℕ, ◌+◌, ◌/◌, ◌≤◌, ◌<◌}
-use mathlib.Core.List.{List}
-use lib.ListN.{length}
-use lib.Dec.{T}
+use Rattle.std.proofs.Common.{sym, subst, ℕ, ◌+◌, ◌/◌, ◌≤◌, ◌<◌, List, length, T}
 use Rattle.letters.specs.Place.{places}
 use Rattle.letters.proofs.Places.{places_length, places_below, places_read}
 use Rattle.intervals.specs.Interval.{Canonical, Covers}

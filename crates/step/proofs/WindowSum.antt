@@ -1,12 +1,6 @@
 -- The window's float sum, with tables in range: after i letters it is within i * 2^-33 of the exact sum over the window's k-mers, and the window score within (i + 3) * 2^-33 of the exact score.
-use mathlib.Core.Path.{◌≡◌, sym, subst}
-use Prim.Native.Nat.{ℕ, suc, ◌+◌, ◌*◌, ◌≤◌, ◌<◌}
-use native.Mathlib.Nat.{mul-le-mul_right}
-use native.Mathlib.Omega.{arith}
-use mathlib.Core.List.{List, [], ◌∷◌, ◌++◌}
-use lib.ListN.{length}
-use lib.Dec.{T}
-use lib.Ieee.{Float, binary64, add, sub, lt}
+use Rattle.std.proofs.Common.{◌≡◌, sym, subst, ℕ, suc, ◌+◌, ◌*◌, ◌≤◌, ◌<◌, mul-le-mul_right, arith, List, [], ◌∷◌, ◌++◌, length, T, Float}
+use lib.Ieee.{binary64, add, sub, lt}
 use Rattle.floats.specs.Binary64.{one, zero64}
 use Rattle.floats.proofs.Sized.{sized_parts}
 use Rattle.floats.proofs.Binary64.{one_pos, near_as}

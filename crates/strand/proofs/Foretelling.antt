@@ -1,12 +1,5 @@
 -- A backward scan that is due: what the carried scan asks to tell its answer, and that the scan counts can be cleared where it does not tell it.
-use mathlib.Core.Path.{◌≡◌, refl, sym, ◌∙◌, subst}
-use Rattle.std.specs.Prelude.{Option, Some, None, IfNone}
-use mathlib.Core.Bool.{Bool, true, false, not, true≢false}
-use mathlib.Core.List.{List}
-use Prim.Native.Nat.{ℕ, ◌-◌, ◌^◌, ◌<◌}
-use native.Mathlib.Omega.{arith}
-use lib.ListN.{length, drop}
-use lib.Ieee.{Float}
+use Rattle.std.proofs.Common.{◌≡◌, refl, sym, ◌∙◌, subst, Option, Some, None, IfNone, Bool, true, false, not, true≢false, List, ℕ, ◌-◌, ◌^◌, ◌<◌, arith, length, drop, Float}
 use Rattle.scans.specs.declared.Params.{Params}
 use Rattle.scans.specs.Terms.Counted.{Counted, Touched}
 use Rattle.scans.specs.Terms.Window.{window}

@@ -1,12 +1,5 @@
 -- Low starts that are known while letters are read: what is left of the window in which they were found, when a search asks for them.
-use mathlib.Core.Path.{◌≡◌, sym, ap, ◌∙◌, subst}
-use Rattle.std.specs.Prelude.{Option, Some, None, IfSome}
-use mathlib.Core.List.{List, []}
-use mathlib.Core.Logic.{⊎_elim}
-use Prim.Native.Nat.{ℕ, ◌+◌, ◌-◌, ◌≤◌, ◌<◌}
-use native.Mathlib.Omega.{arith}
-use lib.ListN.{length, take, drop, drop_of_length-le}
-use lib.Seq.{length-take-le, take-take, take-add, drop_at, drop-drop}
+use Rattle.std.proofs.Common.{◌≡◌, sym, ap, ◌∙◌, subst, Option, Some, None, IfSome, List, [], ⊎_elim, ℕ, ◌+◌, ◌-◌, ◌≤◌, ◌<◌, arith, length, take, drop, drop_of_length-le, length-take-le, take-take, take-add, drop_at, drop-drop}
 use Rattle.letters.specs.Place.{Place, places}
 use Rattle.letters.proofs.Places.{places_length, places_below}
 use Rattle.intervals.proofs.Order.{lt_or_le}

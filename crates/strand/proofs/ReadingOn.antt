@@ -1,13 +1,5 @@
 -- Reading on over letters that are not searched from: each leaves the interval in hand as it is, and is one step of the definition's run.
-use mathlib.Core.Path.{◌≡◌, refl, sym, ap, ◌∙◌, subst}
-use mathlib.Core.Bool.{false}
-use mathlib.Core.List.{List, [], ◌∷◌, ◌++◌}
-use Prim.Native.Nat.{ℕ, ◌+◌, ◌≤◌, ◌<◌}
-use native.Mathlib.Numerals.{add-one}
-use native.Mathlib.Omega.{arith}
-use lib.ListN.{length, take}
-use lib.Seq.{take-suc, length-take-le}
-use lib.Ieee.{Float}
+use Rattle.std.proofs.Common.{◌≡◌, refl, sym, ap, ◌∙◌, subst, false, List, [], ◌∷◌, ◌++◌, ℕ, ◌+◌, ◌≤◌, ◌<◌, add-one, arith, length, take, take-suc, length-take-le, Float}
 use Rattle.letters.specs.Place.{Place, ambiguous, place_at, places}
 use Rattle.letters.specs.Terms.Rolling.{kmer_after, entry_of}
 use Rattle.letters.proofs.Places.{places_length, places_at}

@@ -1,13 +1,6 @@
 -- The loop over a strand's letters: where the run stands before letter i, that there is room to save there, and what is left at the end.
-use mathlib.Core.Path.{◌≡◌, refl, sym, ap, ◌∙◌, subst}
-use mathlib.Core.Bool.{false}
-use mathlib.Core.List.{List, []}
-use Prim.Native.Nat.{ℕ, ◌+◌, ◌/◌, ◌^◌, ◌≤◌, ◌<◌}
-use native.Mathlib.Omega.{arith}
-use lib.ListN.{length, replicate, length-replicate}
-use lib.Seq.{take_all, length-take-le}
-use lib.IntN.{ℤ, pos, negsuc}
-use lib.Ieee.{Float}
+use Rattle.std.proofs.Common.{◌≡◌, refl, sym, ap, ◌∙◌, subst, false, List, [], ℕ, ◌+◌, ◌/◌, ◌^◌, ◌≤◌, ◌<◌, arith, length, replicate, take_all, length-take-le, ℤ, pos, negsuc, Float}
+use lib.ListN.{length-replicate}
 use Rattle.letters.specs.Place.{Place, place_at, places}
 use Rattle.letters.specs.Terms.Entry.{decoded}
 use Rattle.letters.specs.Terms.Rolling.{kmer_after, entry_of}

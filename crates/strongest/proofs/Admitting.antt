@@ -1,9 +1,5 @@
 -- What a request has that no check refuses.
-use mathlib.Core.Path.{◌≡◌, refl}
-use Prim.Native.Nat.{ℕ, zero, suc, ◌+◌, ◌^◌, ◌≤◌, ◌<◌}
-use native.Mathlib.Omega.{arith}
-use lib.Dec.{ltb, leb}
-use lib.ListN.{length}
+use Rattle.std.proofs.Common.{◌≡◌, refl, ℕ, zero, suc, ◌+◌, ◌^◌, ◌≤◌, ◌<◌, arith, ltb, leb, length}
 use borrow.Author.Tests.{ltb-true, ltb-false, leb-false, eqb-false, not-false}
 use Rattle.checks.proofs.Passing.{passes}
 use Rattle.scans.proofs.Test.{neither}

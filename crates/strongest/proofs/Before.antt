@@ -1,11 +1,6 @@
 -- What the request 'Longer stretch on equal scores' changed: the start, which is now at or before the one it was; score and gap are as they were, and so are the steps, which go by no rule.
-use mathlib.Core.Path.{◌≡◌, refl, sym, ap}
-use mathlib.Core.Bool.{Bool, true, false, not, cond}
-use Prim.Native.Nat.{ℕ, zero, suc, ◌≤◌}
-use native.Mathlib.Omega.{arith}
-use lib.Dec.{T}
-use lib.IntN.{ℤ}
-use lib.Signed.{lt_z, le_z, ◌≤ℤ◌, ◌<ℤ◌, le_z_yes, lt_z_yes, lt_z_no, clash_ℤ}
+use Rattle.std.proofs.Common.{◌≡◌, refl, sym, ap, Bool, true, false, not, cond, ℕ, zero, suc, ◌≤◌, arith, T, ℤ, ◌≤ℤ◌, ◌<ℤ◌}
+use lib.Signed.{lt_z, le_z, le_z_yes, lt_z_yes, lt_z_no, clash_ℤ}
 use Rattle.strongest.specs.Strongest.{Asked, steps, score_at, best_of, start, best_score, gap_over, gap}
 use Rattle.strongest.specs.Before.{shorter_of, start_before, score_before, gap_before}
 use Rattle.strongest.proofs.Order.{lt_le, not_le, both_le}

@@ -1,12 +1,6 @@
 -- The best of the stretches of 1 to l places, for any scores s.
-use mathlib.Core.Path.{◌≡◌, refl, sym, ap, ◌∙◌}
-use mathlib.Core.Bool.{true, false}
-use mathlib.Core.Logic.{⊎_elim}
-use Prim.Native.Nat.{ℕ, zero, suc, ◌≤◌, ◌<◌}
-use native.Mathlib.Nat.{eq-or-lt_of_le}
-use native.Mathlib.Omega.{arith}
-use lib.IntN.{ℤ}
-use lib.Signed.{le_z, ◌≤ℤ◌, ◌<ℤ◌, le_z_yes, ≤ℤ_refl}
+use Rattle.std.proofs.Common.{◌≡◌, refl, sym, ap, ◌∙◌, true, false, ⊎_elim, ℕ, zero, suc, ◌≤◌, ◌<◌, eq-or-lt_of_le, arith, ℤ, ◌≤ℤ◌, ◌<ℤ◌}
+use lib.Signed.{le_z, le_z_yes, ≤ℤ_refl}
 use Rattle.scans.proofs.Test.{by_test}
 use Rattle.strongest.specs.Strongest.{best_of}
 use Rattle.strongest.proofs.Order.{le_trans, lt_le, not_le}

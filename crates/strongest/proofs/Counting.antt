@@ -1,15 +1,6 @@
 -- Scan counts of which only those of the places read are known: first all set to 0, then raised place by place.
-use mathlib.Core.Path.{◌≡◌, refl, sym, ap, ◌∙◌}
-use mathlib.Core.List.{List}
-use mathlib.Core.Logic.{⊎_elim}
-use Prim.Native.Nat.{ℕ, suc, ◌+◌, ◌-◌, ◌/◌, ◌%◌, ◌^◌, ◌≤◌, ◌<◌}
-use native.Mathlib.Nat.{eq-or-lt_of_le}
-use native.Mathlib.Omega.{arith}
-use lib.ListN.{length, get_or, set, length-set}
-use lib.Seq.{get_or-set_same, get_or-set_other}
+use Rattle.std.proofs.Common.{◌≡◌, refl, sym, ap, ◌∙◌, List, ⊎_elim, ℕ, suc, ◌+◌, ◌-◌, ◌/◌, ◌%◌, ◌^◌, ◌≤◌, ◌<◌, eq-or-lt_of_le, arith, length, get_or, set, length-set, get_or-set_same, get_or-set_other, ℤ, pos, ◌+ℤ◌, Option, None, Some}
 use Rattle.std.proofs.lemmas.List.{get_or_past}
-use lib.IntN.{ℤ, pos, ◌+ℤ◌}
-use Rattle.std.specs.Prelude.{Option, None, Some}
 use Rattle.std.proofs.lemmas.Option.{none-some, same_Some}
 use Rattle.letters.specs.Place.{Place, ambiguous, plain, BelowAt}
 use Rattle.letters.specs.Terms.Entry.{decode}

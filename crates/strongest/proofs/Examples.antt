@@ -1,8 +1,5 @@
 -- Worked examples: k = 2, w = 4, T = 2, ln[1..4] = 1 4 5 6, f[1..4] = 1. The entries 0 of both tables are 9, to be left out.
-use mathlib.Core.Path.{◌≡◌, refl}
-use mathlib.Core.List.{List, [], ◌∷◌}
-use Prim.Native.Nat.{ℕ, ◌^◌}
-use lib.IntN.{pos, negsuc}
+use Rattle.std.proofs.Common.{◌≡◌, refl, List, [], ◌∷◌, ℕ, ◌^◌, pos, negsuc}
 use Rattle.checks.specs.Tests.{any_byte}
 use Rattle.letters.specs.Code.{code, codes}
 use Rattle.letters.specs.Place.{packed, all_plain, place_at, places_from, places}

@@ -1,9 +1,5 @@
 -- The strongest stretch: what a search has found, and what it can have missed. m places up to b start at place b + 1 - m.
-use mathlib.Core.Path.{◌≡◌}
-use Prim.Native.Nat.{ℕ, zero, suc, ◌+◌, ◌≤◌, ◌<◌}
-use native.Mathlib.Omega.{arith}
-use lib.IntN.{pos, ◌+ℤ◌}
-use lib.Signed.{◌≤ℤ◌, ◌<ℤ◌}
+use Rattle.std.proofs.Common.{◌≡◌, ℕ, zero, suc, ◌+◌, ◌≤◌, ◌<◌, arith, pos, ◌+ℤ◌, ◌≤ℤ◌, ◌<ℤ◌}
 use borrow.Author.Tests.{eq-eqb}
 use Rattle.strongest.specs.Strongest.{Asked, available, steps, unread, score_at, best_of, best, start, best_score, gap_over, gap}
 use Rattle.strongest.specs.Checks.{refusal}

@@ -1,6 +1,6 @@
 -- The constants that the definitions give by their bits are the numbers that they say they are, each rounded once.
-use Rattle.std.proofs.Common.{◌≡◌, ℕ, ◌^◌, false, refl}
-use lib.Ieee.{Float, binary64, round, of_bits, of_int}
+use Rattle.std.proofs.Common.{◌≡◌, ℕ, ◌^◌, false, refl, Float}
+use lib.Ieee.{binary64, round, of_bits, of_int}
 use Rattle.floats.specs.Binary64.{number}
 use Rattle.tables.specs.Ln.{twenty_one, ln2, root2}
 use Rattle.tables.specs.Exp.{inv_e}

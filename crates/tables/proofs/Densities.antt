@@ -1,7 +1,6 @@
 -- The density records that the code makes, and the numbers of k-mers in the classes: what the code multiplies and shifts stays below 2^64.
-use Rattle.std.proofs.Common.{◌≡◌, ℕ, zero, suc, ◌+◌, ◌-◌, ◌*◌, ◌/◌, ◌%◌, ◌^◌, ◌<◌, ◌≤◌, List, set, replicate, sym, ap, ◌∙◌, le_trans, le_of_eq, le_refl, mul-le-mul_right, mod-eq_of_lt, mul-le-mul_left, pow-suc, div-le_self, add-one, arith, lit<, pow_mono}
+use Rattle.std.proofs.Common.{◌≡◌, ℕ, zero, suc, ◌+◌, ◌-◌, ◌*◌, ◌/◌, ◌%◌, ◌^◌, ◌<◌, ◌≤◌, List, set, replicate, sym, ap, ◌∙◌, le_trans, le_of_eq, le_refl, mul-le-mul_right, mod-eq_of_lt, mul-le-mul_left, pow-suc, div-le_self, add-one, arith, lit<, pow_mono, Float}
 use native.Mathlib.Nat.{pow-le-pow_right}
-use lib.Ieee.{Float}
 use Rattle.buffers.specs.Fill.{tabulate, tabulate_from}
 use Rattle.buffers.proofs.Filling.{part, part_turn, part_end}
 use Rattle.buffers.proofs.Tabulate.{tabulate_length, tabulate_at}

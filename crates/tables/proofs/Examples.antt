@@ -1,6 +1,6 @@
 -- Closed cases of the formulas; the bits are those of a Rust program with the same formulas.
-use Rattle.std.proofs.Common.{◌≡◌, true, [], ◌∷◌, refl}
-use lib.Ieee.{Float, inf, binary64, add, sub, mul, div, lt, le, eq, of_bits, of_int}
+use Rattle.std.proofs.Common.{◌≡◌, true, [], ◌∷◌, refl, Float}
+use lib.Ieee.{inf, binary64, add, sub, mul, div, lt, le, eq, of_bits, of_int}
 use Rattle.buffers.specs.Fill.{tabulate, tabulate_from}
 use Rattle.floats.specs.Binary64.{number, zero64, one64}
 use Rattle.letters.specs.Gc.{gc_of}

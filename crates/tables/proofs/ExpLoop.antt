@@ -1,6 +1,6 @@
 -- The loop that takes 1 off v, at most 30 times: its turn and its end.
-use Rattle.std.proofs.Common.{◌≡◌, ℕ, zero, suc, ◌+◌, ◌-◌, ◌<◌, Bool, true, false, ◌&&◌, ltb, refl, add-one, arith, ltb-false, ltb-true}
-use lib.Ieee.{Float, le}
+use Rattle.std.proofs.Common.{◌≡◌, ℕ, zero, suc, ◌+◌, ◌-◌, ◌<◌, Bool, true, false, ◌&&◌, ltb, refl, add-one, arith, ltb-false, ltb-true, Float}
+use lib.Ieee.{le}
 use Rattle.floats.specs.Arithmetic.{◌⊖◌}
 use Rattle.floats.specs.Binary64.{one64}
 use Rattle.tables.specs.Exp.{inv_e, times, exp_series, exp_from}

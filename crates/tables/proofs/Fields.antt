@@ -1,9 +1,9 @@
 -- The fields of a positive finite float's bits, and the pattern of a significand with 53 digits.
 -- 4503599627370496 is 2^52, 9223372036854775808 is 2^63, and 4602678819172646912 is 1022 times 2^52, the exponent of 1 less the significand's leading digit.
-use Rattle.std.proofs.Common.{◌≡◌, ℕ, zero, suc, ◌+◌, ◌-◌, ◌*◌, ◌/◌, ◌%◌, ◌^◌, ◌<◌, ◌≤◌, Bool, true, false, cond, not, T, eqb, leb, sym, refl, ap, ◌∙◌, subst, ap₂, lt_of_lt_of_le, lt_of_le_of_lt, lt_irrefl, mul-le-mul_right, mod-eq_of_lt, mul-lt-mul_of_pos_right, lt_of_not-le, arith, pow_pos, pow_mono, pow-add, ne_eqb}
-use lib.Bits.{bit_and, and_mask}
+use Rattle.std.proofs.Common.{◌≡◌, ℕ, zero, suc, ◌+◌, ◌-◌, ◌*◌, ◌/◌, ◌%◌, ◌^◌, ◌<◌, ◌≤◌, Bool, true, false, cond, not, T, eqb, leb, sym, refl, ap, ◌∙◌, subst, ap₂, lt_of_lt_of_le, lt_of_le_of_lt, lt_irrefl, mul-le-mul_right, mod-eq_of_lt, mul-lt-mul_of_pos_right, lt_of_not-le, arith, pow_pos, pow_mono, pow-add, ne_eqb, bit_and, Float, to_bits}
+use lib.Bits.{and_mask}
 use lib.Count.{count_leading_zeros, leading_top}
-use lib.Ieee.{Float, nan, inf, binary64, lt, odd, fits, is_nan, nan_bits, of_bits, to_bits, of_fields}
+use lib.Ieee.{nan, inf, binary64, lt, odd, fits, is_nan, nan_bits, of_bits, of_fields}
 use lib.Ieee.Bits.{nan_bits_is, of_bits-to_bits}
 use borrow.Author.Tests.{lt-leb}
 use Rattle.floats.specs.Binary64.{zero64}

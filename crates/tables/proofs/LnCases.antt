@@ -1,7 +1,7 @@
 -- What the tests x > 0, x < infinity and x == 0 say of x, and ln of x where no digits are read.
-use Rattle.std.proofs.Common.{◌≡◌, ℕ, zero, suc, ◌*◌, ◌<◌, Bool, true, false, ◌&&◌, ◌||◌, eqb, ltb, ℤ, sym, refl, ap, ◌∙◌, zero-lt-suc, mul-pos, zero-mul, mul-one, arith, lt-ltb, eqb-true}
+use Rattle.std.proofs.Common.{◌≡◌, ℕ, zero, suc, ◌*◌, ◌<◌, Bool, true, false, ◌&&◌, ◌||◌, eqb, ltb, ℤ, sym, refl, ap, ◌∙◌, zero-lt-suc, mul-pos, zero-mul, mul-one, arith, lt-ltb, eqb-true, Float}
 use mathlib.Core.Bool.{beq}
-use lib.Ieee.{Float, nan, inf, fin, binary64, lt, eq, of_bits, up, down, level}
+use lib.Ieee.{nan, inf, fin, binary64, lt, eq, of_bits, up, down, level}
 use lib.Ieee.Fits.{up_pos}
 use Rattle.floats.specs.Binary64.{zero64}
 use Rattle.tables.specs.Ln.{infinity, ln_of}

@@ -1,8 +1,8 @@
 -- ln of a positive float by its digits: shifting them up to 53 digits scales them to 1 <= m < 2.
-use Rattle.std.proofs.Common.{◌≡◌, ℕ, zero, suc, ◌+◌, ◌-◌, ◌*◌, ◌/◌, ◌%◌, ◌^◌, ◌<◌, ◌≤◌, not, T, false, ℤ, pos, ◌+ℤ◌, sym, refl, ap, ◌∙◌, subst, ap₂, lt_of_lt_of_le, le_of_suc-le-suc, lt_of_le_of_lt, lt_irrefl, mul-le-mul_right, mul_assoc, le_antisymm, lt_of_mul-lt-mul_right, mul-lt-mul_of_pos_right, pow-suc, lt_of_not-le, mul-one, mul-div_cancel, arith, pow_pos, pow_mono, pow-add}
+use Rattle.std.proofs.Common.{◌≡◌, ℕ, zero, suc, ◌+◌, ◌-◌, ◌*◌, ◌/◌, ◌%◌, ◌^◌, ◌<◌, ◌≤◌, not, T, false, ℤ, pos, ◌+ℤ◌, sym, refl, ap, ◌∙◌, subst, ap₂, lt_of_lt_of_le, le_of_suc-le-suc, lt_of_le_of_lt, lt_irrefl, mul-le-mul_right, mul_assoc, le_antisymm, lt_of_mul-lt-mul_right, mul-lt-mul_of_pos_right, pow-suc, lt_of_not-le, mul-one, mul-div_cancel, arith, pow_pos, pow_mono, pow-add, Float}
 use lib.Bits.{shifted_half, shifted_even}
 use lib.Count.{count_leading_zeros, count_trailing_zeros, under}
-use lib.Ieee.{Float, fin, binary64, minus, odd, size, nan_bits, of_bits}
+use lib.Ieee.{fin, binary64, minus, odd, size, nan_bits, of_bits}
 use lib.Ieee.Digits.{size-lt, size-le}
 use Rattle.tables.proofs.Fields.{Shift, shift, pattern, pattern_number}
 use Rattle.tables.proofs.Exponent.{minus_add, minus_same}

@@ -1,6 +1,6 @@
 -- The two tables' lengths, a buffer that holds the ln table, and the classes: they fit their record, and a sequence and its reverse complement have the same.
-use Rattle.std.proofs.Common.{◌≡◌, ℕ, ◌+◌, ◌-◌, ◌<◌, ◌≤◌, List, length, get_or, set, take, drop, sym, refl, ap, ◌∙◌, arith, get_or-take, take_at}
-use lib.Ieee.{Float, nan}
+use Rattle.std.proofs.Common.{◌≡◌, ℕ, ◌+◌, ◌-◌, ◌<◌, ◌≤◌, List, length, get_or, set, take, drop, sym, refl, ap, ◌∙◌, arith, get_or-take, take_at, Float}
+use lib.Ieee.{nan}
 use Rattle.buffers.specs.Fill.{put, tabulate}
 use Rattle.buffers.proofs.Filling.{part, part_turn, part_end}
 use Rattle.buffers.proofs.Tabulate.{tabulate_length, tabulate_at}

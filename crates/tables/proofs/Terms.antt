@@ -1,6 +1,6 @@
 -- The turns and ends of the loops over the terms of a class and over the classes, and f's first entry.
-use Rattle.std.proofs.Common.{◌≡◌, ℕ, zero, suc, ◌+◌, ◌^◌, ◌<◌, true, false, get_or, refl, add-one, arith}
-use lib.Ieee.{Float, nan, le}
+use Rattle.std.proofs.Common.{◌≡◌, ℕ, zero, suc, ◌+◌, ◌^◌, ◌<◌, true, false, get_or, refl, add-one, arith, Float}
+use lib.Ieee.{nan, le}
 use Rattle.floats.specs.Arithmetic.{◌⊕◌, ◌⊗◌, ◌⊘◌}
 use Rattle.floats.specs.Binary64.{number, zero64}
 use Rattle.tables.specs.declared.Density.{Density}

@@ -1,6 +1,5 @@
 -- A test that holds of both Booleans holds of any.
-use mathlib.Core.Path.{◌≡◌}
-use mathlib.Core.Bool.{Bool, true, false, ◌&&◌}
+use Rattle.std.proofs.Common.{◌≡◌, Bool, true, false, ◌&&◌}
 use Rattle.intervals.proofs.Counted.{and_agrees}
 
 unfoldable pub every : (Bool → Bool) → Bool

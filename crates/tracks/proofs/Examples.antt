@@ -1,7 +1,5 @@
 -- Our intervals [0, 5) seen forward and [9, 12) seen in reverse, and theirs [5, 7) and [10, 14), joined in 14 letters.
-use mathlib.Core.Path.{◌≡◌, refl}
-use mathlib.Core.List.{List, [], ◌∷◌}
-use Prim.Native.Nat.{ℕ}
+use Rattle.std.proofs.Common.{◌≡◌, refl, List, [], ◌∷◌, ℕ}
 use Rattle.intervals.specs.declared.Interval.{Interval}
 use Rattle.intervals.specs.Interval.{interval, covered, usual_from}
 use Rattle.intervals.specs.Save.{staying, save}

@@ -1,12 +1,7 @@
 -- What a request that no check refuses brings along.
-use Prim.Native.Nat.{ℕ, ◌+◌, ◌≤◌}
-use mathlib.Core.Path.{◌≡◌, refl}
-use mathlib.Core.Bool.{false, ◌||◌}
-use mathlib.Core.List.{List}
+use Rattle.std.proofs.Common.{ℕ, ◌+◌, ◌≤◌, ◌≡◌, refl, false, ◌||◌, List, ltb, length, get_or}
 use mathlib.Mathlib.Data.Bool.Basic.{or-eq-false-eq-eq-false-and-eq-false}
 use borrow.Author.Tests.{ltb-false, not-false}
-use lib.Dec.{ltb}
-use lib.ListN.{length, get_or}
 use Rattle.checks.specs.Checks.{check}
 use Rattle.checks.proofs.Passing.{passes}
 use Rattle.intervals.specs.declared.Interval.{Interval}

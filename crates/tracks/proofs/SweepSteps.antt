@@ -1,12 +1,7 @@
 -- Where the loop of `join_lists` stands, and what each of its turns does to that.
-use Prim.Native.Nat.{ℕ, ◌+◌, ◌%◌, ◌≤◌, ◌<◌}
-use mathlib.Core.Path.{◌≡◌, refl, sym, ap, ap₂, ◌∙◌}
-use mathlib.Core.Bool.{Bool, true, false, cond}
-use mathlib.Core.List.{List, [], ◌∷◌, ◌++◌, map, append-nil, map-append}
-use mathlib.Core.Logic.{⊎_elim}
-use native.Mathlib.Omega.{arith}
-use lib.Bits.{bit_or}
-use lib.ListN.{length, get_or, length-append, length-map}
+use Rattle.std.proofs.Common.{ℕ, ◌+◌, ◌%◌, ◌≤◌, ◌<◌, ◌≡◌, refl, sym, ap, ap₂, ◌∙◌, Bool, true, false, cond, List, [], ◌∷◌, ◌++◌, map, append-nil, ⊎_elim, arith, bit_or, length, get_or, length-append}
+use mathlib.Core.List.{map-append}
+use lib.ListN.{length-map}
 use Rattle.buffers.specs.Fill.{put, put_at}
 use Rattle.buffers.proofs.Put.{put_at_length, put_next}
 use Rattle.intervals.specs.declared.Interval.{Interval}

@@ -1,10 +1,6 @@
 -- The letters of a joined list are the wanted ones; what follows for its shape, its number of letters, an empty list and a list joined with itself.
-use Prim.Native.Nat.{ℕ, zero, suc, ◌+◌, ◌%◌, ◌≤◌, ◌<◌}
-use mathlib.Core.Path.{◌≡◌, refl, ap, ◌∙◌}
-use mathlib.Core.Bool.{Bool, true, false, ◌&&◌, ◌||◌, not, cond, or-false}
-use mathlib.Core.List.{List, [], map}
-use native.Mathlib.Omega.{arith}
-use lib.ListN.{length, take}
+use Rattle.std.proofs.Common.{ℕ, zero, suc, ◌+◌, ◌%◌, ◌≤◌, ◌<◌, ◌≡◌, refl, ap, ◌∙◌, Bool, true, false, ◌&&◌, ◌||◌, not, cond, List, [], map, arith, length, take}
+use mathlib.Core.Bool.{or-false}
 use Rattle.intervals.specs.declared.Interval.{Interval}
 use Rattle.intervals.specs.Interval.{covered, covered_in, Canonical}
 use Rattle.intervals.proofs.Counted.{covered_agrees, same_test, covered_empty, covered_more}

@@ -1,6 +1,5 @@
 -- What the bytes read have shown, with the bytes left, tells.
-use Rattle.std.proofs.Common.{◌≡◌, drop}
-use mathlib.Core.Bool.{◌||◌}
+use Rattle.std.proofs.Common.{◌≡◌, drop, ◌||◌}
 use Rattle.checks.specs.Tests.{any_high, any_other}
 use Rattle.checks.proofs.find_bytes.Given as goal
 

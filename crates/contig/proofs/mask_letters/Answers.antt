@@ -1,9 +1,5 @@
-use mathlib.Core.Path.{◌≡◌, ap, ◌∙◌}
-use mathlib.Core.List.{List}
-use native.Mathlib.Omega.{arith}
-use lib.Ieee.{Float}
-use lib.ListN.{take, length-replicate}
-use lib.Seq.{take_at}
+use Rattle.std.proofs.Common.{◌≡◌, ap, ◌∙◌, List, arith, Float, take, take_at}
+use lib.ListN.{length-replicate}
 use Rattle.floats.specs.Binary64.{zero64}
 use Rattle.tables.specs.Density.{uniform}
 use Rattle.tables.specs.Tables.{ln_table, f_table}

@@ -1,5 +1,4 @@
-use mathlib.Core.Path.{◌∙◌}
-use native.Mathlib.Omega.{arith}
+use Rattle.std.proofs.Common.{◌∙◌, arith}
 use Rattle.checks.proofs.Refusing.{number_positive}
 use Rattle.report.proofs.Writing.{adds_as}
 use Rattle.contig.proofs.Printed.{too_many, refusal_fits, refused, accepted, report_fits}

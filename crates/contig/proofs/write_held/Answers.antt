@@ -1,4 +1,4 @@
-use mathlib.Core.Path.{ap, ◌∙◌}
+use Rattle.std.proofs.Common.{ap, ◌∙◌}
 use Rattle.report.proofs.Writing.{adds_as}
 use Rattle.contig.specs.Printed.{printed}
 use Rattle.contig.proofs.Printed.{printed_held}

@@ -1,4 +1,4 @@
-use mathlib.Core.List.{[]}
+use Rattle.std.proofs.Common.{[]}
 use Rattle.report.proofs.Letters.{held_nothing}
 use Rattle.contig.proofs.write_text.Goals as goal
 

@@ -1,5 +1,4 @@
-use native.Mathlib.Omega.{arith}
-use mathlib.Core.Path.{refl, ◌∙◌}
+use Rattle.std.proofs.Common.{arith, refl, ◌∙◌}
 use borrow.Author.Rules.{rules}
 use Rattle.contigs_text.proofs.Opening.{part_none, part_as, part_all, part_emptied}
 use Rattle.contigs_text.proofs.Starting.{refusal_fits, size_fits, too_many, faulty, faultless, fault_positive}

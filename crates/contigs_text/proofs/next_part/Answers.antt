@@ -1,4 +1,4 @@
-use mathlib.Core.Path.{◌∙◌}
+use Rattle.std.proofs.Common.{◌∙◌}
 use Rattle.contigs_text.proofs.Moving.{go_turn}
 use Rattle.contigs_text.proofs.next_part.Goals as goal
 

@@ -1,4 +1,4 @@
-use mathlib.Core.Path.{sym, ◌∙◌}
+use Rattle.std.proofs.Common.{sym, ◌∙◌}
 use Rattle.contigs_text.proofs.Moving.{moved_record, moved_end, moved_fault}
 use Rattle.contigs_text.proofs.next_record.Goals as goal
 

@@ -1,9 +1,5 @@
-use Prim.Native.Nat.{◌≤◌}
-use mathlib.Core.Path.{◌≡◌, ap, ◌∙◌}
-use mathlib.Core.List.{[]}
-use native.Mathlib.Omega.{arith}
+use Rattle.std.proofs.Common.{◌≤◌, ◌≡◌, ap, ◌∙◌, [], arith, length}
 use borrow.Author.Rules.{rules}
-use lib.ListN.{length}
 use Rattle.checks.proofs.Refusing.{number_positive}
 use Rattle.report.specs.Letters.{letters_of}
 use Rattle.report.specs.Terms.Held.{Held}

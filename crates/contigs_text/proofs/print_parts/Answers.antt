@@ -1,6 +1,4 @@
-use mathlib.Core.Path.{◌∙◌}
-use mathlib.Core.List.{[]}
-use native.Mathlib.Omega.{arith}
+use Rattle.std.proofs.Common.{◌∙◌, [], arith}
 use Rattle.contigs_text.proofs.Printing.{part_long, part_end, print_first, print_next}
 use Rattle.contigs_text.proofs.print_parts.Goals as goal
 

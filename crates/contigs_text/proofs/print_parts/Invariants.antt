@@ -1,5 +1,5 @@
 -- What the writer was handed and what is left is the file's text.
-use Rattle.std.specs.Prelude.{◌≡◌, length}
+use Rattle.std.proofs.Common.{◌≡◌, length}
 use Rattle.contigs_text.specs.Parts.{text_room, steps_if}
 use Rattle.contigs_text.proofs.Printing.{Printing}
 use Rattle.contigs_text.proofs.print_parts.Given as goal

@@ -1,5 +1,4 @@
-use mathlib.Core.Path.{sym, subst}
-use mathlib.Core.List.{List}
+use Rattle.std.proofs.Common.{sym, subst, List}
 use Rattle.intervals.specs.declared.Interval.{Interval}
 use Rattle.scans.specs.Terms.Run.{as_setup}
 use Rattle.step.specs.Step.{intervals_of}

@@ -1,4 +1,4 @@
-use lib.Seq.{length-take-le}
+use Rattle.std.proofs.Common.{length-take-le}
 use Rattle.mask.proofs.Strands.{reversed_whole, other_some}
 use Rattle.mask.proofs.reverse_strand.Goals as goal
 

@@ -1,4 +1,4 @@
-use native.Mathlib.Omega.{arith}
+use Rattle.std.proofs.Common.{arith}
 use Rattle.short_sequences.proofs.Letters.{counting_ordered, counting_fits, counting_turn, counting_end}
 use Rattle.short_sequences.proofs.count_letters.Goals as goal
 

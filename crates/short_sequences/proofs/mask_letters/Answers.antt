@@ -1,4 +1,4 @@
-use mathlib.Core.Path.{◌∙◌}
+use Rattle.std.proofs.Common.{◌∙◌}
 use Rattle.short_sequences.proofs.Runs.{refusal_short, mask_short, kmer_short}
 use Rattle.short_sequences.proofs.mask_letters.Goals as goal
 

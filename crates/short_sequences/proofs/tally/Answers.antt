@@ -1,5 +1,4 @@
-use Rattle.std.proofs.Common.{ℕ, [], ◌∷◌, arith, rules}
-use lib.Seq.{length-take-le}
+use Rattle.std.proofs.Common.{ℕ, [], ◌∷◌, arith, rules, length-take-le}
 use Rattle.short_sequences.proofs.Runs.{tables_filled}
 use Rattle.short_sequences.proofs.Tallying.{no_tallies}
 use Rattle.short_sequences.proofs.tally.Goals as goal

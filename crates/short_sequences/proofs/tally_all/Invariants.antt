@@ -1,5 +1,4 @@
-use mathlib.Core.Path.{◌≡◌}
-use lib.ListN.{length}
+use Rattle.std.proofs.Common.{◌≡◌, length}
 use Rattle.short_sequences.proofs.Tallying.{Tallying}
 use Rattle.short_sequences.proofs.tally_all.Given as goal
 

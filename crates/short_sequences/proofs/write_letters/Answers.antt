@@ -1,4 +1,4 @@
-use native.Mathlib.Omega.{arith}
+use Rattle.std.proofs.Common.{arith}
 use Rattle.short_sequences.proofs.Writing.{writing_start, share_some, writing_turn}
 use Rattle.short_sequences.proofs.write_letters.Goals as goal
 

@@ -1,5 +1,4 @@
-use mathlib.Core.Path.{◌≡◌, sym}
-use lib.ListN.{length}
+use Rattle.std.proofs.Common.{◌≡◌, sym, length}
 use Rattle.small.specs.Profile.{refusal}
 use Rattle.small.proofs.Profile.{asked}
 use Rattle.small.proofs.Repeating.{none_written}

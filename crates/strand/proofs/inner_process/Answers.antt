@@ -1,4 +1,4 @@
-use native.Mathlib.Omega.{arith}
+use Rattle.std.proofs.Common.{arith}
 use Rattle.scans.specs.Terms.Run.{as_setup}
 use Rattle.strand.proofs.KnownLow.{known_on, answers_same}
 use Rattle.strand.proofs.Running.{inv_start, last_saved}

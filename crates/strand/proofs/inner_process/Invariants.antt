@@ -1,6 +1,4 @@
-use Prim.Native.Nat.{◌-◌}
-use Rattle.std.specs.Prelude.{IfSome}
-use lib.ListN.{length}
+use Rattle.std.proofs.Common.{◌-◌, IfSome, length}
 use Rattle.scans.specs.Terms.Run.{as_setup}
 use Rattle.strand.specs.Terms.LowStarts.{KnownLow}
 use Rattle.strand.specs.Terms.Running.{Before}

@@ -1,7 +1,4 @@
-use mathlib.Core.Path.{◌≡◌, sym, ◌∙◌, subst}
-use Prim.Native.Nat.{◌^◌, ◌≤◌}
-use native.Mathlib.Omega.{arith}
-use lib.ListN.{length}
+use Rattle.std.proofs.Common.{◌≡◌, sym, ◌∙◌, subst, ◌^◌, ◌≤◌, arith, length}
 use Rattle.scans.specs.Terms.Run.{as_setup}
 use Rattle.scans.proofs.Windows.{long}
 use Rattle.step.specs.declared.hand.Open.{Open}

@@ -1,5 +1,4 @@
-use Prim.Native.Nat.{◌-◌, ◌≤◌}
-use lib.ListN.{length}
+use Rattle.std.proofs.Common.{◌-◌, ◌≤◌, length}
 use Rattle.strand.specs.Terms.Running.{Before}
 use Rattle.strand.proofs.until_scan.Given as goal
 

@@ -1,9 +1,6 @@
 -- The formula's parts against the brackets of 20 terms.
-use mathlib.Core.Path.{◌≡◌, refl, sym, ap, ap₂, ◌∙◌}
-use Prim.Native.Nat.{ℕ, zero, suc, ◌+◌, ◌-◌, ◌*◌, ◌^◌, ◌≤◌, ◌<◌}
-use native.Mathlib.Nat.{le_trans, le_of_eq, mul-mul-mul_comm, one-mul, mul-pos, mul-le-mul_left, mul-le-mul_right, le_of_mul-le-mul_right, pow-zero, pow-suc, pow-le-pow_left, div-le_of_le-mul}
-use native.Mathlib.Omega.{arith}
-use lib.Dec.{lit≤}
+use Rattle.std.proofs.Common.{◌≡◌, refl, sym, ap, ap₂, ◌∙◌, ℕ, zero, suc, ◌+◌, ◌-◌, ◌*◌, ◌^◌, ◌≤◌, ◌<◌, le_trans, le_of_eq, one-mul, mul-pos, mul-le-mul_left, mul-le-mul_right, le_of_mul-le-mul_right, pow-suc, arith, lit≤}
+use native.Mathlib.Nat.{mul-mul-mul_comm, pow-zero, pow-le-pow_left, div-le_of_le-mul}
 use Rattle.floats.specs.Binary64.{one}
 use Rattle.floats.proofs.Rounded.{eps}
 use Rattle.floats.proofs.Binary64.{one_eps}

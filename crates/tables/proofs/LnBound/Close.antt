@@ -1,11 +1,6 @@
 -- A whole number of units near a fraction: `Close E g a b` says that g is at most E away from a / b. Rounded products and sums of such numbers are near the products and sums of the fractions.
-use mathlib.Core.Path.{◌≡◌, sym, ap}
-use mathlib.Core.Bool.{Bool, false}
-use Prim.Native.Nat.{ℕ, ◌+◌, ◌*◌, ◌≤◌, ◌<◌}
-use native.Mathlib.Nat.{mul-one, mul-pos, mul-le-mul_right, le_of_mul-le-mul_right}
-use native.Mathlib.Omega.{arith}
-use lib.Dec.{lit<, lit≤}
-use lib.Ieee.{Float, unlike}
+use Rattle.std.proofs.Common.{◌≡◌, sym, ap, Bool, false, ℕ, ◌+◌, ◌*◌, ◌≤◌, ◌<◌, mul-one, mul-pos, mul-le-mul_right, le_of_mul-le-mul_right, arith, lit<, lit≤, Float}
+use lib.Ieee.{unlike}
 use Rattle.floats.specs.Arithmetic.{◌⊕◌, ◌⊗◌, ◌⊘◌}
 use Rattle.floats.specs.Binary64.{one}
 use Rattle.floats.proofs.Rounded.{eps}

@@ -1,9 +1,6 @@
 -- The ends at ln 2 = 0.693147180559945309.., ln 10 = 2.302585092994045684.. and ln 65535 = 11.090339630053645944..: their digits are those of printed tables.
 -- And how good the table is: 2^-50 in place of 2^-45 would be false.
-use Prim.Native.Nat.{ℕ, suc, ◌*◌, ◌^◌, ◌≤◌}
-use lib.Dec.{lit≤}
-use lib.IntN.{pos, ◌+ℤ◌, ◌*ℤ◌}
-use lib.Signed.{◌≤ℤ◌}
+use Rattle.std.proofs.Common.{ℕ, suc, ◌*◌, ◌^◌, ◌≤◌, lit≤, pos, ◌+ℤ◌, ◌*ℤ◌, ◌≤ℤ◌}
 use lib.Ieee.{of_bits, of_fields, of_int, add, sub, mul, div, lt}
 use Rattle.floats.specs.Value.{value, magnitude}
 use Rattle.floats.specs.Binary64.{one, value64, number}

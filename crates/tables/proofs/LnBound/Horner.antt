@@ -1,12 +1,8 @@
 -- The series in the form in which the code sums it: `num j l / den j l` is 1 / (2j + 1) + z^2 / (2j + 3) + .., l terms with z^2 = P / Q, and the code's h is near it at each turn.
 -- An error is divided by 32 at each turn, so the code's start, 1 / 21, may stand for any number of terms from the eleventh on.
-use mathlib.Core.Path.{◌≡◌, refl, sym, ap, subst}
-use mathlib.Core.Bool.{false}
-use Prim.Native.Nat.{ℕ, zero, suc, ◌+◌, ◌*◌, ◌^◌, ◌≤◌, ◌<◌}
-use native.Mathlib.Nat.{le_trans, mul-pos, pow-suc, pow-le-pow_right, mul-le-mul, mul-le-mul_left, mul-le-mul_right}
-use native.Mathlib.Omega.{arith}
-use lib.Dec.{lit<, lit≤}
-use lib.Ieee.{Float, of_bits, of_int}
+use Rattle.std.proofs.Common.{◌≡◌, refl, sym, ap, subst, false, ℕ, zero, suc, ◌+◌, ◌*◌, ◌^◌, ◌≤◌, ◌<◌, le_trans, mul-pos, pow-suc, mul-le-mul, mul-le-mul_left, mul-le-mul_right, arith, lit<, lit≤, Float}
+use native.Mathlib.Nat.{pow-le-pow_right}
+use lib.Ieee.{of_bits, of_int}
 use Rattle.floats.specs.Arithmetic.{◌⊗◌, ◌⊘◌}
 use Rattle.floats.specs.Binary64.{one, number, one64}
 use Rattle.floats.proofs.Rounded.{eps}

@@ -1,13 +1,6 @@
 -- ln of m * 2^e by the code's formula, for m = n / 2^e near 1: e times the constant for ln 2, and 2 z times the series, each near its exact value.
-use mathlib.Core.Path.{◌≡◌, refl, sym, ap, ◌∙◌, subst}
-use mathlib.Core.Bool.{Bool, true, false, not}
-use Prim.Native.Nat.{ℕ, ◌+◌, ◌-◌, ◌*◌, ◌^◌, ◌≤◌, ◌<◌}
-use native.Mathlib.Nat.{le_trans, mul-pos, mul-le-mul, mul-le-mul_left, mul-le-mul_right, le_of_mul-le-mul_right}
-use native.Mathlib.Omega.{arith}
-use lib.Dec.{T, ltb, ltb→lt, nltb→le, lit<, lit≤}
-use lib.Pow.{pow-add, pow_pos, pow_mono}
-use lib.IntN.{pos}
-use lib.Ieee.{Float, binary64, unlike, fits, of_bits}
+use Rattle.std.proofs.Common.{◌≡◌, refl, sym, ap, ◌∙◌, subst, Bool, true, false, not, ℕ, ◌+◌, ◌-◌, ◌*◌, ◌^◌, ◌≤◌, ◌<◌, le_trans, mul-pos, mul-le-mul, mul-le-mul_left, mul-le-mul_right, le_of_mul-le-mul_right, arith, T, ltb, ltb→lt, nltb→le, lit<, lit≤, pow-add, pow_pos, pow_mono, pos, Float}
+use lib.Ieee.{binary64, unlike, fits, of_bits}
 use Rattle.floats.specs.Arithmetic.{◌⊕◌, ◌⊖◌, ◌⊗◌, ◌⊘◌}
 use Rattle.floats.specs.Value.{magnitude}
 use Rattle.floats.specs.Binary64.{one, number, one64, two64}

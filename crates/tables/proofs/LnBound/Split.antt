@@ -1,15 +1,8 @@
 -- ln of a whole number n = 1 .. 65535 is the formula at m = n / 2^e with 2^e next to n.
-use mathlib.Core.Path.{◌≡◌, refl, sym, ap, ◌∙◌, subst}
-use mathlib.Core.Logic.{◌↔◌}
-use mathlib.Core.Bool.{Bool, true, false, not, cond, ◌&&◌}
-use Prim.Native.Nat.{ℕ, zero, suc, ◌+◌, ◌-◌, ◌*◌, ◌%◌, ◌^◌, ◌≤◌, ◌<◌}
-use native.Mathlib.Nat.{le_trans, le_of_suc-le-suc, mul_comm, lt_of_mul-lt-mul_right, mul-lt-mul_of_pos_right, le_of_eq, le-mul_of_pos_right, lt_of_lt_of_le, lt_of_le_of_lt, lt_of_not-le, zero-lt-suc, mul-one, mul-pos, mul-le-mul_left, mul-le-mul_right, le_of_mul-le-mul_right, eq_of_mul-eq-mul_right, pow-suc}
-use native.Mathlib.Numerals.{add-one}
-use native.Mathlib.Omega.{arith}
-use lib.Dec.{T, T_not, leb, ltb, eqb, leb→le, nleb→lt, ltb→lt, nltb→le, eqb→eq, le→leb, lt→ltb, lit<, lit≤}
-use lib.Pow.{pow-add, pow_pos, pow_mono}
-use lib.IntN.{ℤ, pos, negsuc}
-use lib.Ieee.{Float, nan, inf, fin, binary64, up, down, minus, size, fits, lt, of_bits}
+use Rattle.std.proofs.Common.{◌≡◌, refl, sym, ap, ◌∙◌, subst, ◌↔◌, Bool, true, false, not, cond, ◌&&◌, ℕ, zero, suc, ◌+◌, ◌-◌, ◌*◌, ◌%◌, ◌^◌, ◌≤◌, ◌<◌, le_trans, le_of_suc-le-suc, mul_comm, lt_of_mul-lt-mul_right, mul-lt-mul_of_pos_right, le_of_eq, le-mul_of_pos_right, lt_of_lt_of_le, lt_of_le_of_lt, lt_of_not-le, zero-lt-suc, mul-one, mul-pos, mul-le-mul_left, mul-le-mul_right, le_of_mul-le-mul_right, pow-suc, add-one, arith, T, T_not, leb, ltb, eqb, leb→le, ltb→lt, nltb→le, eqb→eq, le→leb, lt→ltb, lit<, lit≤, pow-add, pow_pos, pow_mono, ℤ, pos, negsuc, Float}
+use native.Mathlib.Nat.{eq_of_mul-eq-mul_right}
+use lib.Dec.{nleb→lt}
+use lib.Ieee.{nan, inf, fin, binary64, up, down, minus, size, fits, lt, of_bits}
 use lib.Ieee.Digits.{minus_val, size-lt, size_reaches}
 use lib.Ieee.Fits.{down_pos, and_i, and_l, eq→eqb}
 use Rattle.floats.specs.Arithmetic.{◌⊘◌}

@@ -1,9 +1,6 @@
 -- The series' sums: a longer sum is a shorter one and a nested rest (`total_split`), so that every longer sum lies between `lower` and `upper` (`bracket_low`, `bracket_high`), whatever p / q below 1.
-use mathlib.Core.Path.{◌≡◌, refl, sym, ap, ◌∙◌}
-use Prim.Native.Nat.{ℕ, zero, suc, ◌+◌, ◌-◌, ◌*◌, ◌/◌, ◌^◌, ◌≤◌, ◌<◌}
-use native.Mathlib.Nat.{mul-pos, mul-one, le_of_lt, add-zero, add-suc, mul_assoc, mul_left_comm, pow-zero, pow-suc, one-le-pow, mul-le-mul, mul-le-mul_left, mul-le-mul_right, le_of_mul-le-mul_right, eq_of_mul-eq-mul_right, div-mul-le_self, lt-div-mul-add}
-use native.Mathlib.Omega.{arith}
-use lib.Dec.{lit<}
+use Rattle.std.proofs.Common.{◌≡◌, refl, sym, ap, ◌∙◌, ℕ, zero, suc, ◌+◌, ◌-◌, ◌*◌, ◌/◌, ◌^◌, ◌≤◌, ◌<◌, mul-pos, mul-one, le_of_lt, add-zero, add-suc, mul_assoc, mul_left_comm, pow-suc, mul-le-mul, mul-le-mul_left, mul-le-mul_right, le_of_mul-le-mul_right, div-mul-le_self, arith, lit<}
+use native.Mathlib.Nat.{pow-zero, one-le-pow, eq_of_mul-eq-mul_right, lt-div-mul-add}
 use Rattle.floats.specs.Binary64.{one}
 use Rattle.tables.specs.Series.{term, lower, rest, upper, over, total}
 use Rattle.tables.proofs.LnBound.Horner.{num, den, den_pos}

@@ -1,14 +1,6 @@
 -- Each entry 1 .. 65,535 of the ln table is within 2^-45 of the true logarithm (`ln_within`; `filled_within` of a filled table), and every exact sum of more terms lies between the ends (`between`).
-use mathlib.Core.Path.{◌≡◌, sym, subst}
-use mathlib.Core.List.{List}
-use Prim.Native.Nat.{ℕ, ◌+◌, ◌-◌, ◌*◌, ◌^◌, ◌≤◌, ◌<◌}
-use native.Mathlib.Nat.{le_trans, mul-le-mul_left, mul-le-mul_right}
-use native.Mathlib.Omega.{arith}
-use lib.Dec.{lit<, lit≤}
-use lib.Pow.{pow_pos}
-use lib.IntN.{ℤ, pos, ◌+ℤ◌, ◌-ℤ◌, ◌*ℤ◌}
-use lib.Signed.{◌≤ℤ◌}
-use lib.Ieee.{Float, binary64}
+use Rattle.std.proofs.Common.{◌≡◌, sym, subst, List, ℕ, ◌+◌, ◌-◌, ◌*◌, ◌^◌, ◌≤◌, ◌<◌, le_trans, mul-le-mul_left, mul-le-mul_right, arith, lit<, lit≤, pow_pos, ℤ, pos, ◌+ℤ◌, ◌-ℤ◌, ◌*ℤ◌, ◌≤ℤ◌, Float}
+use lib.Ieee.{binary64}
 use Rattle.buffers.specs.Fill.{put}
 use Rattle.floats.specs.Binary64.{one, value64, number}
 use Rattle.floats.proofs.Rounded.{eps, pos64, neg64}

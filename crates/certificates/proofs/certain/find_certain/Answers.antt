@@ -1,8 +1,4 @@
-use mathlib.Core.Bool.{true}
-use mathlib.Core.Path.{◌≡◌, refl, sym, ◌∙◌}
-use Prim.Native.Nat.{◌-◌}
-use native.Mathlib.Omega.{arith}
-use lib.ListN.{length, get_or, drop}
+use Rattle.std.proofs.Common.{true, ◌≡◌, refl, sym, ◌∙◌, ◌-◌, arith, length, get_or, drop}
 use Rattle.letters.specs.Terms.Entry.{decode}
 use Rattle.scans.specs.Terms.Counted.{Touched}
 use Rattle.scans.specs.Terms.Run.{as_setup, entries_of}

@@ -1,6 +1,4 @@
-use Prim.Native.Nat.{◌/◌}
-use native.Mathlib.Omega.{arith}
-use lib.ListN.{get_or}
+use Rattle.std.proofs.Common.{◌/◌, arith, get_or}
 use Rattle.certificates.proofs.Certifying.{entry_below, entry_count, entry_counts}
 use Rattle.certificates.proofs.certify.read_entry.Goals as goal
 

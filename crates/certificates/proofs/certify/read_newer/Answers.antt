@@ -1,4 +1,4 @@
-use mathlib.Core.Path.{refl}
+use Rattle.std.proofs.Common.{refl}
 use Rattle.certificates.proofs.Certifying.{newer_start, newer_end, newer_next, newer_stop}
 use Rattle.certificates.proofs.certify.read_newer.Goals as goal
 

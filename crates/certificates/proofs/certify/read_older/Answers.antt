@@ -1,4 +1,4 @@
-use native.Mathlib.Omega.{arith}
+use Rattle.std.proofs.Common.{arith}
 use Rattle.certificates.proofs.Certifying.{older_start, older_end, older_next, older_stop}
 use Rattle.certificates.proofs.certify.read_older.Goals as goal
 

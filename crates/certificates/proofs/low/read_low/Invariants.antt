@@ -1,4 +1,4 @@
-use Prim.Native.Nat.{◌-◌}
+use Rattle.std.proofs.Common.{◌-◌}
 use Rattle.scans.specs.Terms.Run.{as_setup, entries_of}
 use Rattle.certificates.proofs.LowReading.{LowReading}
 use Rattle.certificates.proofs.low.read_low.Given as goal

@@ -1,5 +1,4 @@
-use Prim.Native.Nat.{◌+◌, ◌<◌}
-use native.Mathlib.Omega.{arith}
+use Rattle.std.proofs.Common.{◌+◌, ◌<◌, arith}
 use Rattle.certificates.specs.Terms.Low.{near_starts}
 use Rattle.certificates.proofs.LowReading.{add_asks, near_start, near_end, near_stops, near_high, near_next, near_moved}
 use Rattle.certificates.proofs.low.read_near.Goals as goal

@@ -1,6 +1,4 @@
-use Prim.Native.Nat.{◌+◌}
-use native.Mathlib.Omega.{arith}
-use lib.Seq.{length-take-le}
+use Rattle.std.proofs.Common.{◌+◌, arith, length-take-le}
 use Rattle.longdust.proofs.Setups.{prepared_kmer, prepared_window}
 use Rattle.longdust.proofs.Parts.{forward_room, reverse_room, out_room}
 use Rattle.longdust.proofs.Answers.{ran}

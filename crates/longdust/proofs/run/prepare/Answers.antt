@@ -1,4 +1,4 @@
-use lib.Dec.{T, ltb}
+use Rattle.std.proofs.Common.{T, ltb}
 use lib.Ieee.{binary64, fits}
 use borrow.Author.Rules.{rules}
 use mir.Syntax.{w32}

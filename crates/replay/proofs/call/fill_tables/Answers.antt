@@ -1,13 +1,5 @@
 -- `replay::call::fill_tables` meets its contract: the codes of the letters give the tables.
-use Prim.Native.Nat.{ℕ, ◌≤◌}
-use mathlib.Core.Path.{◌≡◌, refl, sym, ap, ◌∙◌}
-use mathlib.Core.Bool.{Bool, true, false, not, ◌&&◌}
-use mathlib.Core.List.{List}
-use lib.Dec.{leb}
-use lib.Ieee.{Float}
-use lib.ListN.{length, take}
-use lib.Seq.{take_at}
-use native.Mathlib.Omega.{arith}
+use Rattle.std.proofs.Common.{ℕ, ◌≤◌, ◌≡◌, refl, sym, ap, ◌∙◌, Bool, true, false, not, ◌&&◌, List, leb, Float, length, take, take_at, arith}
 use borrow.Author.Tests.{leb-true}
 use Rattle.buffers.specs.Fill.{put}
 use Rattle.letters.specs.Code.{codes}

@@ -1,6 +1,4 @@
-use Prim.Native.Nat.{◌+◌, ◌-◌}
-use lib.ListN.{length}
-use native.Mathlib.Omega.{arith}
+use Rattle.std.proofs.Common.{◌+◌, ◌-◌, length, arith}
 use Rattle.scans.proofs.BackwardScan.{add_ready}
 use Rattle.scans.proofs.BackwardLow.{low_start, low_whole, low_end, low_ended, low_raised, low_paused, low_fallen}
 use Rattle.scans.proofs.backward.backward_low.Goals as goal

@@ -1,4 +1,4 @@
-use native.Mathlib.Omega.{arith}
+use Rattle.std.proofs.Common.{arith}
 use Rattle.scans.proofs.Windows.{long}
 use Rattle.scans.proofs.BackwardScan.{part_ready, part_goes_on}
 use Rattle.scans.proofs.BackwardLow.{whole_over}

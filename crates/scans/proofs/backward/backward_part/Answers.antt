@@ -1,7 +1,4 @@
-use mathlib.Core.Path.{sym, ◌∙◌}
-use Prim.Native.Nat.{◌+◌, ◌-◌}
-use lib.ListN.{length}
-use native.Mathlib.Omega.{arith}
+use Rattle.std.proofs.Common.{sym, ◌∙◌, ◌+◌, ◌-◌, length, arith}
 use Rattle.scans.proofs.BackwardScan.{scanning_start, scanning_end, add_ready, scanning_ended, scanning_raised, scanning_paused, scanning_stopped, scanning_fallen}
 use Rattle.scans.proofs.backward.backward_part.Goals as goal
 

@@ -1,4 +1,4 @@
-use native.Mathlib.Omega.{arith}
+use Rattle.std.proofs.Common.{arith}
 use Rattle.letters.proofs.Entries.{plain_even}
 use Rattle.scans.proofs.counts.raise_entry.Goals as goal
 

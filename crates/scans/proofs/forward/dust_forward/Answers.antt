@@ -1,5 +1,4 @@
-use mathlib.Core.Path.{refl, sym, ap, subst}
-use Prim.Native.Nat.{ℕ, ◌+◌, ◌^◌}
+use Rattle.std.proofs.Common.{refl, sym, ap, subst, ℕ, ◌+◌, ◌^◌}
 use Rattle.letters.proofs.Entries.{decoded_length}
 use Rattle.scans.specs.Terms.Parts.{UpTo}
 use Rattle.scans.proofs.Rings.{entries_long}

@@ -1,4 +1,4 @@
-use native.Mathlib.Omega.{arith}
+use Rattle.std.proofs.Common.{arith}
 use Rattle.scans.proofs.Windows.{count_in}
 use Rattle.scans.proofs.BackCheck.{entry_counted, checking_no, checking_yes}
 use Rattle.scans.proofs.letter.if_backward.Goals as goal

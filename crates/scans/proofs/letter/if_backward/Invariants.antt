@@ -1,7 +1,4 @@
-use mathlib.Core.Path.{◌≡◌}
-use mathlib.Core.List.{List}
-use Prim.Native.Nat.{◌-◌}
-use lib.Ieee.{Float}
+use Rattle.std.proofs.Common.{◌≡◌, List, ◌-◌, Float}
 use Rattle.scans.specs.Scans.{if_backward_from, if_backward}
 use Rattle.scans.specs.Terms.Run.{entries_of}
 use Rattle.scans.proofs.BackCheck.{by}

@@ -1,5 +1,4 @@
-use mathlib.Core.Path.{◌≡◌}
-use Prim.Native.Nat.{◌-◌}
+use Rattle.std.proofs.Common.{◌≡◌, ◌-◌}
 use Rattle.scans.specs.Terms.Shape.{f_step, usual_to}
 use Rattle.scans.proofs.limits.is_usual.Given as goal
 

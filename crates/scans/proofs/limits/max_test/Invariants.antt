@@ -1,5 +1,4 @@
-use mathlib.Core.Path.{◌≡◌}
-use Prim.Native.Nat.{◌+◌, ◌-◌}
+use Rattle.std.proofs.Common.{◌≡◌, ◌+◌, ◌-◌}
 use Rattle.scans.specs.Setup.{max_test, max_test_from}
 use Rattle.scans.proofs.limits.max_test.Given as goal
 

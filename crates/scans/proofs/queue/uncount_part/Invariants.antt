@@ -1,4 +1,4 @@
-use lib.ListN.{length}
+use Rattle.std.proofs.Common.{length}
 use Rattle.scans.specs.Terms.Counted.{Counted}
 use Rattle.scans.proofs.Walk.{Walking}
 use Rattle.scans.proofs.queue.uncount_part.Given as goal

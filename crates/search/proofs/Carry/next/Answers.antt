@@ -1,4 +1,4 @@
-use mathlib.Core.Bool.{true, false}
+use Rattle.std.proofs.Common.{true, false}
 use Rattle.scans.specs.Terms.Run.{as_setup, entries_of}
 use Rattle.search.specs.Terms.Certified.{CertifiesOn}
 use Rattle.search.proofs.CertificateRing.{carries_on}

@@ -1,5 +1,4 @@
-use mathlib.Core.Path.{refl}
-use native.Mathlib.Omega.{arith}
+use Rattle.std.proofs.Common.{refl, arith}
 use Rattle.search.proofs.CertificateRing.{window_asks, next_still, next_fresh, next_repeated}
 use Rattle.search.proofs.Certificate.next.Goals as goal
 

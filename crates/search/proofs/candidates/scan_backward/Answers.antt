@@ -1,6 +1,4 @@
-use Prim.Native.Nat.{◌-◌, ◌<◌}
-use native.Mathlib.Omega.{arith}
-use lib.ListN.{length}
+use Rattle.std.proofs.Common.{◌-◌, ◌<◌, arith, length}
 use Rattle.scans.proofs.Windows.{long}
 use Rattle.search.proofs.Searching.{seeking_start, seeking_end, seeking_kept, fresh_some, fresh_room, seeking_put}
 use Rattle.search.proofs.candidates.scan_backward.Goals as goal

@@ -1,7 +1,5 @@
-use mathlib.Core.Path.{◌≡◌, sym, ap, ◌∙◌}
-use Prim.Native.Nat.{ℕ, ◌-◌, ◌^◌}
-use native.Mathlib.Omega.{arith}
-use lib.ListN.{length, replicate, length-replicate}
+use Rattle.std.proofs.Common.{◌≡◌, sym, ap, ◌∙◌, ℕ, ◌-◌, ◌^◌, arith, length, replicate}
+use lib.ListN.{length-replicate}
 use Rattle.scans.proofs.Rings.{entries_long}
 use Rattle.search.proofs.Slices.{candidates_at}
 use Rattle.search.proofs.Trying.{tried_touched, trying_start, trying_end, trying_skip, trying_found, trying_approx, trying_on}

@@ -1,4 +1,4 @@
-use lib.ListN.{length}
+use Rattle.std.proofs.Common.{length}
 use Rattle.scans.specs.Terms.Run.{as_setup, entries_of}
 use Rattle.search.specs.Terms.Search.{candidates_in}
 use Rattle.search.proofs.Trying.{Trying}

@@ -1,8 +1,4 @@
-use mathlib.Core.Path.{sym}
-use Prim.Native.Nat.{◌≤◌}
-use native.Mathlib.Omega.{arith}
-use lib.ListN.{length, take}
-use lib.Seq.{length-take-le}
+use Rattle.std.proofs.Common.{sym, ◌≤◌, arith, length, take, length-take-le}
 use Rattle.scans.proofs.Windows.{long}
 use Rattle.search.specs.Terms.Search.{HoldsCandidates}
 use Rattle.search.proofs.Slices.{candidates_length, candidates_front}

@@ -1,7 +1,4 @@
-use mathlib.Core.Path.{◌≡◌, sym, subst}
-use Prim.Native.Nat.{ℕ, ◌/◌, ◌-◌, ◌^◌, ◌<◌}
-use native.Mathlib.Omega.{arith}
-use lib.ListN.{length, get_or}
+use Rattle.std.proofs.Common.{◌≡◌, sym, subst, ℕ, ◌/◌, ◌-◌, ◌^◌, ◌<◌, arith, length, get_or}
 use Rattle.floats.specs.Binary64.{zero64}
 use Rattle.scans.specs.Terms.Parts.{Queued}
 use Rattle.scans.specs.Terms.Run.{as_setup, entries_of}

@@ -1,4 +1,4 @@
-use Prim.Native.Nat.{◌-◌}
+use Rattle.std.proofs.Common.{◌-◌}
 use Rattle.scans.specs.Terms.Run.{as_setup, entries_of}
 use Rattle.search.proofs.FallShort.{Back}
 use Rattle.search.proofs.fails.newest_fall_short.Given as goal

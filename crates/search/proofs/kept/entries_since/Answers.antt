@@ -1,7 +1,4 @@
-use mathlib.Core.Path.{◌≡◌, sym, ◌∙◌}
-use Prim.Native.Nat.{◌-◌}
-use native.Mathlib.Omega.{arith}
-use lib.ListN.{get_or}
+use Rattle.std.proofs.Common.{◌≡◌, sym, ◌∙◌, ◌-◌, arith, get_or}
 use Rattle.scans.specs.Terms.Window.{queue}
 use Rattle.scans.proofs.Rings.{queue_at, index_at}
 use Rattle.search.proofs.Newest.{since_turn}

@@ -1,4 +1,4 @@
-use Prim.Native.Nat.{◌-◌}
+use Rattle.std.proofs.Common.{◌-◌}
 use Rattle.search.specs.Terms.Certified.{NoneFrom}
 use Rattle.search.proofs.kept.entries_since.Given as goal
 

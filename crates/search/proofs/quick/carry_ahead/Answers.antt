@@ -1,7 +1,4 @@
-use mathlib.Core.Path.{sym, subst}
-use Prim.Native.Nat.{ℕ, ◌<◌, ◌≤◌}
-use native.Mathlib.Omega.{arith}
-use lib.ListN.{drop}
+use Rattle.std.proofs.Common.{sym, subst, ℕ, ◌<◌, ◌≤◌, arith, drop}
 use Rattle.scans.specs.Terms.Counted.{Counted}
 use Rattle.scans.specs.Terms.Window.{window}
 use Rattle.search.proofs.CarriedFind.{start_in, low_in, newest_in_lem, count_in, carries_ahead}

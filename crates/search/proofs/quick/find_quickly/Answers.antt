@@ -1,4 +1,4 @@
-use native.Mathlib.Omega.{arith}
+use Rattle.std.proofs.Common.{arith}
 use Rattle.scans.proofs.Windows.{long}
 use Rattle.search.proofs.quick.find_quickly.Goals as goal
 

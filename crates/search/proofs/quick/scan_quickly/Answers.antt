@@ -1,4 +1,4 @@
-use mathlib.Core.Path.{sym, ◌∙◌}
+use Rattle.std.proofs.Common.{sym, ◌∙◌}
 use Rattle.scans.proofs.Windows.{long}
 use Rattle.scans.proofs.BackwardScan.{window_counts_are}
 use Rattle.search.proofs.QuickScan.{going_start, going_end}

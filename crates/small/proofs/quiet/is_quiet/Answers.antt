@@ -1,8 +1,5 @@
-use mathlib.Core.Path.{sym}
-use Prim.Native.Nat.{ℕ, ◌≤◌}
-use native.Mathlib.Omega.{arith}
-use lib.ListN.{length, length-take, length-replicate}
-use lib.Seq.{length-take-le}
+use Rattle.std.proofs.Common.{sym, ℕ, ◌≤◌, arith, length, length-take, length-take-le}
+use lib.ListN.{length-replicate}
 use Rattle.small.proofs.Profile.{kmer_fits, kmers_fit, letters_fit, twice}
 use Rattle.small.proofs.quiet.is_quiet.Goals as goal
 use Rattle.small.proofs.quiet.is_quiet.Goals.{After-encode_sequence, After-reverse_complement_encoded_sequence}

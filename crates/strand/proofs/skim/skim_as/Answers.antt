@@ -1,6 +1,4 @@
-use mathlib.Core.Path.{refl, sym, ◌∙◌}
-use Prim.Native.Nat.{◌+◌}
-use native.Mathlib.Omega.{arith}
+use Rattle.std.proofs.Common.{refl, sym, ◌∙◌, ◌+◌, arith}
 use Rattle.step.specs.Terms.Entering.{Enters}
 use Rattle.step.specs.Terms.Finding.{PassedOn}
 use Rattle.step.proofs.KnownCounts.{known_off}

@@ -1,7 +1,4 @@
-use mathlib.Core.Path.{◌≡◌}
-use mathlib.Core.Bool.{false}
-use Prim.Native.Nat.{◌-◌}
-use lib.ListN.{length}
+use Rattle.std.proofs.Common.{◌≡◌, false, ◌-◌, length}
 use Rattle.strand.specs.Terms.ReadingOn.{Read, Skims}
 use Rattle.strand.proofs.skim.skim_as.Given as goal
 

@@ -1,8 +1,4 @@
-use mathlib.Core.Path.{◌≡◌, sym, ap, ◌∙◌}
-use native.Mathlib.Omega.{arith}
-use mathlib.Core.List.{List}
-use Prim.Native.Nat.{ℕ}
-use lib.ListN.{length, take}
+use Rattle.std.proofs.Common.{◌≡◌, sym, ap, ◌∙◌, arith, List, ℕ, length, take}
 use Rattle.buffers.specs.Fill.{put}
 use Rattle.letters.specs.Code.{codes}
 use Rattle.tables.specs.Density.{density}

@@ -1,6 +1,4 @@
-use mathlib.Core.Path.{◌≡◌, refl, sym, ap, ◌∙◌}
-use native.Mathlib.Omega.{arith}
-use lib.ListN.{length}
+use Rattle.std.proofs.Common.{◌≡◌, refl, sym, ap, ◌∙◌, arith, length}
 use Rattle.longdust.specs.declared.Lent.{Lent}
 use Rattle.longdust.specs.Checks.{refusal}
 use Rattle.longdust.specs.Buffers.{Buffers, lends, lengths}

@@ -1,4 +1,4 @@
-use native.Mathlib.Omega.{arith}
+use Rattle.std.proofs.Common.{arith}
 use Rattle.report.proofs.Letters.{skip, store, full, ended, held_next}
 use Rattle.report.proofs.text.Text.keep_letters.Goals as goal
 

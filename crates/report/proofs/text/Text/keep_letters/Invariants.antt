@@ -1,4 +1,4 @@
-use Rattle.std.specs.Prelude.{◌≡◌}
+use Rattle.std.proofs.Common.{◌≡◌}
 use Rattle.report.proofs.Letters.{Keeping}
 use Rattle.report.proofs.text.Text.keep_letters.Given as goal
 

@@ -1,5 +1,4 @@
-use mathlib.Core.Path.{◌≡◌, ◌∙◌}
-use lib.ListN.{take}
+use Rattle.std.proofs.Common.{◌≡◌, ◌∙◌, take}
 use Rattle.report.specs.Text.{decimal}
 use Rattle.report.proofs.Decimal.{decimal_digits}
 use Rattle.report.proofs.Writing.{fits_as, adds_as}

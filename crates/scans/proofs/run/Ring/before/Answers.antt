@@ -1,7 +1,4 @@
-use mathlib.Core.Logic.{inl, inr}
-use Prim.Native.Nat.{◌+◌, ◌-◌}
-use native.Mathlib.Omega.{arith}
-use lib.ListN.{length}
+use Rattle.std.proofs.Common.{inl, inr, ◌+◌, ◌-◌, arith, length}
 use Rattle.scans.proofs.Parts.{part_to}
 use Rattle.scans.proofs.run.Ring.before.Goals as goal
 

@@ -1,4 +1,4 @@
-use mathlib.Core.Path.{◌∙◌}
+use Rattle.std.proofs.Common.{◌∙◌}
 use Rattle.scans.specs.Terms.Counted.{Touched}
 use Rattle.scans.proofs.Walk.{queued_as, walked_both, cleared_both}
 use Rattle.scans.proofs.run.Ring.clear_from.Goals as goal

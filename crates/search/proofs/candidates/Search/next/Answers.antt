@@ -1,5 +1,4 @@
-use mathlib.Core.Path.{sym, ◌∙◌}
-use native.Mathlib.Omega.{arith}
+use Rattle.std.proofs.Common.{sym, ◌∙◌, arith}
 use Rattle.scans.proofs.Windows.{long}
 use Rattle.scans.proofs.BackwardScan.{window_counts_are, window_below_lem}
 use Rattle.search.proofs.Searching.{next_finished, next_on}

@@ -1,6 +1,4 @@
-use mathlib.Core.Path.{◌≡◌, refl, sym, subst}
-use Prim.Native.Nat.{ℕ, ◌+◌, ◌/◌, ◌^◌, ◌<◌}
-use native.Mathlib.Omega.{arith}
+use Rattle.std.proofs.Common.{◌≡◌, refl, sym, subst, ℕ, ◌+◌, ◌/◌, ◌^◌, ◌<◌, arith}
 use Rattle.letters.specs.Terms.Rolling.{kmer_after}
 use Rattle.letters.proofs.Rolling.{kmer_next, run_few, value_small, entry_below}
 use Rattle.step.specs.Terms.Entering.{Joined}

@@ -1,9 +1,4 @@
-use mathlib.Core.Path.{◌≡◌, subst}
-use mathlib.Core.Bool.{◌&&◌}
-use mathlib.Core.List.{List}
-use Prim.Native.Nat.{ℕ, ◌/◌, ◌≤◌}
-use native.Mathlib.Omega.{arith}
-use lib.ListN.{length}
+use Rattle.std.proofs.Common.{◌≡◌, subst, ◌&&◌, List, ℕ, ◌/◌, ◌≤◌, arith, length}
 use Rattle.letters.specs.Place.{plain}
 use Rattle.letters.specs.Terms.Entry.{decode}
 use Rattle.letters.specs.Terms.Rolling.{entry_of}

@@ -1,4 +1,4 @@
-use Prim.Native.Nat.{◌/◌}
+use Rattle.std.proofs.Common.{◌/◌}
 use Rattle.step.proofs.Moving.{count_room, joined}
 use Rattle.step.proofs.window.Window.join.Goals as goal
 

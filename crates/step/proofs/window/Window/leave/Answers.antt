@@ -1,10 +1,6 @@
-use mathlib.Core.Path.{◌≡◌, sym, ap, ◌∙◌}
-use lib.ListN.{get_or}
-use Prim.Native.Nat.{ℕ, ◌/◌}
+use Rattle.std.proofs.Common.{◌≡◌, sym, ap, ◌∙◌, get_or, ℕ, ◌/◌, List, Bool, ◌&&◌}
 use Rattle.scans.proofs.Windows.{count_in}
-use mathlib.Core.List.{List}
 use Rattle.letters.specs.Terms.Entry.{decode}
-use mathlib.Core.Bool.{Bool, ◌&&◌}
 use mir.Syntax.{w64}
 use mir.Val.{SFits}
 use mir.Facts.{to_z-of_z}
