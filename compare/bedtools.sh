@@ -1,10 +1,10 @@
 #!/usr/bin/env bash
 # Joined tracks against bedtools (Debian's package of that name) on 200 larger pairs of lists:
 # `bedtools merge` for either, `intersect` for both, `subtract` for ours outside theirs.
-# The last line is `N passed, M failed`; without bedtools it says what it skipped. ./compare.sh builds the program.
+# The last line is `N passed, M failed`; without bedtools it says what it skipped. make compare builds the program.
 set -euo pipefail
 program=$(cd "$(dirname "$0")" && pwd)/target/release/compare
-[[ -x $program ]] || { echo "bedtools: run ./compare.sh first" >&2; exit 2; }
+[[ -x $program ]] || { echo "bedtools: run make compare first" >&2; exit 2; }
 seed=1 count=200
 if ! command -v bedtools > /dev/null; then
   echo "skipped: $count pairs against bedtools, which is not there (apt-get install bedtools)"

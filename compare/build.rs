@@ -2,7 +2,8 @@
 //!
 //! The masker is taken whole and changed in places; of lib.rs only the checks of its options are cut out.
 //! The original is read from ../shared/docs/src, or from the folder that the variable LONGDUST_SRC
-//! names, both seen from the repository. A change names the text it replaces, which must stand exactly
+//! names, both seen from the repository; the archive is that of dist/x86_64, or of the folder that
+//! LONGDUST_ARCHIVE names, as `make compare` does. A change names the text it replaces, which must stand exactly
 //! once; otherwise the build stops and says which place has moved.
 
 use std::path::{Path, PathBuf};
@@ -94,6 +95,7 @@ fn main() {
     let root = here.parent().unwrap();
     let folder = root.join(env::var("LONGDUST_SRC").unwrap_or("../shared/docs/src".to_string()));
     println!("cargo:rerun-if-env-changed=LONGDUST_SRC");
+    println!("cargo:rerun-if-env-changed=LONGDUST_ARCHIVE");
 
     let longdust = read(&folder.join("longdust.rs.txt"));
     let lib = read(&folder.join("lib.rs.txt"));
@@ -116,7 +118,7 @@ fn main() {
     let names: Vec<_> = WRONG.iter().map(|change| change.0).collect();
     list += &format!("every!({});\n", names.join(", "));
     write(&out.join("wrong.rs"), &list);
-    link(&root.join("crates/longdust_c/out"));
+    link(&env::var("LONGDUST_ARCHIVE").map_or(root.join("dist/x86_64"), PathBuf::from));
 }
 
 /// Links liblongdust_c.a where it has been made; `cfg(port)` says so to the program.

@@ -6,9 +6,10 @@
 #include "fasta.h"
 #include "forms.h"
 #include "mask.h"
+#include "memory.h"
+#include "processor.h"
 #include "progress.h"
 #include "queue.h"
-#include "memory.h"
 #include "say.h"
 
 /* What the threads share; all but the queue is only read, or used by the writer alone. */
@@ -88,6 +89,7 @@ static uint64_t memory_of_records(const struct options *o) {
 
 int main(int argc, char **argv) {
     static struct run run;
+    check_processor();
     run.options = read_options(argc, argv);
     open_queue(&run.queue, memory_of_records(&run.options));
     signal(SIGPIPE, SIG_IGN);

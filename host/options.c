@@ -46,7 +46,7 @@ static const char *const HELP =
     "A record that is refused is named on standard error and left out, the others are done.\n"
     "Exit status: 0; 1 a record was refused; 2 a wrong option; 3 reading, writing or memory failed.\n";
 
-static const char *const VERSION = "cisternpea 0.1.0\n";
+static const char *const VERSION = "cisternpea 0.2.0\n";
 
 /* Each reads one option's value and answers null, or what the value must be. */
 typedef const char *reads(struct options *, const char *value);

@@ -280,7 +280,7 @@ impl Seen {
 mod tests {
     use super::*;
 
-    /// As many files of seed 1 as compare.sh runs.
+    /// As many files of seed 1 as compare/run runs.
     const FILES: u64 = 2000;
 
     /// Right, but for one change of the file that is read, of the records, or of the text.

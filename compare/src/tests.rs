@@ -9,7 +9,7 @@ use crate::record;
 use crate::request::{Answer, Gc, Request, Tables, SLICES};
 use crate::sets;
 
-/// As many requests of seed 1 as compare.sh runs.
+/// As many requests of seed 1 as compare/run runs.
 const RANDOM: u64 = 200_000;
 const LONG: u64 = 240;
 
