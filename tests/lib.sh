@@ -33,11 +33,11 @@ same() {
 
 # Runs the program on standard input; its status, what it writes and what it says must be these.
 says() {
-  local status=$1 out=$2 err=$3 got=0
+  local want="$1/$2./${3:+cisternpea: }$3" got=0
   shift 3
   "$program" "$@" < "$in" > "$folder/out" 2> "$folder/err" || got=$?
-  check "$*: status $got, $(head -c 300 "$folder/out" "$folder/err")" \
-    test "$got/$(cat "$folder/out"; echo .)/$(cat "$folder/err")" = "$status/$out./${err:+cisternpea: }$err"
+  got="$got/$(cat "$folder/out"; echo .)/$(cat "$folder/err")"
+  check "$* $(printf '\n  wanted %.300q\n  got    %.300q' "$want" "$got")" test "$got" = "$want"
 }
 
 # Runs the program on a wrong command line: it must say one line and leave standard input alone.
