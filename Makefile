@@ -59,14 +59,14 @@ target/mask target/small target/api target/address/mask target/address/small: $(
 target/bin/track target/bin/contigs: $(SOURCES)
 	@tools/program $(@F)
 
-check: WERROR = -Werror
-check: $(CHECKED) ## tests the program, the C examples and the documents
+check: ## tests the program, the C examples and the documents
+	+@$(MAKE) -j2 WERROR=-Werror $(CHECKED)
 	tests/check
 
 prove: ## the whole gate: the check, every proof and wrong edit, the archive made again, the comparison (Rattle kit)
 	.ci/run
 
-compare: target/host/cisternpea target/bin/contigs ## runs the masker and the original Rust side by side (cargo, the original's source, the kit)
+compare: $(VARIANTS) target/bin/contigs ## runs the masker and the original Rust side by side (cargo, the original's source, the kit)
 	LONGDUST_ARCHIVE=$(abspath $(dir $(ARCHIVE))) compare/run $(WHAT)
 
 bench: target/host/cisternpea target/alone ## measures the speed, on made letters or on a FASTA file: FILE=genome.fa
