@@ -10,6 +10,7 @@ pub mod Marks
 pub mod Saving
 pub mod Examples
 pub mod Counted
+pub mod Lengths
 pub mod Slice
 pub mod Usual
 pub mod SaveSteps

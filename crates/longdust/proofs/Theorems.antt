@@ -1,4 +1,4 @@
--- The filling call against the other one, and the ln table that it leaves against the true logarithm. Demand 3, mirror: the mask of the reverse complement is the mask read backwards, its marks exchanged, over the definition and for two requests of each call.
+-- The filling call against the other one, and the ln table that it leaves against the true logarithm. Demand 3, mirror: the mask of the reverse complement is the mask read backwards, its marks exchanged, over the definition and for two requests, each of either call.
 -- Shape, evidence and no better shorter stretches are fields of `Accepted`, in the contract of both calls.
 use Rattle.std.proofs.Common.{◌≡◌, sym, ap, ap₂, ◌∙◌, ℕ, ◌+◌, ◌<◌, arith, Bool, false, List, Result, Ok, Err, length, take, drop, take_at, Float}
 use Rattle.checks.specs.declared.refusal.Refusal.{Refusal}
@@ -113,12 +113,13 @@ marks_are {Tables} {o} {s} {b} {b'} {r} A =
 
 -- Two accepted two-strand requests with the same options, where the codes of one are the reverse complement of the other's.
 module _ (o : LongdustOptions) (s t : List ℕ) (both : o.forward_only ≡ false) (other : codes t ≡ reverse_complement (codes s)) where
-  mirror : {Tables : LongdustOptions → List ℕ → Buffers → Buffers → Type 0} {b b' c c' : Buffers} {r q : Answer}
-      → Answered Tables o s b b' (Ok r) → Answered Tables o t c c' (Ok q)
+  -- Whichever call answers each, if the tables that their runs read agree on entries 1..w.
+  pub mirror : {Tables Others : LongdustOptions → List ℕ → Buffers → Buffers → Type 0} {b b' c c' : Buffers} {r q : Answer}
+      → Answered Tables o s b b' (Ok r) → Answered Others o t c c' (Ok q)
       → AgreeTo o.window_size (ln_read o c') (ln_read o b') → AgreeTo o.window_size (f_read o c') (f_read o b')
       → (listed q c' ≡ backwards (length s) (listed r b')) × (listed_marks q c' ≡ backwards_marks (listed_marks r b'))
   unfolding mask marked_mask setup
-  mirror {Tables} {b} {b'} {c} {c'} {r} {q} A B ln f =
+  mirror {Tables} {Others} {b} {b'} {c} {c'} {r} {q} A B ln f =
       let w = o.window_size in
       let test = same_test o ln f in
       let S = setup o (ln_read o b') (f_read o b') in
@@ -147,6 +148,15 @@ module _ (o : LongdustOptions) (s t : List ℕ) (both : o.forward_only ≡ false
       let a = A.tables in
       let b = B.tables in
       mirror A B (rw (a.ln, b.ln) (agree_take (w + 1) (omega arith) ln)) (rw (a.f, b.f) (agree_take (w + 2) (omega arith) f))
+
+  -- On the tables that the filling call has left: the first through it, and then the second through the other call.
+  pub process_then_tables_mirror : {b b' c c' : Buffers} {r q : Answer} → Answered Filled o s b b' (Ok r) → Answered Kept o t c c' (Ok q)
+      → AgreeTo o.window_size c.ln b'.ln → AgreeTo o.window_size c.f b'.f
+      → (listed q c' ≡ backwards (length s) (listed r b')) × (listed_marks q c' ≡ backwards_marks (listed_marks r b'))
+  process_then_tables_mirror A B ln f =
+      let w = o.window_size in
+      let b = B.tables in
+      mirror A B (rw b.ln (agree_take (w + 1) (omega arith) ln)) (rw b.f (agree_take (w + 2) (omega arith) f))
 
   -- On the tables that the call fills: the GC is the same, and so are the tables.
   pub process_mirror : {b b' c c' : Buffers} {r q : Answer} → Answered Filled o s b b' (Ok r) → Answered Filled o t c c' (Ok q)

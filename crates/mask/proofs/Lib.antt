@@ -1,3 +1,4 @@
 pub mod Masks
 pub mod Marking
 pub mod Strands
+pub mod Dropping

@@ -1,12 +1,12 @@
 -- The intervals wholly within a range, and those with letters both inside and outside it, told by where two searches stand.
-use Rattle.std.proofs.Common.{ℕ, zero, suc, ◌+◌, ◌-◌, ◌≤◌, ◌<◌, ◌≡◌, refl, sym, ap, true, List, [], ◌∷◌, ◌⊎◌, inl, inr, ⊎_elim, ◌↔◌, arith, ltb, leb, length}
+use Rattle.std.proofs.Common.{ℕ, zero, suc, ◌+◌, ◌-◌, ◌≤◌, ◌<◌, ◌≡◌, refl, sym, ap, subst, ◌∙◌, true, List, [], ◌∷◌, ◌⊎◌, inl, inr, ⊎_elim, ◌↔◌, arith, ltb, leb, length}
 use Rattle.buffers.specs.Fill.{tabulate_from}
 use Rattle.intervals.specs.declared.Interval.{Interval}
 use Rattle.intervals.proofs.Counted.{and_agrees, leb_agrees, ltb_agrees}
 use Rattle.intervals.proofs.Order.{lt_or_le}
-use Rattle.questions.specs.Answers.{answer, none, indices, first_and_count, within, inside, partly}
+use Rattle.questions.specs.Answers.{answer, none, indices, first_and_count, all_that, within, inside, partly}
 use Rattle.questions.specs.Usual.{Usual}
-use Rattle.questions.specs.Promised.{consecutive}
+use Rattle.questions.specs.Promised.{consecutive, over_ends}
 use Rattle.intervals.specs.Terms.Leading.{ends_by}
 use Rattle.questions.specs.Terms.Found.{begins_before, first_past, first_from}
 use Rattle.questions.proofs.Ordered.{at, nonempty_at, apart_at}
@@ -28,6 +28,23 @@ partly_agrees a b i h n =
       (λ e. let g = t.0 e in ⊎_elim (λ l. inl (l, omega arith)) (λ l. inr (omega arith, omega arith)) (lt_or_le i.start a)),
       (λ e. t.1 (⊎_elim (λ l. (omega arith, omega arith)) (λ l. (omega arith, omega arith)) e)),
     )
+
+length_consecutive : (f m : ℕ) → length (consecutive f m) ≡ m
+unfolding tabulate_from
+length_consecutive f zero = refl
+length_consecutive f (suc m) = ap suc (length_consecutive (suc f) m)
+
+counted_run : (f m : ℕ) → (first_and_count (consecutive f m)).second ≡ m
+unfolding tabulate_from
+counted_run f zero = refl
+counted_run f (suc m) = ap suc (length_consecutive (suc f) m)
+
+-- Indices that are at most two, the second m + 1 past the first.
+abbrev pub Ends : List ℕ → ℕ → Type 0
+Ends js m = ((first_and_count js).second ≤ 2) × (js ≡ over_ends ((first_and_count js).second) ((first_and_count js).first) m)
+
+ends_two : (j k m : ℕ) → k ≡ j + m + 1 → Ends (j ∷ k ∷ []) m
+ends_two j k m e = (omega arith, ap (λ (x : ℕ). j ∷ x ∷ []) e)
 
 module _ (is : List Interval) (u : Usual is) where
   abbrev N : ℕ
@@ -163,10 +180,37 @@ module _ (is : List Interval) (u : Usual is) where
           (λ e. t.1 (⊎_elim (λ q. inl (omega arith, omega arith)) (λ q. inr (omega arith, omega arith)) e)),
         ))
 
-length_consecutive : (f m : ℕ) → length (consecutive f m) ≡ m
-unfolding tabulate_from
-length_consecutive f zero = refl
-length_consecutive f (suc m) = ap suc (length_consecutive (suc f) m)
+    -- The second of two stands past the first and all those wholly within.
+    ends_both : Pa < Fa → Pa < Pb → Pb < Fb → Ends (indices (partly a b) 0 is) ((all_that (within a b) is).second)
+    ends_both l c m =
+        let z = lie in
+        let within_count : (all_that (within a b) is).second ≡ Pb - Fa =
+        ap (λ (js : List ℕ). (first_and_count js).second) (within_run a b) ∙ counted_run Fa (Pb - Fa) in
+        subst (λ (js : List ℕ). Ends js ((all_that (within a b) is).second)) (sym (partly_two l c m))
+        (ends_two Pa Pb ((all_that (within a b) is).second) (omega arith))
+
+    ends_left : (m : ℕ) → Pa < Fa → (Pb ≤ Pa) ⊎ (Fb ≤ Pb) → Ends (indices (partly a b) 0 is) m
+    unfolding tabulate_from
+    ends_left m l c = subst (λ (js : List ℕ). Ends js m) (sym (partly_left l c)) (omega arith, refl)
+
+    ends_right : (m : ℕ) → Fa ≤ Pa → Pb < Fb → Ends (indices (partly a b) 0 is) m
+    unfolding tabulate_from
+    ends_right m c l = subst (λ (js : List ℕ). Ends js m) (sym (partly_right c l)) (omega arith, refl)
+
+    ends_none : (m : ℕ) → Fa ≤ Pa → Fb ≤ Pb → Ends (indices (partly a b) 0 is) m
+    unfolding tabulate_from
+    ends_none m c l = subst (λ (js : List ℕ). Ends js m) (sym (partly_none c l)) (omega arith, refl)
+
+    pub partly_ends : Ends (indices (partly a b) 0 is) ((all_that (within a b) is).second)
+    partly_ends =
+        let m = (all_that (within a b) is).second in
+        ⊎_elim
+        (λ (l : Pa < Fa). ⊎_elim
+        (λ (r : Pb < Fb). ⊎_elim (λ (c : Pa < Pb). ends_both l c r) (λ (c : Pb ≤ Pa). ends_left m l (inl c)) (lt_or_le Pa Pb))
+        (λ (r : Fb ≤ Pb). ends_left m l (inr r))
+        (lt_or_le Pb Fb))
+        (λ (l : Fa ≤ Pa). ⊎_elim (λ (r : Pb < Fb). ends_right m l r) (λ (r : Fb ≤ Pb). ends_none m l r) (lt_or_le Pb Fb))
+        (lt_or_le Pa Fa)
 
 pub run_some : (f m : ℕ) → 0 < m → first_and_count (consecutive f m) ≡ answer f m
 unfolding tabulate_from

@@ -8,10 +8,10 @@ use Rattle.questions.specs.Answers.{between, nearest, indices, first_and_count, 
 use Rattle.questions.specs.Batch.{summary_of}
 use Rattle.std.specs.List.{sum}
 use Rattle.questions.specs.Usual.{Usual}
-use Rattle.questions.specs.Promised.{Some, consecutive, distance, Nearest}
+use Rattle.questions.specs.Promised.{Some, consecutive, distance, Nearest, over_ends}
 use Rattle.questions.specs.Terms.Found.{first_past, first_from}
 use Rattle.questions.proofs.Nearest.{index_nearest}
-use Rattle.questions.proofs.Ranges.{within_run, run_named}
+use Rattle.questions.proofs.Ranges.{within_run, run_named, partly_ends}
 use Rattle.questions.proofs.Blocks.{summary_total}
 use Rattle.questions.proofs.Share.{share_whole, share_remainder}
 
@@ -62,6 +62,12 @@ within_law a b is u =
     e
     ∙ run_named (first_from is a) (first_past is b - first_from is a)
     ∙ ap (λ (l : List ℕ). consecutive (first_and_count l).first (first_and_count l).second) (sym e)
+
+-- At most two have letters both inside and outside: first index and how many name them all, the second of two being the next after the first and all those wholly within.
+pub partly_ends_law : (a b : ℕ) (is : List Interval) → Usual is → a < b
+    → ((all_that (partly a b) is).second ≤ 2)
+    × (indices (partly a b) 0 is ≡ over_ends ((all_that (partly a b) is).second) ((all_that (partly a b) is).first) ((all_that (within a b) is).second))
+partly_ends_law a b is u h = partly_ends is u a b h
 
 -- Share times length + remainder = 10,000 times masked letters, remainder below the length.
 pub share_law : (a b : ℕ) (is : List Interval) → a < b

@@ -1,5 +1,5 @@
 -- The terms of the theorems about the answers (proofs/Theorems.antt).
-use Rattle.std.specs.Prelude.{ℕ, ◌≤◌, ◌<◌, List, length, get_or}
+use Rattle.std.specs.Prelude.{ℕ, zero, suc, ◌+◌, ◌≤◌, ◌<◌, List, [], ◌∷◌, length, get_or}
 use Rattle.buffers.specs.Fill.{tabulate_from}
 use Rattle.intervals.specs.declared.Interval.{Interval}
 use Rattle.intervals.specs.Interval.{interval}
@@ -22,3 +22,9 @@ pub record Some (P : ℕ → Type 0) : Type 0 where
 -- m numbers from f on.
 abbrev pub consecutive : ℕ → ℕ → List ℕ
 consecutive f m = tabulate_from (λ (i : ℕ). i) m f
+
+-- The intervals over the ends of a range, so many of them: none; that at j; or that at j and the one after it and the m between.
+abbrev pub over_ends : ℕ → ℕ → ℕ → List ℕ
+over_ends zero j m = []
+over_ends (suc zero) j m = j ∷ []
+over_ends (suc (suc c)) j m = j ∷ (j + m + 1) ∷ []

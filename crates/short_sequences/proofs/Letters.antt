@@ -1,24 +1,9 @@
 -- How many letters a mask covers: the letters of its intervals, one after the other.
-use Rattle.std.proofs.Common.{ℕ, zero, suc, ◌+◌, ◌-◌, ◌≤◌, ◌<◌, ◌≡◌, sym, ap, subst, ◌∙◌, inl, inr, ⊎_elim, List, [], ◌∷◌, add-one, arith, length, drop, get_or, drop_of_length-le, drop-cons}
+use Rattle.std.proofs.Common.{ℕ, zero, suc, ◌+◌, ◌-◌, ◌≤◌, ◌<◌, ◌≡◌, sym, ap, subst, ◌∙◌, List, [], ◌∷◌, add-one, arith, length, drop, get_or, drop_of_length-le, drop-cons}
 use Rattle.intervals.specs.declared.Interval.{Interval}
-use Rattle.intervals.specs.Interval.{interval, Holds, Covers, covered_in, Ascending, Canonical}
-use Rattle.intervals.proofs.Shape.{covers_above}
-use Rattle.intervals.proofs.Counted.{covered_all, covered_none, covered_at_most, covered_split, covered_equal}
-
--- The first interval's letters, and those of the others.
-covered_first : (n k lo : ℕ) (i : Interval) (is : List Interval) → Ascending n k lo (i ∷ is)
-    → covered_in (i ∷ is) 0 n ≡ (i.end - i.start) + covered_in is 0 n
-covered_first n k lo i is u =
-    let s = i.start in
-    let e = i.end in
-    let later : (x : ℕ) → Covers is x → e < x = λ x c. let z = covers_above n k x (e + 1) is u.3 c in omega arith in
-    let before = covered_none (i ∷ is) 0 s (λ x _ l c. ⊎_elim (λ (h : Holds i x). let b : ⊥ = omega arith in b) (λ (h : Covers is x). let z = later x h in let b : ⊥ = omega arith in b) c) in
-    let own = covered_all (i ∷ is) s e (omega arith) (λ x l m. inl (l, m)) in
-    let after =
-    covered_equal (i ∷ is) is e n
-    (λ x l _. (λ c. ⊎_elim (λ (h : Holds i x). absurd (let b : ⊥ = omega arith in b)) (λ (h : Covers is x). h) c, λ c. inr c)) in
-    let others = covered_none is 0 e (λ x _ l c. let z = later x c in let b : ⊥ = omega arith in b) in
-    omega (arith, covered_split (i ∷ is) 0 s n (omega arith) (omega arith), covered_split (i ∷ is) s e n (omega arith) (omega arith), covered_split is 0 e n (omega arith) (omega arith))
+use Rattle.intervals.specs.Interval.{interval, covered_in, Ascending, Canonical}
+use Rattle.intervals.proofs.Counted.{covered_none, covered_at_most}
+use Rattle.intervals.proofs.Lengths.{covered_first}
 
 ascending_drop : (n k lo : ℕ) (is : List Interval) (i : ℕ) → Ascending n k lo is → (lo' : ℕ) × Ascending n k lo' (drop i is)
 ascending_drop n k lo is zero u = (lo, u)

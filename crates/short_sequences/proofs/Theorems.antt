@@ -1,12 +1,13 @@
 -- All short sequences against the masking calls: which are refused, and that a sequence's mask is the filling call's.
 -- The list's own theorems stand in Sequences.antt (5^m members, every sequence, nothing else, none twice), the sum in Tallying.antt (`tallies_sum`).
-use Rattle.std.proofs.Common.{◌≡◌, refl, ap, ap₂, ◌∙◌, Bool, true, false, not, ◌||◌, cond, true≢false, ⊎_elim, List, [], ◌∷◌, Result, Ok, ℕ, zero, suc, ◌+◌, ◌^◌, ◌≤◌, arith, ltb, eqb, length, take, take_at, Float}
+use Rattle.std.proofs.Common.{◌≡◌, refl, ap, ap₂, ◌∙◌, Bool, true, false, not, ◌||◌, cond, true≢false, ⊎_elim, List, [], ◌∷◌, Result, Ok, ℕ, zero, suc, ◌+◌, ◌^◌, ◌≤◌, ◌<◌, div-lt_iff_lt-mul, arith, ltb, eqb, length, take, take_at, Float}
+use borrow.Author.Tests.{le-ltb}
 use mathlib.Core.List.Memᴰ
 use mathlib.Core.List.{Memᴰ}
 use Rattle.checks.specs.declared.refusal.Refusal.{Refusal}
 use Rattle.checks.specs.Refusal.{number_of}
 use lib.Ieee.{of_bits, lt}
-use Rattle.checks.specs.Tests.{any_byte, is_high, is_other, threshold_bad}
+use Rattle.checks.specs.Tests.{any_byte, is_high, is_other, threshold_bad, most_intervals}
 use Rattle.intervals.proofs.Slice.{wrote_list}
 use Rattle.letters.specs.Code.{codes}
 use Rattle.tables.specs.Density.{density}
@@ -23,11 +24,25 @@ use Rattle.short_sequences.specs.Sequences.{five_letters, sequences_of, OverFive
 use Rattle.short_sequences.specs.Tallies.{short_options, lent, refusal_of, mask_of, is_refused, count_of, refused_of}
 use Rattle.short_sequences.proofs.Sequences.{sequences_count, nothing_else}
 
+-- The buffers of these sizes are as long as listed for up to 8 letters.
+lent_enough : (n : ℕ) → n ≤ 8 → too_short_of n 1 8 lent ≡ false
+unfolding too_short_of
+lent_enough n h =
+    let few : most_intervals n 1 < 5 = (div-lt_iff_lt-mul {k = 2} {x = n + 1} {y = 5} (omega arith)).1 (omega arith) in
+    rw (le-ltb 8 n h, le-ltb 4 (most_intervals n 1) (omega arith))
+
 -- The filling call on a short sequence: its refusal, and the intervals of its list.
 module _ (s : List ℕ) {b b' : Buffers} where
   pub same_refusal : {r : Result Answer Refusal} → Answered Filled short_options s b b' r → lengths b ≡ lent → number_of r ≡ refusal_of s
   unfolding refusal_of
   same_refusal A e = A.number ∙ ap (λ (l : Lent). refusal short_options s l) e
+
+  -- Also in longer buffers: of up to 8 letters, and buffers that are at least as long as listed.
+  pub same_refusal_longer : {r : Result Answer Refusal} → Answered Filled short_options s b b' r → length s ≤ 8
+      → too_short_of (length s) 1 8 (lengths b) ≡ false → number_of r ≡ refusal_of s
+  unfolding refusal_of short_options
+  same_refusal_longer A few enough =
+      A.number ∙ rw (enough, lent_enough (length s) few)
 
   pub same_mask : {a : Answer} → Answered Filled short_options s b b' (Ok a) → listed a b' ≡ mask_of s
   unfolding mask_of short_options

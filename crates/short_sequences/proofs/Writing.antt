@@ -1,7 +1,7 @@
 -- A loop that fills a buffer with the sequence of an index, a letter in each turn: the index taken apart in base five.
-use Rattle.std.proofs.Common.{◌≡◌, refl, sym, ap, subst, ◌∙◌, List, [], ◌∷◌, ℕ, suc, ◌+◌, ◌-◌, ◌/◌, ◌%◌, ◌^◌, ◌≤◌, ◌<◌, arith, length, drop, get_or, set, get_or-drop, drop-drop}
+use Rattle.std.proofs.Common.{◌≡◌, refl, sym, ap, subst, ◌∙◌, List, [], ◌∷◌, ℕ, suc, ◌+◌, ◌-◌, ◌/◌, ◌%◌, ◌^◌, ◌<◌, arith, length, drop, get_or, set, get_or-drop, drop-drop}
 use native.Mathlib.Nat.{mul-div_cancel_left}
-use Rattle.buffers.proofs.Filling.{Fills, fill_start, fill_turn, fill_end, put_all}
+use Rattle.buffers.proofs.Filling.{Fills, fill_start, fill_turn}
 use Rattle.short_sequences.specs.Sequences.{sequences_of}
 use Rattle.short_sequences.specs.Terms.Outcome.{letter_at}
 use Rattle.short_sequences.proofs.Sequences.{five_power, some_sequence, sequence_at, sequence_size, rest_small}

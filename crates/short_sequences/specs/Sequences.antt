@@ -1,5 +1,5 @@
 -- All sequences of m letters over A C G T N, the first letter slowest.
-use Rattle.std.specs.Prelude.{ℕ, zero, suc}
+use Rattle.std.specs.Prelude.{ℕ, zero, suc, ◌^◌, Bool, ◌&&◌, ltb, leb}
 use Prim.Native.Char.{code}
 use mathlib.Core.List.{List, [], ◌∷◌, map, flat_map, Memᴰ}
 
@@ -16,3 +16,7 @@ sequences_of (suc m) = let shorter : List (List ℕ) = sequences_of m in flat_ma
 abbrev pub OverFive : List ℕ → Type 0
 OverFive [] = Unit
 OverFive (x ∷ s) = Memᴰ x five_letters × OverFive s
+
+-- There is a sequence of that index among all of m letters, m being one of 1 to 8, and so many bytes have room for it.
+abbrev pub has_sequence : ℕ → ℕ → ℕ → Bool
+has_sequence m index room = leb 1 m && (leb m 8 && (ltb index (5 ^ m) && leb m room))

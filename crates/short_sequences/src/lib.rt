@@ -2,9 +2,9 @@
 
 #![tactic(auto)]
 
-ghost use Rattle.std.specs.Prelude.{◌≡◌, [], ◌+◌, ◌^◌, ◌≤◌, ◌<◌, length, get_or, IfOk, OnOk, OnErr, IfSome};
+ghost use Rattle.std.specs.Prelude.{◌≡◌, IsTrue, not, [], ◌+◌, ◌^◌, ◌≤◌, ◌<◌, length, get_or, IfOk, OnOk, OnErr, IfSome};
 ghost use Rattle.intervals.specs.Interval.{Canonical, Wrote, covered_in};
-ghost use Rattle.short_sequences.specs.Sequences.{sequences_of};
+ghost use Rattle.short_sequences.specs.Sequences.{sequences_of, has_sequence};
 ghost use Rattle.short_sequences.specs.Tallies.{short_options, refusal_of, mask_of, tallies_over, tallies_of, refused_of, refusal};
 ghost use Rattle.buffers.specs.Fill.{put};
 ghost use Rattle.checks.specs.Refusal.{number_of};
@@ -68,6 +68,24 @@ fn write_letters(index: usize, letters: &mut [u8])
     }
 }
 
+/// Writes the sequence of that index, from 0 on, among all of m letters over A C G T N to the front of `letters`:
+/// the first letter is the slowest, and the letters come in that order.
+/// Returns whether there is one, m being 1 to 8 and `letters` having room for it; if not, nothing is written.
+pub fn nth_sequence(m: usize, index: usize, letters: &mut [u8]) -> bool
+    ensures answer { result ≡ has_sequence m index (length letters.old) }
+    ensures sequence { IsTrue result → letters.new ≡ put (get_or (sequences_of m) index []) letters.old }
+    ensures same { IsTrue (not result) → letters.new ≡ letters.old }
+{
+    if (m < 1) | (MOST_LETTERS < m) {
+        return false;
+    }
+    if (count_sequences(m) <= index) | (letters.len() < m) {
+        return false;
+    }
+    write_letters(index, &mut letters[..m]);
+    true
+}
+
 // ---- One run.
 #[tactic(auto, unfolding(crate::specs::Tallies::short_options, longdust::specs::Options::defaults))]
 fn short_options() -> LongdustOptions
@@ -80,13 +98,9 @@ fn short_options() -> LongdustOptions
     }
 }
 
-/// Masks the letters by filled tables, in work buffers that have exactly the paper's sizes for 8 letters.
-/// The intervals go to the front of the list; returns their number.
-pub fn mask_letters(
-    letters: &[u8],
-    tables: &Tables,
-    list: &mut [Interval],
-) -> Result<usize, Refusal>
+// Masks the letters by filled tables, in work buffers that have exactly the paper's sizes for 8 letters.
+// The intervals go to the front of the list; returns their number.
+fn mask_letters(letters: &[u8], tables: &Tables, list: &mut [Interval]) -> Result<usize, Refusal>
     requires { Short letters.now tables.now.ln.now tables.now.f.now list.old }
     ensures refusal { number_of result ≡ refusal_of letters.now }
     ensures list { IfOk result (Wrote (mask_of letters.now) list.old list.new) }

@@ -1,5 +1,5 @@
 -- Intervals written as bytes, one after the other.
-use Rattle.std.proofs.Common.{◌≡◌, refl, sym, ap, ap₂, ◌∙◌, List, [], ◌∷◌, ◌++◌, append_assoc, ℕ, ◌+◌, ◌*◌, ◌≤◌, ◌<◌, add-one, arith, length, take, get_or, take_all, take-suc, length-take-le}
+use Rattle.std.proofs.Common.{◌≡◌, refl, sym, ap, ap₂, ◌∙◌, List, [], ◌∷◌, ◌++◌, append_assoc, ℕ, ◌+◌, ◌*◌, ◌≤◌, ◌<◌, add-one, arith, length, take, get_or, take-suc, length-take-le}
 use Rattle.buffers.specs.Fill.{put, put_at}
 use Rattle.buffers.proofs.Put.{put_next}
 use Rattle.intervals.specs.declared.Interval.{Interval}

@@ -1,4 +1,4 @@
--- What a request inside the profile has: the masking calls accept it in the work space, and its output has room.
+-- What a request inside the profile has: the masking calls accept it in buffers of the listed sizes or more, so in the work space, and its output has room.
 use Rattle.std.proofs.Common.{◌≡◌, refl, Bool, false, cond, true≢false, List, ℕ, ◌+◌, ◌*◌, ◌^◌, ◌≤◌, ◌<◌, div-lt_iff_lt-mul, arith, ltb, length, get_or}
 use native.Mathlib.Nat.{pow-le-pow_right}
 use borrow.Author.Tests.{le-ltb, ltb-false}
@@ -8,6 +8,7 @@ use Rattle.scans.proofs.Test.{neither}
 use Rattle.tables.specs.declared.GcOption.{GcOption}
 use Rattle.tables.specs.declared.GcOption.TheVariants.{Uniform, Fixed, Auto}
 use Rattle.longdust.specs.declared.LongdustOptions.{LongdustOptions}
+use Rattle.longdust.specs.declared.Lent.{Lent}
 use Rattle.longdust.specs.Checks.{gc_bad, too_short_of}
 use Rattle.longdust.specs.Checks.{refusal as call_refusal}
 use Rattle.longdust.specs.Terms.Inner.{Bounds, Enough}
@@ -30,7 +31,8 @@ few_intervals n k h l =
     let lt : most_intervals n k < 2049 = (div-lt_iff_lt-mul {k = k + 1} {x = n + 1} {y = 2049} (omega arith)).1 (omega arith) in
     omega arith
 
-long_enough : (n k w : ℕ) → n ≤ 4096 → 1 ≤ k → k ≤ 6 → w ≤ 4096 → too_short_of n k w lent ≡ false
+-- The work space is as long as listed.
+pub long_enough : (n k w : ℕ) → n ≤ 4096 → 1 ≤ k → k ≤ 6 → w ≤ 4096 → too_short_of n k w lent ≡ false
 unfolding too_short_of
 long_enough n k w hn lk hk hw =
     let r = le-ltb 2048 (most_intervals n k) (few_intervals n k hn lk) in
@@ -59,9 +61,9 @@ module _ (o : LongdustOptions) (s : List ℕ) (room : ℕ) (e : refusal o s room
   pub kmer_some : 1 ≤ o.kmer
   kmer_some = ltb-false o.kmer 1 (neither (ltb o.kmer 1) (ltb 12 o.kmer) (passed 0)).0
 
-  -- The masking calls accept the request in the work space.
-  call_accepts : call_refusal o s lent ≡ 0
-  call_accepts =
+  -- The masking calls accept the request in buffers that are at least as long as listed.
+  pub call_accepts : (b : Lent) → too_short_of (length s) o.kmer o.window_size b ≡ false → call_refusal o s b ≡ 0
+  call_accepts b enough =
       no_refusal
       (passed 0)
       (passed 1)
@@ -74,10 +76,10 @@ module _ (o : LongdustOptions) (s : List ℕ) (room : ℕ) (e : refusal o s room
       (passed 7)
       (passed 8)
       (le-ltb 2147483647 (length s) (omega (arith, inside.2)))
-      (long_enough (length s) o.kmer o.window_size inside.2 kmer_some inside.0 inside.1)
+      enough
 
   pub asked : Asked o s
-  asked = record { accepted = call_accepts; gc = inside.3 }
+  asked = record { accepted = call_accepts lent (long_enough (length s) o.kmer o.window_size inside.2 kmer_some inside.0 inside.1); gc = inside.3 }
 
   pub list_room_lem : most_intervals (length s) o.kmer ≤ 2048
   list_room_lem = few_intervals (length s) o.kmer inside.2 kmer_some

@@ -122,7 +122,7 @@ fn fill_read(letters: &[u8], options: LongdustOptions, ln: &mut [f64], f: &mut [
 }
 
 // Masks the letters by tables of its own, filled as far as they are read; the intervals go to the front of the list. Answers how many there are.
-pub fn mask_letters(letters: &[u8], options: LongdustOptions, list: &mut [Interval]) -> usize
+fn mask_letters(letters: &[u8], options: LongdustOptions, list: &mut [Interval]) -> usize
     requires asked { Asked options letters.now }
     requires list_len { length list.old ≡ 2048 }
     ensures { Ran options letters.now list.old list.new result }
