@@ -1,0 +1,4 @@
+pub mod Stretches
+pub mod Checks
+pub mod Call
+pub mod Terms
