@@ -121,6 +121,7 @@ run "$program" questions 1 200000
 run "$program" tracks 1 200000
 run compare/bedtools.sh
 run "$program" strongest 1 200000
+run "$program" strongest-list 1 100000
 run "$program" small 1 200000
 run "$program" short port
 run "$program" large quick
