@@ -1,15 +1,17 @@
 -- Worked examples: k = 1, w = 3, T = 2, ln[1..3] = 1 4 5, f[1..3] = 1; a stretch of three equal letters scores 3, of two 0.
-use Rattle.std.proofs.Common.{◌≡◌, ℕ, List, [], ◌∷◌, refl, map}
+use Rattle.std.proofs.Common.{◌≡◌, ℕ, List, [], ◌∷◌, refl, map, pos}
 use Rattle.checks.specs.Tests.{any_byte}
 use Rattle.letters.specs.Code.{code, codes}
 use Rattle.letters.specs.Place.{packed, all_plain, place_at, places_from, places}
 use Rattle.scans.specs.Score.{ln_sum, ln_sums}
 use Rattle.intervals.specs.declared.Interval.{Interval}
 use Rattle.intervals.specs.Interval.{interval, covered}
+use Rattle.intervals.specs.Merge.{backwards}
 use Rattle.strongest.specs.Strongest.{largest}
 use Rattle.strongest.specs.Checks.{too_short_of, too_wide}
-use Rattle.strongest_list.specs.Stretches.{Asked, letters, score_in, all_covered, apart_from, best_ending, best_before, strongest}
+use Rattle.strongest_list.specs.Stretches.{Asked, letters, score, score_in, all_covered, apart_from, best_ending, best_before, strongest}
 use Rattle.strongest_list.specs.Checks.{any_bad_region, refusal}
+use Rattle.strongest_list.specs.Mirrored.{turned}
 
 abbrev ask : List ℕ → List Interval → ℕ → Asked
 ask s regions floor =
@@ -68,6 +70,18 @@ level = record { sequence = 65 ∷ 65 ∷ 65 ∷ []; kmer = 1; window_size = 3; 
 the_longer : list_of level 1 ≡ interval 0 3 ∷ []
 unfolding code codes packed all_plain place_at places_from places ln_sum ln_sums covered score_in all_covered apart_from best_ending best_before strongest
 the_longer = refl
+
+-- Where f falls, the mirror may score otherwise: AAN scores 5 in [0, 2), its reverse complement NTT has only place 2 in [1, 3), which scores 5 - 10.
+abbrev falling : Asked
+falling = record { sequence = 65 ∷ 65 ∷ 78 ∷ []; kmer = 2; window_size = 3; threshold = 0; ln = 9 ∷ 5 ∷ 5 ∷ 5 ∷ []; f = 9 ∷ 10 ∷ 0 ∷ 0 ∷ 9 ∷ []; regions = interval 0 2 ∷ []; floor = 0 }
+
+there : map (score falling) (strongest falling 1) ≡ pos 5 ∷ []
+unfolding code codes packed all_plain place_at places_from places ln_sum ln_sums covered score_in all_covered apart_from best_ending best_before strongest
+there = refl
+
+not_in_the_mirror : strongest (turned falling (78 ∷ 84 ∷ 84 ∷ [])) 1 ≡ []
+unfolding code codes packed all_plain place_at places_from places ln_sum ln_sums covered score_in all_covered apart_from best_ending best_before strongest backwards
+not_in_the_mirror = refl
 
 -- ---- Refusals, with 7 codes, 4 scan counts and a tile lent.
 taken : refusal (ask aaagccc (interval 0 7 ∷ []) 0) 7 4 1 ≡ 0

@@ -12,3 +12,6 @@ pub mod Examples
 pub mod Laws
 pub mod Floors
 pub mod Places
+pub mod Orders
+pub mod Turning
+pub mod Mirror

@@ -3,9 +3,9 @@ use Rattle.std.proofs.Common.{◌≡◌, ℕ, zero, suc, ◌+◌, ◌*◌, ◌^�
 use Rattle.floats.proofs.Whole.{Is, is_as, is_sub}
 use Rattle.letters.specs.Place.{Place, ambiguous, plain, places, BelowAt, Below}
 use Rattle.letters.proofs.Places.{places_below}
-use Rattle.scans.specs.Counts.{count, hit}
+use Rattle.scans.specs.Counts.{count}
 use Rattle.scans.specs.Score.{ln_sums, stretch}
-use Rattle.scans.proofs.Counting.{count_snoc, below_drop, below_take}
+use Rattle.scans.proofs.Counting.{below_drop, below_take}
 use Rattle.scans.proofs.Exact.{adds, sums_none, sums_cons, sums_snoc}
 use Rattle.strongest.specs.Strongest.{entry}
 use Rattle.strongest.proofs.Order.{is_pos, difference_is}

@@ -25,14 +25,14 @@ both_and : (a b : Bool) → a ≡ true → b ≡ true → a && b ≡ true
 both_and a b e g = rw (e, g) refl
 
 -- ---- Inside.
-covered_all : (is : List Interval) (m a x : ℕ) → all_covered is a m ≡ true → a ≤ x → x < a + m → covered is x ≡ true
+pub covered_all : (is : List Interval) (m a x : ℕ) → all_covered is a m ≡ true → a ≤ x → x < a + m → covered is x ≡ true
 unfolding all_covered
 covered_all is zero a x e h k = absurd (let z : ⊥ = omega arith in z)
 covered_all is (suc m) a x e h k =
     let p = and_both (covered is a) (all_covered is (suc a) m) e in
     ⊎_elim (λ i. covered_all is m (suc a) x p.1 (omega arith) (omega arith)) (λ i. subst (λ (n : ℕ). covered is n ≡ true) (let z : a ≡ x = omega arith in z) p.0) (lt_or_le a x)
 
-all_of_covered : (is : List Interval) (m a : ℕ) → ((x : ℕ) → a ≤ x → x < a + m → covered is x ≡ true) → all_covered is a m ≡ true
+pub all_of_covered : (is : List Interval) (m a : ℕ) → ((x : ℕ) → a ≤ x → x < a + m → covered is x ≡ true) → all_covered is a m ≡ true
 unfolding all_covered
 all_of_covered is zero a h = refl
 all_of_covered is (suc m) a h = both_and (covered is a) (all_covered is (suc a) m) (h a (omega arith) (omega arith)) (all_of_covered is m (suc a) (λ x i j. h x (omega arith) (omega arith)))
