@@ -237,6 +237,49 @@ int64_t longdust_strongest_stretch(
     uint16_t *scan_counts, size_t scan_counts_len,
     uint64_t *start, int64_t *score, uint64_t *gap);
 
+/* Work space of longdust_strongest_stretches, whatever it holds. */
+struct longdust_tile {
+    size_t first, size;
+    uint64_t gain, loss;
+    uint8_t stale;
+};
+
+/* The strongest stretches of a contig, inside some regions. Places, stretches and scores are those of
+ * longdust_strongest_stretch. The letters of a stretch of places a to b are max(0, a + 1 - k) to b. Each of them
+ * must lie in a region; the regions may touch, overlap and stand in any order.
+ *
+ * The first entry is the highest scoring stretch of at most w places, of equal ones that with more places, then
+ * that with the earlier first place. Each further entry is the same among the stretches whose letters share none
+ * with those of an entry before and touch none: a letter or more lies between. The list ends when it is full, or
+ * when nothing left scores above `floor`. So every stretch that scores above the last entry (in a list that is not
+ * full: above the floor) shares or touches a letter of an entry that scores at least as much.
+ *
+ * The result is the number of entries: list[i][0] to list[i][1] (the end not included) are the letters of entry i
+ * and scores[i] its score, in the order found, so scores do not rise. Entries of both past the result do not
+ * change. The shorter of list and scores decides how many entries there may be.
+ *
+ * Slices and how long they must be at least: sequence n letters, ln w + 1, f w + 2, codes n, scan_counts 4^k,
+ * tiles n / (w + 4096) + 1. codes, scan_counts and tiles may hold anything before and are left with any content up
+ * to these lengths.
+ *
+ * A negative result is minus the number of the first check that fails, and no slice is changed then:
+ *    1, 2, 13, 3, 4, 5, 10  as above, in this order
+ *   16  a region is empty or ends past n
+ *   11  a slice is shorter than listed
+ *   20  threshold or one of the ln entries 1..w is 2^36 or more, or one of the f entries 1..w is 2^52 or more
+ */
+int64_t longdust_strongest_stretches(
+    const uint8_t *sequence, size_t sequence_len,
+    size_t kmer, size_t window_size, uint64_t threshold,
+    const uint64_t *ln, size_t ln_len,
+    const uint64_t *f, size_t f_len,
+    const uint32_t (*regions)[2], size_t regions_len, uint64_t floor,
+    uint8_t *codes, size_t codes_len,
+    uint16_t *scan_counts, size_t scan_counts_len,
+    struct longdust_tile *tiles, size_t tiles_len,
+    uint32_t (*list)[2], size_t list_len,
+    int64_t *scores, size_t scores_len);
+
 /* The small profile: masks a short sequence in work space of the call's own, on numbers and bytes alone. k is
  * up to 6, w up to 4,096, n up to 4,096, and GC is uniform; the other numbers are those of longdust_process, and
  * so are the intervals. A call needs 230 KB of stack. It fills the tables anew, as far as n letters read them (up to

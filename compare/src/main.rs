@@ -23,6 +23,7 @@ mod record;
 mod request;
 mod sets;
 mod strongest;
+mod strongest_list;
 mod short;
 mod small;
 #[cfg(test)]
@@ -55,6 +56,7 @@ compare tracks SEED COUNT  joined tracks, the port's against a plain join letter
 compare tracks beds FOLDER SEED COUNT  larger pairs as BED files, for compare/bedtools.sh
 compare tracks held FOLDER SEED COUNT  the port on these pairs against what bedtools made of them
 compare strongest SEED COUNT  the strongest stretch at a letter, the port's against a plain search
+compare strongest-list SEED COUNT  the strongest stretches of a contig, the port's against a plain search
 compare short              the table of all short sequences, by the original: crates/short_sequences_table/stdout
 compare short port         the port's call for it, on every size and past the bounds
 compare small SEED COUNT   the small profile against the original and the filling call, on random requests
@@ -104,6 +106,9 @@ fn main() {
             held.unwrap_or_else(|error| stop(&error.to_string()))
         }
         ["strongest", seed, count] => strongest::command(strongest_port(), number(seed), number(count)),
+        ["strongest-list", seed, count] => {
+            strongest_list::command(strongest_list_port(), number(seed), number(count))
+        }
         ["small", "bench"] => return small::bench(small_port(), port()),
         ["small", seed, count] => small::command(small_port(), port(), number(seed), number(count)),
         ["cases"] => sets::cases(port()),
@@ -142,6 +147,11 @@ fn strongest_port() -> strongest::Port {
 }
 
 #[cfg(port)]
+fn strongest_list_port() -> strongest_list::Port {
+    strongest_list::port
+}
+
+#[cfg(port)]
 fn small_port() -> small::Port {
     archive::small
 }
@@ -173,6 +183,11 @@ fn tracks_port() -> tracks::Port {
 
 #[cfg(not(port))]
 fn strongest_port() -> strongest::Port {
+    stop(WITHOUT_PORT)
+}
+
+#[cfg(not(port))]
+fn strongest_list_port() -> strongest_list::Port {
     stop(WITHOUT_PORT)
 }
 

@@ -11,3 +11,4 @@ mod positions;
 mod profile;
 mod short;
 mod stretches;
+mod strongest_stretches;

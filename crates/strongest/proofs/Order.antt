@@ -25,7 +25,7 @@ ltb_same i j p q f g = go (ltb i j) refl
     go true e = sym (lt-ltb p q (f (ltb-true i j e)))
     go false e = sym (le-ltb p q (g (ltb-false i j e)))
 
-lt_is : (x y : ℤ) (a b c d : ℕ) → Is x a b → Is y c d → lt_z x y ≡ ltb (a + d) (c + b)
+pub lt_is : (x y : ℤ) (a b c d : ℕ) → Is x a b → Is y c d → lt_z x y ≡ ltb (a + d) (c + b)
 lt_is (pos i) (pos j) a b c d h k = ltb_same i j (a + d) (c + b) (λ l. omega arith) (λ l. omega arith)
 lt_is (pos i) (negsuc j) a b c d h k = sym (le-ltb (a + d) (c + b) (omega arith))
 lt_is (negsuc i) (pos j) a b c d h k = sym (lt-ltb (a + d) (c + b) (omega arith))
@@ -35,7 +35,7 @@ pub excess_is : (z : ℤ) (a b : ℕ) → Is z a b → excess z ≡ a - b
 excess_is (pos i) a b h = omega arith
 excess_is (negsuc i) a b h = omega arith
 
-is_lt : (x y : ℤ) (a b c d : ℕ) → Is x a b → Is y c d → (x <ℤ y) ↔ (a + d < c + b)
+pub is_lt : (x y : ℤ) (a b c d : ℕ) → Is x a b → Is y c d → (x <ℤ y) ↔ (a + d < c + b)
 is_lt x y a b c d h k =
     let e = lt_is x y a b c d h k in
     (λ t. ltb→lt (a + d) (c + b) (subst (λ (z : Bool). T z) e t.lt), λ l. record { lt = subst (λ (z : Bool). T z) (sym e) (lt→ltb (a + d) (c + b) l) })

@@ -12,10 +12,11 @@ ghost use Rattle.strongest.specs.Call.{asked_of, Found};
 ghost use Rattle.strongest.specs.Checks.{refusal};
 ghost use Rattle.strongest.specs.Terms.Reading.{Narrow, ReadsPlaces};
 
-use crate::places::Places;
+pub use crate::places::Places;
+pub use crate::refusals::too_wide;
 use crate::refusals::{check, largest};
-pub use crate::scores::Scoring;
-use crate::scores::{Reading, difference, gap_of};
+pub use crate::scores::{Scored, Scoring, difference};
+use crate::scores::{Reading, gap_of};
 use checks::Refusal;
 use letters::{encode_sequence, n_kmers};
 

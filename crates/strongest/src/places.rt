@@ -8,10 +8,12 @@ ghost use Rattle.strongest.specs.Terms.Reading.{cleared_at};
 use letters::Kmer;
 use scans::raise_entry;
 
-// The last `steps` places of a strand, read backward from its last letter.
+/// The last `steps` places of a strand, read backward from its last letter.
 #[derive(Clone, Copy)]
 pub struct Places<'a> {
+    /// The codes of its letters.
     pub letters: &'a [u8],
+    /// k, 1 to 12.
     pub kmer: usize,
     pub steps: usize,
     ghost kmer_nonzero: { 0 < kmer },

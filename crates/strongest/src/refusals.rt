@@ -43,9 +43,9 @@ fn too_short(request: &Request, codes_len: usize, counts_len: usize) -> bool
         | below_n_kmers(counts_len, request.kmer)
 }
 
-// T or an entry of 1..w is outside its width.
+/// T or an entry of 1..w is outside its width.
 #[tactic(auto, unfolding(crate::specs::Checks::too_wide))]
-fn too_wide(window_size: usize, scoring: &Scoring) -> bool
+pub fn too_wide(window_size: usize, scoring: &Scoring) -> bool
     ensures { result ≡ too_wide window_size scoring.now.threshold scoring.now.ln.now scoring.now.f.now }
 {
     let wide_ln = LN_WIDTH <= largest(scoring.ln, window_size);

@@ -6,15 +6,17 @@ ghost use Rattle.strongest.specs.Terms.Places.{Known};
 
 use crate::places::Places;
 
-// A stretch: its number of places, the ln entries that it gains, and what it loses, T for each place and its f.
+/// A stretch: its number of places, and its score, `gain` - `loss` in units of 2^-32.
 #[derive(Clone, Copy)]
 pub struct Scored {
     pub size: usize,
+    /// The ln entries of its places.
     pub gain: u64,
+    /// T for each place, and its f entry.
     pub loss: u64,
 }
 
-// T and the two tables, in units of 2^-32.
+/// T and the two tables, in units of 2^-32.
 #[derive(Clone, Copy)]
 pub struct Scoring<'a> {
     pub threshold: u64,
@@ -80,7 +82,7 @@ impl<'a> Places<'a> {
         reading
     }
 
-    // The same, whatever the counts hold: those of the places are set to 0 first.
+    /// Reads the places backward from the last letter, whatever the counts hold: those of the places are set to 0 first.
     pub fn search_back(&self, scoring: &Scoring, counts: &mut [u16]) -> Reading
         requires narrow { Narrow scoring.now.threshold scoring.now.ln.now scoring.now.f.now self.now.steps }
         requires long { length counts.old ≡ 4 ^ self.now.kmer }
@@ -105,7 +107,7 @@ pub fn gap_of(reading: Reading, steps: usize, unread: usize, rise: u64, threshol
     (high + reading.best.loss).saturating_sub(low + reading.best.gain)
 }
 
-// gain - loss as a signed number.
+/// gain - loss as a signed number.
 pub fn difference(gain: u64, loss: u64) -> i64
     requires { (gain < 9007199254740992) × (loss < 9007199254740992) }
     ensures { result ≡ pos gain -ℤ pos loss }

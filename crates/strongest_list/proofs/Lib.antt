@@ -1,0 +1,17 @@
+pub mod Ranking
+pub mod Choosing
+pub mod Ends
+pub mod Steps
+pub mod Shown
+pub mod Same
+pub mod Taking
+pub mod Tiling
+pub mod Listing
+pub mod Asking
+pub mod Examples
+pub mod Laws
+pub mod Floors
+pub mod Places
+pub mod Orders
+pub mod Turning
+pub mod Mirror

@@ -1,0 +1,4 @@
+pub mod Codes
+pub mod Best
+pub mod Tiles
+pub mod Listed
