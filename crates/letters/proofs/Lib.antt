@@ -7,3 +7,4 @@ pub mod Gc
 pub mod Rna
 pub mod AllBytes
 pub mod Examples
+pub mod ReverseCodes

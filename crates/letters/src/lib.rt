@@ -53,6 +53,19 @@ pub fn reverse_complement_encoded_sequence(encoded: &[u8], reversed: &mut [u8])
     }
 }
 
+// The codes of the reverse complement, straight from the letters.
+// A twin of the one above: a strand that is masked alone has one buffer for codes.
+#[tactic(auto, using(crate::proofs::ReverseCodes::of_reverse_codes))]
+pub fn encode_reverse_complement(sequence: &[u8], encoded: &mut [u8])
+    requires { length sequence.now ≤ length encoded.old }
+    ensures { encoded.new ≡ put (reverse_complement (codes sequence.now)) encoded.old }
+{
+    let n = sequence.len();
+    for i in 0..n {
+        encoded[i] = complement(encode(sequence[n - 1 - i]));
+    }
+}
+
 // How many k-mers there are.
 #[tactic(auto, using(crate::proofs::Powers::of_four))]
 pub fn n_kmers(k: usize) -> usize
