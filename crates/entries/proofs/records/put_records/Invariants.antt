@@ -1,0 +1,11 @@
+use Rattle.std.specs.Prelude.{◌≡◌, IfSome}
+use Rattle.entries.proofs.Whole.{Going}
+use Rattle.entries.proofs.records.put_records.Given as goal
+
+abbrev pub invariant-loop : goal.invariant-loop
+invariant-loop g l = record {
+  report : g.T.Recorder.report l.recorder ≡ g.T.Recorder.report l.initial.recorder;
+  going : IfSome (g.R.Read.remaining l.initial.reader)
+      (λ xs. Going (g.T.Recorder.report l.initial.recorder) l.cr (g.W.Write.contents l.initial.out) (g.N.Write.contents l.initial.notes)
+      xs (g.R.Read.remaining l.reader) (g.W.Write.contents l.out) (g.N.Write.contents l.notes) l.all);
+}

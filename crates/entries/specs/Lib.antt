@@ -1,0 +1,5 @@
+pub mod Lines
+pub mod Entries
+pub mod Held
+pub mod Outcome
+pub mod Terms

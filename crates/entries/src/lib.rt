@@ -1,0 +1,15 @@
+// A file of any size, entry by entry: the records of FASTA as they came, read from a reader, each with what is written for it.
+
+#![tactic(auto)]
+
+mod failed;
+mod held;
+mod reading;
+mod records;
+mod writing;
+
+pub use failed::Failed;
+pub use held::{HeldEntry, LineRun};
+pub use reading::next_entry;
+pub use records::{Recorder, put_records};
+pub use writing::write_whole;
