@@ -1,14 +1,14 @@
 -- What a request has that no check refuses.
-use Rattle.std.proofs.Common.{◌≡◌, refl, false, List, ℕ, ◌+◌, ◌^◌, ltb, length, get_or}
+use Rattle.std.proofs.Common.{◌≡◌, refl, Bool, false, List, ℕ, ◌+◌, ◌^◌, ◌≤◌, ltb, length, get_or}
 use borrow.Author.Tests.{ltb-false}
 use Rattle.scans.proofs.Test.{neither}
 use Rattle.longdust.specs.declared.LongdustOptions.{LongdustOptions}
 use Rattle.longdust.specs.declared.Lent.{Lent}
-use Rattle.checks.specs.Checks.{check}
+use Rattle.checks.specs.Checks.{check, first}
 use Rattle.checks.proofs.Passing.{passes}
 use Rattle.checks.specs.Tests.{most_intervals}
-use Rattle.longdust.specs.Checks.{checks, refusal, too_short_of}
-use Rattle.longdust.specs.Terms.Inner.{Enough, Admitted}
+use Rattle.longdust.specs.Checks.{request_checks, refusal, too_short_of}
+use Rattle.longdust.specs.Terms.Inner.{Bounds, Enough, Admitted}
 
 enough : (n k w : ℕ) (b : Lent) → too_short_of n k w b ≡ false → Enough n k w b
 unfolding too_short_of
@@ -40,13 +40,19 @@ enough n k w b e =
       marks = ltb-false b.marks R p12.1;
     }
 
-pub admitted : (o : LongdustOptions) (s : List ℕ) (b : Lent) → refusal o s b ≡ 0 → Admitted o (length s) b
-unfolding refusal
-admitted o s b e =
+-- What a request brings along whose buffers are long enough, as `too_short` says.
+pub record Requested (o : LongdustOptions) (n : ℕ) (too_short : Bool) : Type 0 where
+  pub bounds : Bounds o
+  pub letters_low : o.kmer + 1 ≤ n
+  pub letters_high : n ≤ 2147483647
+  pub long : too_short ≡ false
+
+pub requested : (o : LongdustOptions) (s : List ℕ) (too_short : Bool) → first (request_checks o s too_short) ≡ 0 → Requested o (length s) too_short
+requested o s too_short e =
     let n = length s in
     let k = o.kmer in
     let w = o.window_size in
-    let p : (j : ℕ) → (get_or (checks o s b) j (check 0 false)).fails ≡ false = passes (checks o s b) refl e in
+    let p : (j : ℕ) → (get_or (request_checks o s too_short) j (check 0 false)).fails ≡ false = passes (request_checks o s too_short) refl e in
     let inside = neither (ltb k 1) (ltb 12 k) (p 0) in
     record {
       bounds =
@@ -60,5 +66,15 @@ admitted o s b e =
           };
       letters_low = ltb-false n (k + 1) (p 3);
       letters_high = ltb-false 2147483647 n (p 10);
-      enough = enough n k w b (p 11);
+      long = p 11;
+    }
+
+pub admitted : (o : LongdustOptions) (s : List ℕ) (b : Lent) → refusal o s b ≡ 0 → Admitted o (length s) b
+admitted o s b e =
+    let q = requested o s (too_short_of (length s) o.kmer o.window_size b) e in
+    record {
+      bounds = q.bounds;
+      letters_low = q.letters_low;
+      letters_high = q.letters_high;
+      enough = enough (length s) o.kmer o.window_size b q.long;
     }

@@ -27,20 +27,19 @@ options k w =
 
 -- k = 13 with a byte 200
 kmer_first : (b : Lent) → refusal (options 13 5000) (200 ∷ []) b ≡ 1
-unfolding refusal
 kmer_first b = refl
 
 -- "AC", k = w = 2
 letters_before_window : (b : Lent) → refusal (options 2 2) (65 ∷ 67 ∷ []) b ≡ 3
-unfolding refusal any_byte
+unfolding any_byte
 letters_before_window b = refl
 
 -- The order is by check and not by place: a digit first, a byte 200 later.
 high_before_other : (b : Lent) → refusal (options 2 3) (49 ∷ 200 ∷ []) b ≡ 2
-unfolding refusal any_byte
+unfolding any_byte
 high_before_other b = refl
 
 -- "A1", k = 2
 other_before_letters : (b : Lent) → refusal (options 2 3) (65 ∷ 49 ∷ []) b ≡ 13
-unfolding refusal any_byte
+unfolding any_byte
 other_before_letters b = refl

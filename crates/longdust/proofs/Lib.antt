@@ -3,7 +3,10 @@ pub mod Setups
 pub mod Parts
 pub mod Answers
 pub mod Agreeing
+pub mod Merging
+pub mod Alone
 pub mod PublicCalls
 pub mod Theorems
+pub mod StrandTheorems
 pub mod Rna
 pub mod Examples

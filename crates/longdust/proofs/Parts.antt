@@ -22,10 +22,10 @@ pub record Listed (o : LongdustOptions) (m : ℕ) (w w' : Workspace) : Type 0 wh
   pub reverse_list : Free (most_intervals m o.kmer) w.reverse_list.now w'.reverse_list.now
 
 module _ (o : LongdustOptions) (n : ℕ) (p : Params) (k : p.kmer ≡ o.kmer) (v : p.window_size ≡ o.window_size) where
-  kmers : 4 ^ p.kmer ≡ 4 ^ o.kmer
+  pub kmers : 4 ^ p.kmer ≡ 4 ^ o.kmer
   kmers = ap (λ (z : ℕ). 4 ^ z) k
 
-  rows : (n + 1) / (p.kmer + 1) ≡ most_intervals n o.kmer
+  pub rows : (n + 1) / (p.kmer + 1) ≡ most_intervals n o.kmer
   rows = ap (λ (z : ℕ). (n + 1) / (z + 1)) k
 
   pub listed_free : {w : Workspace} (w' : Workspace) (m : ℕ) → n ≡ m → Freed p n w w' → Listed o m w w'

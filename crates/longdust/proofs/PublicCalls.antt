@@ -2,6 +2,7 @@
 use Rattle.std.proofs.Common.{◌≡◌, sym, ap, ◌∙◌, subst, List, Ok, ℕ, arith, length, take, drop, take_at, drop_at, Float}
 use Rattle.buffers.specs.Fill.{put}
 use Rattle.buffers.specs.Free.{Free}
+use Rattle.checks.proofs.Refusing.{counted, flagged}
 use Rattle.letters.specs.Code.{codes}
 use Rattle.letters.proofs.Codes.{codes_length}
 use Rattle.longdust.specs.declared.LongdustOptions.{LongdustOptions}
@@ -11,23 +12,28 @@ use Rattle.longdust.specs.Buffers.{Buffers, lengths}
 use Rattle.longdust.specs.Call.{Accepted, Answered}
 use Rattle.longdust.specs.Terms.Inner.{Admitted, Ran}
 
+-- A list of n entries over the front of d.
+module _ {A : Type 0} (xs d d' : List A) (n : ℕ) (e : d' ≡ put xs d) (size : length xs ≡ n) where
+  pub front_held : take n d' ≡ xs
+  front_held = ap (λ (z : List A). take n z) e ∙ take_at xs (drop (length xs) d) n size
+
+  pub front_free : length d' ≡ length d → Free n d d'
+  front_free long =
+      record {
+        long = long;
+        past = ap (λ (z : List A). drop n z) e ∙ drop_at xs (drop (length xs) d) n size ∙ ap (λ (m : ℕ). drop m d) size;
+      }
+
 -- The codes of s over the front of d.
 module _ (s d d' : List ℕ) (e : d' ≡ put (codes s) d) (long : length d' ≡ length d) where
   pub encoded : take (length s) d' ≡ codes s
-  encoded = ap (λ (z : List ℕ). take (length s) z) e ∙ take_at (codes s) (drop (length (codes s)) d) (length s) (codes_length s)
+  encoded = front_held (codes s) d d' (length s) e (codes_length s)
 
   pub encoded_length : length (take (length s) d') ≡ length s
   encoded_length = ap (λ (z : List ℕ). length z) encoded ∙ codes_length s
 
   pub encoded_free : Free (length s) d d'
-  encoded_free =
-      record {
-        long = long;
-        past =
-            ap (λ (z : List ℕ). drop (length s) z) e
-            ∙ drop_at (codes s) (drop (length (codes s)) d) (length s) (codes_length s)
-            ∙ ap (λ (n : ℕ). drop n d) (codes_length s);
-      }
+  encoded_free = front_free (codes s) d d' (length s) e (codes_length s) long
 
 -- The buffers with these tables and these codes.
 abbrev pub lending : Buffers → (ln f : List Float) → (cs : List ℕ) → Buffers
@@ -105,9 +111,12 @@ pub run_answered : (Tables : LongdustOptions → List ℕ → Buffers → Buffer
     (ln f : List Float) (cs d : List ℕ) → 0 ≡ refusal o s (lengths b) → Tables o s b (lending b' ln f d) → cs ≡ codes s
     → Free (length s) b.codes d → Ran o cs (lending b ln f cs) (lending b' ln f cs) a → Answered Tables o s b (lending b' ln f d) (Ok a)
 run_answered Tables o s b b' a ln f cs d z t e c p =
+    let x = accepted_as o s b (lending b' ln f cs) a ln f cs d c (p.accepted s e) in
     record {
       number = z;
+      count = counted (λ (y : Answer). y.count) (Ok a) _ z x.buffers.list.count_is;
+      flag = flagged (λ (y : Answer). y.in_range) (Ok a) _ z x.flag;
       refused = tt;
-      accepted = accepted_as o s b (lending b' ln f cs) a ln f cs d c (p.accepted s e);
+      accepted = x;
       tables = t;
     }

@@ -1,9 +1,9 @@
 -- The paper, 'Records' and 'Both strands': what the two calls answer and what they leave in the lent buffers.
-use Rattle.std.specs.Prelude.{◌≡◌, true, List, ℕ, ◌+◌, ◌^◌, length, take, Float, Result, OnOk, OnErr, IfOk}
+use Rattle.std.specs.Prelude.{◌≡◌, Bool, true, List, ℕ, ◌+◌, ◌^◌, length, take, Float, Result, OnOk, OnErr, IfOk}
 use Rattle.buffers.specs.Fill.{put}
 use Rattle.buffers.specs.Free.{Free}
 use Rattle.checks.specs.declared.refusal.Refusal.{Refusal}
-use Rattle.checks.specs.Refusal.{number_of}
+use Rattle.checks.specs.Refusal.{number_of, count_by, flag_by, count_unless, flag_unless}
 use Rattle.checks.specs.Tests.{most_intervals}
 use Rattle.letters.specs.Code.{codes}
 use Rattle.intervals.specs.declared.Interval.{Interval}
@@ -75,10 +75,19 @@ pub record Filled (o : LongdustOptions) (s : List ℕ) (b b' : Buffers) : Type 0
   pub ln : b'.ln ≡ put (ln_table o.window_size) b.ln
   pub f : b'.f ≡ put (f_table o.kmer o.window_size (density o.kmer o.gc (codes s))) b.f
 
+-- The count and the flag of an answer: count 0 and flag no for a refusal.
+abbrev pub mask_count : Result Answer Refusal → ℕ
+mask_count r = count_by (λ (a : Answer). a.count) r
+
+abbrev pub mask_flag : Result Answer Refusal → Bool
+mask_flag r = flag_by (λ (a : Answer). a.in_range) r
+
 -- What both calls answer; `Tables` says what the tables hold after acceptance. A refusal changes no buffer.
 pub record Answered (Tables : LongdustOptions → List ℕ → Buffers → Buffers → Type 0) (o : LongdustOptions) (s : List ℕ)
     (b b' : Buffers) (r : Result Answer Refusal) : Type 0 where
   pub number : number_of r ≡ refusal o s (lengths b)
+  pub count : mask_count r ≡ count_unless (refusal o s (lengths b)) (length (mask o s (ln_read o b') (f_read o b')))
+  pub flag : mask_flag r ≡ flag_unless (refusal o s (lengths b)) (in_range (setup o (ln_read o b') (f_read o b')))
   pub refused : OnErr r (b' ≡ b)
   pub accepted : IfOk r (Accepted o s b b')
   pub tables : OnOk r (Tables o s b b')

@@ -29,8 +29,9 @@ too_short_of n k w b =
     || ltb b.candidates w || ltb b.codes n || ltb b.reverse_codes n
     || ltb b.forward_list R || ltb b.reverse_list R || ltb b.list R || ltb b.marks R
 
-abbrev pub checks : LongdustOptions → List ℕ → Lent → List Check
-checks o s b =
+-- Where it is known whether one is.
+abbrev pub request_checks : LongdustOptions → List ℕ → Bool → List Check
+request_checks o s too_short =
     let n : ℕ = length s in
     let k : ℕ = o.kmer in
     let w : ℕ = o.window_size in
@@ -45,8 +46,11 @@ checks o s b =
     ∷ check 8 (min_start_below o.min_start_cnt)  -- min_start_cnt is below 2.
     ∷ check 9 (xdrop_bad o.xdrop)  -- xdrop is 0 (none passes).
     ∷ check 10 (too_many_letters n)  -- Added: n is above 2,147,483,647.
-    ∷ check 11 (too_short_of n k w b)  -- Added: a lent buffer is shorter than listed.
+    ∷ check 11 too_short  -- Added: a lent buffer is shorter than listed.
     ∷ []
+
+abbrev pub checks : LongdustOptions → List ℕ → Lent → List Check
+checks o s b = request_checks o s (too_short_of (length s) o.kmer o.window_size b)
 
 -- The number of the first check that fails; 0 if none does.
 abbrev pub refusal : LongdustOptions → List ℕ → Lent → ℕ

@@ -1,17 +1,22 @@
-// The public calls, on filled tables and with tables to fill: checks, flag, both strands, mask.
+// The public calls, on filled tables and with tables to fill: checks, flag, both strands, mask; one strand alone, and both lists joined; the tables alone.
 
 #![tactic(auto)]
 
 mod calls;
+mod one_strand;
 mod refusals;
 mod run;
 
 ghost use Rattle.std.specs.Prelude.{◌≡◌};
 ghost use Rattle.longdust.specs.Options.{defaults};
 
+pub use calls::fill_tables::fill_tables;
+pub use calls::merge_strands::merge_strands;
 pub use calls::process::process;
 pub use calls::process_in::process_in;
+pub use calls::process_strand::process_strand;
 pub use calls::process_tables::process_tables;
+pub use one_strand::StrandSpace;
 pub use refusals::xdrop_bad;
 use tables::GcOption;
 

@@ -1,7 +1,8 @@
 // The checks of a request, in the paper's order.
 
 ghost use Rattle.std.specs.Prelude.{◌≡◌};
-ghost use Rattle.longdust.specs.Checks.{gc_bad, xdrop_bad, too_short_of, refusal};
+ghost use Rattle.longdust.specs.Checks.{gc_bad, xdrop_bad, too_short_of, request_checks, refusal};
+ghost use Rattle.checks.specs.Checks.{first};
 ghost use Rattle.checks.specs.Refusal.{number_of};
 ghost use Rattle.longdust.specs.Buffers.{lent_by};
 
@@ -16,7 +17,7 @@ use mask::Workspace;
 use tables::GcOption;
 
 #[tactic(auto, unfolding(crate::specs::Checks::gc_bad))]
-fn gc_bad(gc: GcOption) -> bool
+pub fn gc_bad(gc: GcOption) -> bool
     ensures { result ≡ gc_bad gc }
 {
     matches!(gc, GcOption::Fixed(x) if !((0.0 <= x) & (x <= 1.0)))
@@ -67,14 +68,15 @@ pub fn lent(ln: usize, f: usize, codes: usize, work: &Workspace, out: &MarksOut)
     }
 }
 
-// The first check that fails.
-pub fn check(options: LongdustOptions, sequence: &[u8], lent: Lent) -> Result<(), Refusal>
-    ensures { number_of result ≡ refusal options sequence.now lent }
+// The first check that fails, where it is known whether a lent buffer is too short.
+pub fn check_request(
+    options: LongdustOptions,
+    sequence: &[u8],
+    too_short: bool,
+) -> Result<(), Refusal>
+    ensures { number_of result ≡ first (request_checks options sequence.now too_short) }
 {
-    let n = sequence.len();
-    let k = options.kmer;
-    let w = options.window_size;
-    check_sequence(sequence, k, w)?;
+    check_sequence(sequence, options.kmer, options.window_size)?;
     if threshold_bad(options.score_threshold) {
         return Err(Refusal::BadThreshold);
     }
@@ -87,11 +89,19 @@ pub fn check(options: LongdustOptions, sequence: &[u8], lent: Lent) -> Result<()
     if xdrop_bad(options.xdrop) {
         return Err(Refusal::BadXdrop);
     }
-    if too_many_letters(n) {
+    if too_many_letters(sequence.len()) {
         return Err(Refusal::TooManyLetters);
     }
-    if too_short(n, k, w, lent) {
+    if too_short {
         return Err(Refusal::ShortSlice);
     }
     Ok(())
+}
+
+// The first check of a masking call that fails.
+pub fn check(options: LongdustOptions, sequence: &[u8], lent: Lent) -> Result<(), Refusal>
+    ensures { number_of result ≡ refusal options sequence.now lent }
+{
+    let short = too_short(sequence.len(), options.kmer, options.window_size, lent);
+    check_request(options, sequence, short)
 }

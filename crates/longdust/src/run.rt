@@ -29,7 +29,7 @@ fn table_in_range(table: &[f64], w: usize, high: f64) -> bool
 
 // The flag.
 #[tactic(auto, unfolding(scans::specs::Range::in_range, crate::specs::Mask::setup))]
-fn in_range(options: LongdustOptions, ln: &[f64], f: &[f64]) -> bool
+pub fn in_range(options: LongdustOptions, ln: &[f64], f: &[f64]) -> bool
     requires { (options.window_size < length ln.now) × (options.window_size < length f.now) }
     ensures { result ≡ in_range (setup options ln.now f.now) }
 {
@@ -54,7 +54,7 @@ fn usual_tables(in_range: bool, n: usize, w: usize, ln: &[f64], f: &[f64]) -> bo
 
 // The numbers that a run over n letters goes by.
 // The tables come as two slices: of a slice it is known that its floats are of 64 bits, of `Tables` it is not.
-fn prepare(options: LongdustOptions, flag: bool, n: usize, ln: &[f64], f: &[f64]) -> Params
+pub fn prepare(options: LongdustOptions, flag: bool, n: usize, ln: &[f64], f: &[f64]) -> Params
     requires bounds { Bounds options }
     requires window_size_in_bounds { (options.window_size < length ln.now) × (options.window_size < length f.now) }
     requires in_range_value { flag ≡ in_range (setup options ln.now f.now) }

@@ -27,8 +27,9 @@ pub struct Workspace<'a> {
     pub reverse_list: &'a mut [Interval],
 }
 
-// The list of a strand of codes, in the front of `list`; returns how many intervals it has. The run gets the front of each buffer.
-fn strand_list(
+/// The list of a strand of codes, in its own positions, in the front of `list`; returns how many intervals it has.
+// The run gets the front of each buffer.
+pub fn strand_list(
     setup: &Setup,
     codes: &[u8],
     queue: &mut [u32],
