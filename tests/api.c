@@ -65,8 +65,8 @@ int main(void) {
        -11);
     is("longdust_masked_copy, Y", masked_copy(letters, 8, NULL, 0, 0, 'Y', NULL, 0), -12);
     is("longdust_questions, too many letters", questions(most + 1, NULL, 0, NULL, 0, NULL, 0, NULL, 0), -10);
-    is("longdust_join_tracks, too many letters",
-       join_tracks(0, most + 1, NULL, 0, NULL, 0, NULL, 0, NULL, 0, NULL, 0), -10);
+    is("longdust_join_tracks, too many letters", join_tracks(0, most + 1, NULL, 0, NULL, 0, NULL, 0, NULL, 0, NULL, 0),
+       -10);
     is("longdust_strongest_stretch, w = k",
        strongest_stretch(letters, 8, 7, 7, 0, 1, 1, NULL, 0, NULL, 0, NULL, 0, NULL, 0, &start, &score, &gap), -4);
     is("its three numbers", start == 0 && score == 0 && gap == 0, 1);
