@@ -10,8 +10,8 @@ use Rattle.floats.specs.Binary64.{one, zero64, tiny, slack}
 use Rattle.floats.proofs.Binary64.{one_eps, one_pos, near_self, near_sub, count_add}
 use Rattle.floats.proofs.Compare.{lt_value}
 use Rattle.floats.proofs.Range.{ranged_16}
-use Rattle.floats.proofs.Rounded.{Near, pos_part, eps, pos64, neg64, Ranged}
-use Rattle.floats.proofs.Sums.{err, zero_near}
+use Rattle.floats.specs.Terms.Rounded.{Near, pos_part, eps, pos64, neg64, Ranged, err}
+use Rattle.floats.proofs.Sums.{zero_near}
 use Rattle.floats.proofs.Tests.{le_near, lt_near, le_sure}
 use Rattle.letters.specs.Place.{Place, Below}
 use Rattle.scans.specs.Setup.{Setup, kmers}

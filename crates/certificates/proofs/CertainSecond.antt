@@ -7,8 +7,8 @@ use lib.Ieee.{binary64}
 use Rattle.floats.specs.Arithmetic.{◌⊕◌, ◌⊖◌}
 use Rattle.floats.specs.Binary64.{zero64}
 use Rattle.floats.proofs.Binary64.{near_as}
-use Rattle.floats.proofs.Sums.{err, After, after_start, after_step, after_score}
-use Rattle.floats.proofs.Rounded.{Near, pos64}
+use Rattle.floats.proofs.Sums.{after_start, after_step, after_score, after_shift}
+use Rattle.floats.specs.Terms.Rounded.{Near, pos64, err, After}
 use Rattle.letters.specs.Place.{Place, ambiguous, plain, BelowAt, Below}
 use Rattle.scans.specs.Setup.{Setup, ln_at, kmers}
 use Rattle.scans.specs.Counts.{count, raise, cleared}
@@ -26,10 +26,6 @@ use Rattle.scans.proofs.FloatScore.{newest_first, float_near}
 pub gain_reverse : (S : Setup) (q : List Place) → gain S (reverse q) ≡ gain S q
 unfolding gain
 gain_reverse S q = ap nat_abs (sums_same (ln_value S) q (reverse q) (kmers S) (λ x _. count_reverse x q))
-
--- P - N written otherwise.
-after_shift : {s : Float} {i P N : ℕ} (Q R : ℕ) → After i s P N → P + R ≡ Q + N → After i s Q R
-after_shift Q R a e = record { near = near_as a.near e (omega arith); high = omega (arith, a.high); low = omega (arith, a.low) }
 
 module _ (S : Setup) (R : InRange S) where
   abbrev t : Float

@@ -1,6 +1,6 @@
 -- Tables of the usual shape: f of a sum is at least the sum of the f (`f_adds`), up to 2^-31 for each place.
 use Rattle.std.proofs.Common.{◌≡◌, subst, ℕ, zero, suc, ◌+◌, ◌*◌, ◌≤◌, ◌<◌, arith}
-use Rattle.floats.proofs.Rounded.{pos64}
+use Rattle.floats.specs.Terms.Rounded.{pos64}
 use Rattle.scans.specs.Setup.{Setup, f_at}
 use Rattle.scans.specs.Terms.Units.{unevenness}
 use Rattle.scans.proofs.Shape.{UsualShape}

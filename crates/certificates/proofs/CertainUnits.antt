@@ -3,7 +3,7 @@
 use Rattle.std.proofs.Common.{◌≡◌, ℕ, ◌+◌, ◌-◌, ◌≤◌, ◌<◌, ◌⊎◌, List, length, take, drop}
 use lib.Ieee.{binary64}
 use Rattle.floats.specs.Value.{Finite}
-use Rattle.floats.proofs.Rounded.{pos64, neg64}
+use Rattle.floats.specs.Terms.Rounded.{pos64, neg64}
 use Rattle.letters.specs.Place.{Place}
 use Rattle.scans.specs.Setup.{Setup}
 use Rattle.scans.specs.Terms.Units.{margin, gain, loss}

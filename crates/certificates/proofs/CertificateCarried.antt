@@ -7,8 +7,8 @@ use Rattle.floats.specs.Arithmetic.{◌⊕◌, ◌⊖◌}
 use Rattle.floats.specs.Binary64.{one}
 use Rattle.floats.proofs.Binary64.{one_eps, near_self, count_add}
 use Rattle.floats.proofs.Compare.{le_self}
-use Rattle.floats.proofs.Rounded.{Near}
-use Rattle.floats.proofs.Sums.{err, zero_near}
+use Rattle.floats.specs.Terms.Rounded.{Near, err}
+use Rattle.floats.proofs.Sums.{zero_near}
 use Rattle.floats.proofs.Tests.{le_near}
 use Rattle.letters.specs.Place.{Place, Below}
 use Rattle.search.specs.declared.Carry.{Carry}

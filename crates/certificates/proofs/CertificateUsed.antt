@@ -1,7 +1,7 @@
 -- Tables in range and of the usual shape. While the float bounds of a start's certificate hold, what is left to know is that the forward scan from it is best at the newest place (`start_used`).
 use Rattle.std.proofs.Common.{◌≡◌, ℕ, ◌+◌, ◌*◌, ◌-◌, ◌≤◌, ◌<◌, arith, ◌⊎◌, inl, inr, List, length, take, drop, T, Float}
 use lib.Ieee.{lt, le, neg}
-use Rattle.floats.proofs.Rounded.{pos64, neg64}
+use Rattle.floats.specs.Terms.Rounded.{pos64, neg64}
 use Rattle.letters.specs.Place.{Place}
 use Rattle.scans.specs.Setup.{Setup}
 use Rattle.scans.specs.Terms.Units.{margin, distance, unevenness, gain, loss}

@@ -6,8 +6,7 @@ use Rattle.floats.specs.Arithmetic.{◌⊕◌, ◌⊖◌}
 use Rattle.floats.specs.Binary64.{one, zero64, two_to20}
 use Rattle.floats.proofs.Compare.{le_value, le_self}
 use Rattle.floats.proofs.Order.{le_trans, lt_le, lt_nle, lt_le_trans}
-use Rattle.floats.proofs.Rounded.{Near, pos64}
-use Rattle.floats.proofs.Sums.{err}
+use Rattle.floats.specs.Terms.Rounded.{Near, pos64, err}
 use Rattle.letters.specs.Place.{Place, ambiguous, Below}
 use Rattle.letters.specs.Terms.Entry.{decode}
 use Rattle.letters.proofs.Entries.{decode_plain}

@@ -9,8 +9,8 @@ use Rattle.floats.specs.Arithmetic.{◌⊕◌}
 use Rattle.floats.specs.Binary64.{one, zero64}
 use Rattle.floats.proofs.Binary64.{one_pos, near_self, near_add}
 use Rattle.floats.proofs.Compare.{lt_value}
-use Rattle.floats.proofs.Rounded.{Near, pos64, neg64}
-use Rattle.floats.proofs.Sums.{err, zero_near}
+use Rattle.floats.specs.Terms.Rounded.{Near, pos64, neg64, err}
+use Rattle.floats.proofs.Sums.{zero_near}
 use Rattle.floats.proofs.Tests.{le_near}
 use Rattle.letters.specs.Place.{Place, Below}
 use Rattle.certificates.specs.declared.LowStarts.{LowStarts}

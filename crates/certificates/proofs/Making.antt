@@ -9,8 +9,8 @@ use Rattle.floats.specs.Binary64.{one, zero64, two_to20}
 use Rattle.floats.proofs.Binary64.{one_eps, near_self, near_as, count_add, count_sub}
 use Rattle.floats.proofs.Compare.{lt_value}
 use Rattle.floats.proofs.Order.{lt_nle}
-use Rattle.floats.proofs.Rounded.{Near, Ranged, pos_part, neg_part, eps, pos64, neg64}
-use Rattle.floats.proofs.Sums.{After, after_as, after_start, after_step, after_score, err, zero_near, sum_join}
+use Rattle.floats.specs.Terms.Rounded.{Near, Ranged, pos_part, neg_part, eps, pos64, neg64, After, err}
+use Rattle.floats.proofs.Sums.{after_as, after_start, after_step, after_score, zero_near, sum_join}
 use Rattle.floats.proofs.Tests.{le_near, lt_near}
 use Rattle.letters.specs.Place.{Place, ambiguous, Below}
 use Rattle.certificates.specs.declared.certify.Reading.{Reading}

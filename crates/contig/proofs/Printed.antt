@@ -8,9 +8,9 @@ use Rattle.intervals.proofs.Shape.{ascending_inside, canonical_room}
 use Rattle.intervals.proofs.Order.{lt_or_le}
 use Rattle.report.specs.Letters.{letters_of}
 use Rattle.report.specs.declared.text.Text.{Text}
-use Rattle.report.specs.Terms.Held.{Held}
+use Rattle.report.specs.Held.{Held}
 use Rattle.report.specs.Text.{report, refusal_line, size_line}
-use Rattle.report.specs.Terms.Fits.{Fits}
+use Rattle.report.specs.Fits.{Fits}
 use Rattle.report.proofs.Decimal.{length_decimal}
 use Rattle.report.proofs.Lines.{length_report}
 use Rattle.report.proofs.Writing.{fits_as}

@@ -1,3 +1,3 @@
 pub mod Run
 pub mod Printed
-pub mod Terms
+pub mod Room

@@ -4,12 +4,12 @@
 
 ghost use Rattle.std.specs.Prelude.{◌≡◌, ℕ, ◌<◌, List, length, IfOk, OnOk, OnErr};
 ghost use Rattle.report.specs.Adds.{Adds};
-ghost use Rattle.report.specs.Terms.Held.{Held};
+ghost use Rattle.report.specs.Held.{Held};
 ghost use Rattle.checks.specs.Refusal.{number_of};
 ghost use Rattle.intervals.specs.Interval.{Canonical, Wrote};
 ghost use Rattle.contig.specs.Run.{most_letters, list_room, contig_refusal, contig_mask};
 ghost use Rattle.contig.specs.Printed.{printed, text_of};
-ghost use Rattle.contig.specs.Terms.Room.{AnswerFits};
+ghost use Rattle.contig.specs.Room.{AnswerFits};
 
 use checks::Refusal;
 use intervals::Interval;

@@ -2,7 +2,7 @@
 use Rattle.std.proofs.Common.{ℕ, ◌<◌, List, arith, length-append}
 use Rattle.intervals.specs.declared.Interval.{Interval}
 use Rattle.report.specs.declared.text.Text.{Text}
-use Rattle.report.specs.Terms.Fits.{Fits}
+use Rattle.report.specs.Fits.{Fits}
 use Rattle.report.proofs.Decimal.{length_decimal}
 use Rattle.contigs_text.specs.Text.{name_line, refused_line, too_long_line}
 use Rattle.contigs_text.specs.Terms.Room.{LineFits}

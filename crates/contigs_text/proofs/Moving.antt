@@ -10,7 +10,7 @@ use Rattle.fasta.specs.Steps.{bytes_of, Told}
 use Rattle.report.specs.Letters.{letters_of}
 use Rattle.report.specs.declared.text.Text.{Text}
 use Rattle.report.specs.Adds.{Adds}
-use Rattle.report.specs.Terms.Fits.{Fits}
+use Rattle.report.specs.Fits.{Fits}
 use Rattle.report.proofs.Writing.{added_length, next}
 use Rattle.contigs_text.specs.Text.{name_line, mask_lines, record_text, records_text}
 use Rattle.contigs_text.specs.Parts.{left, emptied, PartOf, Standing, steps, Moved}
@@ -132,11 +132,6 @@ pub record Going (file : List ℕ) (list₀ : List Interval) (p₀ : Place) (t�
   pub few : steps file p ≤ steps file p₀
   pub fewer : 0 < t.len → steps file p < steps file p₀
 
-pub go_first : (file : List ℕ) (list : List Interval) (p : Place) (t : Text) (h : 0 ≤ length t.bytes.now) → Standing list p
-    → Going file list p (emptied t) list (record { bytes = t.bytes; len = 0; len_in = h }) p
-go_first file list p t h s =
-    record { part = part_emptied t (part_none (left file list p) _); stands = s; few = omega arith; fewer = λ h. absurd (omega arith) }
-
 module _ {file : List ℕ} {list₀ : List Interval} {p₀ : Place} {t₀ : Text} {list : List Interval} {t : Text} {p : Place} (g : Going file list₀ p₀ t₀ list t p) where
   module _ {list' : List Interval} {t' : Text} where
     pub go_turn : {q : Place} → Moved file list p t list' t' (Some q) → Going file list₀ p₀ t₀ list' t' q
@@ -147,7 +142,3 @@ module _ {file : List ℕ} {list₀ : List Interval} {p₀ : Place} {t₀ : Text
           few = omega (arith, g.few, m.fewer);
           fewer = λ _. omega (arith, g.few, m.fewer);
         }
-
-  -- The text is full.
-  pub go_full : 0 < t.len → Moved file list₀ p₀ t₀ list t (Some p)
-  go_full h = record { part = g.part; stands = g.stands; fewer = omega (arith, g.fewer h) }

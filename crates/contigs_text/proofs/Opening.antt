@@ -8,8 +8,8 @@ use Rattle.fasta.specs.Contents.{Record}
 use Rattle.report.specs.Letters.{letters_of}
 use Rattle.report.specs.declared.text.Text.{Text}
 use Rattle.report.specs.Adds.{Adds}
-use Rattle.report.specs.Terms.Fits.{Fits}
-use Rattle.report.specs.Terms.Held.{Held}
+use Rattle.report.specs.Fits.{Fits}
+use Rattle.report.specs.Held.{Held}
 use Rattle.report.proofs.Writing.{none}
 use Rattle.contig.specs.Run.{contig_refusal, contig_mask}
 use Rattle.contigs_text.specs.Text.{mask_lines, refused_line, too_long_line, answered, record_text}

@@ -9,7 +9,7 @@ use Rattle.intervals.proofs.Order.{lt_or_le}
 use Rattle.fasta.specs.Contents.{contents_of, records_of, fault_of}
 use Rattle.report.specs.Text.{refusal_line, size_line}
 use Rattle.report.specs.declared.text.Text.{Text}
-use Rattle.report.specs.Terms.Fits.{Fits}
+use Rattle.report.specs.Fits.{Fits}
 use Rattle.report.proofs.Decimal.{length_decimal}
 use Rattle.contigs_text.specs.Text.{file_room, mask_lines, records_text, unless_fault, file_text}
 use Rattle.contigs_text.specs.Parts.{left}

@@ -6,7 +6,7 @@ use Rattle.fasta.specs.Contents.{contents_of, records_of}
 use Rattle.fasta.specs.Steps.{bytes_of}
 use Rattle.report.specs.declared.text.Text.{Text}
 use Rattle.report.specs.Adds.{Adds}
-use Rattle.report.specs.Terms.Fits.{Fits}
+use Rattle.report.specs.Fits.{Fits}
 use Rattle.contig.specs.Run.{list_room}
 use Rattle.contigs_text.specs.Text.{mask_lines, records_text}
 use Rattle.contigs_text.specs.declared.Place.{Place}

@@ -7,7 +7,7 @@ ghost use Rattle.std.specs.Io.KnownBytes.{Appends};
 ghost use Rattle.intervals.specs.declared.Interval.{Interval};
 ghost use Rattle.report.specs.Letters.{letters_of};
 ghost use Rattle.report.specs.Adds.{Adds};
-ghost use Rattle.report.specs.Terms.Fits.{Fits};
+ghost use Rattle.report.specs.Fits.{Fits};
 ghost use Rattle.contig.specs.Run.{list_room};
 ghost use Rattle.contigs_text.specs.Text.{most_bytes, name_line, mask_lines, refused_line, too_long_line, record_text, file_text};
 ghost use Rattle.contigs_text.specs.Parts.{text_room, emptied, left_if, PartOf, Standing, Moved};

@@ -8,7 +8,7 @@ use lib.Ieee.Scale.{grid}
 use Rattle.floats.specs.Value.{magnitude, Finite}
 use Rattle.floats.proofs.Value.{if_pos, if_neg, over_one, order, near_intro}
 use Rattle.floats.proofs.Rounding.{grid_near, grid_small, round_value, no_overflow}
-use Rattle.floats.proofs.Rounded.{pos_part, neg_part, Near}
+use Rattle.floats.specs.Terms.Rounded.{pos_part, neg_part, Near}
 
 -- ---- a number of W units, however it is written as a fraction and whatever its sign, rounds to one that is within E of it
 abbrev Rounds : Format → ℕ → ℕ → Type 0

@@ -5,7 +5,7 @@ use Rattle.std.proofs.Common.{◌≡◌, ℕ, ◌+◌, ◌*◌, ◌^◌, ◌<◌
 use lib.Ieee.{Float, binary64, add, sub, mul}
 use Rattle.floats.specs.Value.{sign, magnitude, Finite}
 use Rattle.floats.specs.Binary64.{one}
-use Rattle.floats.proofs.Rounded.{Near, eps, pos64, neg64}
+use Rattle.floats.specs.Terms.Rounded.{Near, eps, pos64, neg64}
 use Rattle.floats.proofs.Value.{if_pos, if_neg}
 use Rattle.floats.proofs.Arithmetic.{add_near, sub_near}
 use Rattle.floats.proofs.Sized.{Sized, sized_finite, sized_parts, big, small, top, mul_rounded}

@@ -7,7 +7,7 @@ use lib.Ieee.Scale.{finite}
 use lib.Ieee.Fits.{down_pos, and_i, and_l, and_r, eq→eqb}
 use Rattle.floats.specs.Value.{magnitude, sign, Finite}
 use Rattle.floats.proofs.Value.{if_pos, if_neg, over_one, order}
-use Rattle.floats.proofs.Rounded.{pos_part, neg_part}
+use Rattle.floats.specs.Terms.Rounded.{pos_part, neg_part}
 
 -- ---- ±a against ±b
 below_is : (s t : Bool) (a b : ℕ) → T (below s a t b) ↔ (if_pos s a + if_neg t b < if_pos t b + if_neg s a)

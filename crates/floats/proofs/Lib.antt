@@ -1,4 +1,3 @@
-pub mod Rounded
 pub mod Value
 pub mod Rounding
 pub mod Sized

@@ -6,7 +6,7 @@ use Rattle.floats.specs.Binary64.{one, zero64, sixteen, two_to20}
 use Rattle.floats.proofs.Compare.{le_value, finite_between, not_negative}
 use Rattle.floats.proofs.Sized.{Sized, sized_parts, number_sized}
 use Rattle.floats.proofs.Constants.{zero64_is, sixteen_is, two_to20_is}
-use Rattle.floats.proofs.Rounded.{pos64, neg64, Ranged}
+use Rattle.floats.specs.Terms.Rounded.{pos64, neg64, Ranged}
 
 pub zero_number : Sized false (0 * one) zero64
 zero_number = subst (λ (x : Float). Sized false (0 * one) x) (sym zero64_is) (number_sized 0 (lit< tt))

@@ -8,7 +8,7 @@ use lib.Ieee.Exact.{HasValue}
 use lib.Ieee.Scale.{grid, overflow}
 use Rattle.floats.specs.Value.{sign, magnitude, Finite}
 use Rattle.floats.specs.Binary64.{one, number}
-use Rattle.floats.proofs.Rounded.{pos_part, neg_part, eps, pos64, neg64}
+use Rattle.floats.specs.Terms.Rounded.{pos_part, neg_part, eps, pos64, neg64}
 use Rattle.floats.proofs.Value.{if_pos, if_neg, magnitude_whole, magnitude_of_value}
 use Rattle.floats.proofs.Rounding.{grid_near, grid_small, grid_exact, round_value, no_overflow}
 

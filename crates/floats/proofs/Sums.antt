@@ -7,14 +7,7 @@ use Rattle.floats.specs.Binary64.{one, number, zero64}
 use Rattle.floats.proofs.Sized.{sized_parts, number_sized}
 use Rattle.floats.proofs.Binary64.{one_eps, mul_int64, near_self, near_as, near_add, near_sub, count_add, count_sub}
 use Rattle.floats.proofs.Range.{zero_number}
-use Rattle.floats.proofs.Rounded.{Near, eps, pos64, Ranged}
-
--- ---- i * 2 ^ -33, for i steps of two roundings each, and 2 ^ -34, for one rounding
-abbrev pub err : ℕ → ℕ
-err i = i * (2097152 * eps)
-
-abbrev pub half : ℕ
-half = 1048576 * eps
+use Rattle.floats.specs.Terms.Rounded.{Near, eps, pos64, Ranged, err, half, After}
 
 pub err_small : (i : ℕ) → i ≤ 2147483648 → err i + half ≤ one
 err_small i h = let e : i * eps ≤ 2147483648 * eps = mul-le-mul_right eps h in omega (arith, one_eps)
@@ -29,14 +22,13 @@ zero_near = let z = zero_number in let p = sized_parts z in near_as (near_self z
 pub zero_ranged : (B : ℕ) → Ranged B zero64
 zero_ranged B = let z = zero_number in let p = sized_parts z in record { ok = z.ok; high = omega arith; low = p.1 }
 
--- ---- the scans: after i places s is within i * 2 ^ -33 of the exact sum P - N, which is at most i * 16 in size
-pub record After (i : ℕ) (s : Float) (P N : ℕ) : Type 0 where
-  pub near : Near binary64 s P N (err i)
-  pub high : P ≤ N + i * (16 * one)
-  pub low : N ≤ P + i * (16 * one)
-
+-- ---- the scans: a sum after some places
 pub after_as : {s : Float} {i P N j Q R : ℕ} → After i s P N → i ≡ j → P ≡ Q → N ≡ R → After j s Q R
 after_as h a b c = rw (← a, ← b, ← c) h
+
+-- P - N written otherwise.
+pub after_shift : {s : Float} {i P N : ℕ} (Q R : ℕ) → After i s P N → P + R ≡ Q + N → After i s Q R
+after_shift Q R a e = record { near = near_as a.near e (omega arith); high = omega (arith, a.high); low = omega (arith, a.low) }
 
 pub after_start : After 0 zero64 0 0
 after_start = record { near = near_as zero_near (omega arith) (omega arith); high = omega arith; low = omega arith }

@@ -3,7 +3,7 @@
 use Rattle.std.proofs.Common.{ℕ, ◌+◌, ◌<◌, ◌≤◌, T, arith}
 use lib.Ieee.{Float, Format, lt, le}
 use Rattle.floats.proofs.Compare.{lt_value, le_value}
-use Rattle.floats.proofs.Rounded.{Near}
+use Rattle.floats.specs.Terms.Rounded.{Near}
 
 module _ {f : Format} {x y : Float} {P N E Q R F : ℕ} (X : Near f x P N E) (Y : Near f y Q R F) where
   pub le_near : T (le x y) → P + R ≤ Q + N + (E + F)

@@ -9,7 +9,7 @@ use lib.Ieee.Fits.{and_l, and_r, down_pos}
 use lib.Ieee.Exact.{HasValue}
 use lib.Ieee.Scale.{finite}
 use Rattle.floats.specs.Value.{sign, magnitude}
-use Rattle.floats.proofs.Rounded.{pos_part, neg_part, Near}
+use Rattle.floats.specs.Terms.Rounded.{pos_part, neg_part, Near}
 
 -- the parts of a number of size g, by its sign
 abbrev pub if_pos : Bool → ℕ → ℕ

@@ -7,7 +7,7 @@ use borrow.Author.Tests.{lt-leb}
 use lib.Ieee.{Float, Format}
 use Rattle.floats.specs.Value.{magnitude, sign, value}
 use Rattle.floats.proofs.Value.{if_pos, if_neg}
-use Rattle.floats.proofs.Rounded.{pos_part, neg_part}
+use Rattle.floats.specs.Terms.Rounded.{pos_part, neg_part}
 
 -- z is a - b
 abbrev pub Is : ℤ → ℕ → ℕ → Type 0

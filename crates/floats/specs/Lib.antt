@@ -1,3 +1,4 @@
 pub mod Value
 pub mod Arithmetic
 pub mod Binary64
+pub mod Terms

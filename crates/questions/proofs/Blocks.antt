@@ -1,15 +1,14 @@
 -- Blocks of 1,024 letters: their sum, a range made up of them and its two ends, and the loop that writes them.
-use Rattle.std.proofs.Common.{ℕ, zero, suc, ◌+◌, ◌-◌, ◌*◌, ◌/◌, ◌≤◌, ◌<◌, ◌≡◌, sym, ap, ap₂, ◌∙◌, List, ⊎_elim, arith, length, get_or, take, drop, set, drop-cons, take_all, min, ◌%◌}
+use Rattle.std.proofs.Common.{ℕ, zero, suc, ◌+◌, ◌-◌, ◌*◌, ◌/◌, ◌≤◌, ◌<◌, ◌≡◌, sym, ap, ap₂, ◌∙◌, List, ⊎_elim, arith, length, get_or, take, drop, set, drop-cons, min, ◌%◌}
 use Rattle.std.specs.List.{sum}
 use Rattle.std.proofs.lemmas.List.Sums.{sum_by-cons}
-use Rattle.buffers.proofs.Tabulate.{tabulate_length, tabulate_at, Tabulates, tabulate_start, tabulate_turn}
+use Rattle.buffers.proofs.Tabulate.{Tabulates, tabulate_start, tabulate_turn}
 use Rattle.intervals.specs.declared.Interval.{Interval}
-use Rattle.intervals.specs.Interval.{Canonical, covered_in}
-use Rattle.intervals.proofs.Shape.{covers_below}
+use Rattle.intervals.specs.Interval.{covered_in}
 use Rattle.intervals.proofs.Order.{lt_or_le}
-use Rattle.intervals.proofs.Counted.{covered_empty, covered_none, covered_split, covered_at_most}
-use Rattle.questions.specs.Batch.{blocks, block, summary_of}
-use Rattle.questions.specs.Usual.{Usual}
+use Rattle.intervals.proofs.Counted.{covered_empty, covered_split, covered_at_most}
+use Rattle.questions.specs.Batch.{block}
+use Rattle.questions.specs.Usual.{UsualKind}
 use Rattle.intervals.specs.Terms.Leading.{ends_by}
 use Rattle.questions.specs.Terms.Found.{first_past, IsFirstPast, Summed}
 use Rattle.questions.specs.Terms.Walked.{Walks}
@@ -17,7 +16,7 @@ use Rattle.questions.specs.declared.Walked.{Walked}
 use Rattle.questions.proofs.Ordered.{nonempty_at}
 use Rattle.questions.proofs.Searching.{of_test, leading_le, past_yes}
 
-total_blocks : (is : List Interval) (s : List ℕ) (f m : ℕ) → f + m ≤ length s → ((j : ℕ) → j < f + m → get_or s j 0 ≡ block is j)
+pub total_blocks : (is : List Interval) (s : List ℕ) (f m : ℕ) → f + m ≤ length s → ((j : ℕ) → j < f + m → get_or s j 0 ≡ block is j)
     → sum (take m (drop f s)) ≡ covered_in is (1024 * f) (1024 * (f + m))
 total_blocks is s f zero h e = sym (covered_empty is (1024 * f) (1024 * (f + 0)) (omega arith))
 total_blocks is s f (suc m) h e =
@@ -27,18 +26,6 @@ total_blocks is s f (suc m) h e =
     ∙ ap₂ (λ (x y : ℕ). covered_in is (1024 * f) (1024 * (f + 1)) + covered_in is x y) (let q : 1024 * suc f ≡ 1024 * (f + 1) = omega arith in q)
     (let q : 1024 * (suc f + m) ≡ 1024 * (f + suc m) = omega arith in q)
     ∙ sym (covered_split is (1024 * f) (1024 * (f + 1)) (1024 * (f + suc m)) (omega arith) (omega arith))
-
--- The sum of the summary is the number of masked letters.
-pub summary_total : (n : ℕ) (is : List Interval) → Canonical n 1 is → sum (summary_of n is) ≡ covered_in is 0 n
-summary_total n is c =
-    let long = tabulate_length (block is) (blocks n) in
-    ap sum (sym (take_all (blocks n) (summary_of n is) (omega arith)))
-    ∙ total_blocks is (summary_of n is) 0 (blocks n) (omega arith) (λ j l. tabulate_at (block is) (blocks n) j 0 (omega arith))
-    ∙ ap (λ (x : ℕ). covered_in is (1024 * 0) x) (let q : 1024 * (0 + blocks n) ≡ 1024 * blocks n = omega arith in q)
-    ∙ covered_split is 0 n (1024 * blocks n) (omega arith) (omega arith)
-    ∙ (let z : covered_in is n (1024 * blocks n) ≡ 0 =
-    covered_none is n (1024 * blocks n) (λ x l m o. let b = covers_below n 1 x 0 is c o in omega arith) in
-    omega arith)
 
 -- A range in three parts: up to block f, the blocks f to l - 1 from the summary, and from block l on.
 module _ (is : List Interval) (s : List ℕ) (a b : ℕ) (y : Summed is s b) where
@@ -81,7 +68,7 @@ pub record Summing (ps : List Interval) (d : List ℕ) (next j : ℕ) (l : List 
   pub fills : Tabulates (block ps) d (length d) j l
 
 module _ (ps : List Interval) (d : List ℕ) where
-  pub summing_start : Usual ps → Summing ps d 0 0 d
+  pub summing_start : UsualKind ps → Summing ps d 0 0 d
   summing_start u =
       record {
         onward = record { index = sym none_yet; inside = omega arith; small = omega arith };

@@ -3,8 +3,8 @@ use Rattle.std.proofs.Common.{ℕ, zero, suc, ◌+◌, ◌-◌, ◌≤◌, ◌<�
 use borrow.Author.Tests.{leb-true, leb-false}
 use Rattle.intervals.specs.declared.Interval.{Interval}
 use Rattle.intervals.proofs.Order.{lt_or_le}
-use Rattle.questions.specs.Answers.{answer, between, nearest_index, nearest}
-use Rattle.questions.specs.Usual.{Usual}
+use Rattle.questions.specs.Answers.{answer, letters_between, nearest_index, nearest}
+use Rattle.questions.specs.Usual.{UsualKind}
 use Rattle.questions.specs.Promised.{distance, Nearest}
 use Rattle.intervals.specs.Terms.Leading.{ends_by}
 use Rattle.questions.specs.Terms.Found.{first_past}
@@ -12,7 +12,7 @@ use Rattle.questions.proofs.Ordered.{at, nonempty_at, apart_at}
 use Rattle.questions.proofs.Searching.{leading_le, past_yes, past_no}
 
 module _ (x : ℕ) where
-  first_nearest : (i : Interval) (is : List Interval) (k : ℕ) → Nearest x is k → between x i ≤ distance x is k → Nearest x (i ∷ is) 0
+  first_nearest : (i : Interval) (is : List Interval) (k : ℕ) → Nearest x is k → letters_between x i ≤ distance x is k → Nearest x (i ∷ is) 0
   first_nearest i is k n h =
       record {
         inside = omega arith;
@@ -20,11 +20,11 @@ module _ (x : ℕ) where
         leftmost = λ j l. absurd (let b : ⊥ = omega arith in b);
       }
     where
-      least : (j : ℕ) → j < suc (length is) → between x i ≤ distance x (i ∷ is) j
+      least : (j : ℕ) → j < suc (length is) → letters_between x i ≤ distance x (i ∷ is) j
       least zero l = omega arith
       least (suc j) l = let e = n.least j (omega arith) in omega arith
 
-  later_nearest : (i : Interval) (is : List Interval) (k : ℕ) → Nearest x is k → distance x is k < between x i → Nearest x (i ∷ is) (suc k)
+  later_nearest : (i : Interval) (is : List Interval) (k : ℕ) → Nearest x is k → distance x is k < letters_between x i → Nearest x (i ∷ is) (suc k)
   later_nearest i is k n h =
       record { inside = let l = n.inside in omega arith; least = λ j l. least j l; leftmost = λ j l. leftmost j l }
     where
@@ -45,12 +45,12 @@ module _ (x : ℕ) where
         leftmost = λ j l. absurd (let b : ⊥ = omega arith in b);
       }
     where
-      only : (j : ℕ) → j < 1 → between x i ≤ distance x (i ∷ []) j
+      only : (j : ℕ) → j < 1 → letters_between x i ≤ distance x (i ∷ []) j
       only zero l = omega arith
       only (suc j) l = absurd (let b : ⊥ = omega arith in b)
-  index_nearest i (j ∷ is) = go (leb (between x i) (distance x (j ∷ is) (nearest_index x j is))) refl (index_nearest j is)
+  index_nearest i (j ∷ is) = go (leb (letters_between x i) (distance x (j ∷ is) (nearest_index x j is))) refl (index_nearest j is)
     where
-      go : (b : Bool) → leb (between x i) (distance x (j ∷ is) (nearest_index x j is)) ≡ b → Nearest x (j ∷ is) (nearest_index x j is)
+      go : (b : Bool) → leb (letters_between x i) (distance x (j ∷ is) (nearest_index x j is)) ≡ b → Nearest x (j ∷ is) (nearest_index x j is)
           → Nearest x (i ∷ j ∷ is) (cond b 0 (suc (nearest_index x j is)))
       go true e n = first_nearest i (j ∷ is) (nearest_index x j is) n (leb-true _ _ e)
       go false e n = later_nearest i (j ∷ is) (nearest_index x j is) n (leb-false _ _ e)
@@ -68,7 +68,7 @@ module _ (x : ℕ) where
       ap (λ (j : ℕ). answer j (distance x (i ∷ is) j)) (nearest_unique (i ∷ is) (nearest_index x i is) k (index_nearest i is) n)
 
 -- In a list of the usual kind: either the last that ends at x or before, or the first whose end lies past x.
-module _ (is : List Interval) (x : ℕ) (u : Usual is) where
+module _ (is : List Interval) (x : ℕ) (u : UsualKind is) where
   abbrev P : ℕ
   P = first_past is x
 

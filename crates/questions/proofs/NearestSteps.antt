@@ -3,7 +3,7 @@ use Rattle.std.proofs.Common.{ℕ, ◌+◌, ◌-◌, ◌≤◌, ◌<◌, ◌≡�
 use Rattle.intervals.specs.declared.Interval.{Interval}
 use Rattle.intervals.specs.Interval.{interval}
 use Rattle.questions.specs.Answers.{answer, none, nearest}
-use Rattle.questions.specs.Usual.{Usual}
+use Rattle.questions.specs.Usual.{UsualKind}
 use Rattle.questions.specs.Promised.{distance}
 use Rattle.questions.specs.Terms.Found.{first_past, IsFirstPast}
 use Rattle.questions.proofs.Searching.{of_test, past_yes}
@@ -14,7 +14,7 @@ unfolding nearest
 no_interval [] x h = refl
 no_interval (p ∷ ps) x h = absurd (let b : ⊥ = omega arith in b)
 
-module _ (ps : List Interval) (x : ℕ) (u : Usual ps) {j : ℕ} (f : IsFirstPast ps x j) where
+module _ (ps : List Interval) (x : ℕ) (u : UsualKind ps) {j : ℕ} (f : IsFirstPast ps x j) where
   abbrev start_at : ℕ → ℕ
   start_at k = (get_or ps k (interval 0 0)).start
 

@@ -2,13 +2,13 @@
 use Rattle.std.proofs.Common.{ℕ, ◌-◌, ◌≤◌, ◌<◌, ◌≡◌, sym, ap, ap₂, ◌∙◌, List, [], ◌∷◌, inl, inr, arith}
 use Rattle.intervals.specs.declared.Interval.{Interval}
 use Rattle.questions.specs.Answers.{answer, none, first_and_count, all_that, within, partly}
-use Rattle.questions.specs.Usual.{Usual}
+use Rattle.questions.specs.Usual.{UsualKind}
 use Rattle.questions.specs.Promised.{consecutive}
 use Rattle.questions.specs.Terms.Found.{first_past, first_from}
 use Rattle.questions.proofs.Searching.{of_test}
 use Rattle.questions.proofs.Ranges.{within_run, partly_left, partly_right, partly_none, partly_two, run_some, run_none}
 
-module _ (ps : List Interval) (u : Usual ps) where
+module _ (ps : List Interval) (u : UsualKind ps) where
   abbrev is : List Interval
   is = ps
 

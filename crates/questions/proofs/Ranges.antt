@@ -5,7 +5,7 @@ use Rattle.intervals.specs.declared.Interval.{Interval}
 use Rattle.intervals.proofs.Counted.{and_agrees, leb_agrees, ltb_agrees}
 use Rattle.intervals.proofs.Order.{lt_or_le}
 use Rattle.questions.specs.Answers.{answer, none, indices, first_and_count, all_that, within, inside, partly}
-use Rattle.questions.specs.Usual.{Usual}
+use Rattle.questions.specs.Usual.{UsualKind}
 use Rattle.questions.specs.Promised.{consecutive, over_ends}
 use Rattle.intervals.specs.Terms.Leading.{ends_by}
 use Rattle.questions.specs.Terms.Found.{begins_before, first_past, first_from}
@@ -46,7 +46,7 @@ Ends js m = ((first_and_count js).second ≤ 2) × (js ≡ over_ends ((first_and
 ends_two : (j k m : ℕ) → k ≡ j + m + 1 → Ends (j ∷ k ∷ []) m
 ends_two j k m e = (omega arith, ap (λ (x : ℕ). j ∷ x ∷ []) e)
 
-module _ (is : List Interval) (u : Usual is) where
+module _ (is : List Interval) (u : UsualKind is) where
   abbrev N : ℕ
   N = 2147483647
 

@@ -8,7 +8,7 @@ use Rattle.intervals.specs.Interval.{interval, usual}
 use Rattle.intervals.proofs.Order.{lt_or_le}
 use Rattle.intervals.proofs.Shape.{canonical_size}
 use Rattle.intervals.proofs.Usual.{usual_agrees}
-use Rattle.questions.specs.Usual.{Usual}
+use Rattle.questions.specs.Usual.{UsualKind}
 use Rattle.intervals.specs.Terms.Leading.{leading, ends_by}
 use Rattle.questions.specs.Terms.Found.{begins_before, first_past, first_from, IsFirstPast}
 use Rattle.questions.proofs.Ordered.{at, nonempty_at, apart_at}
@@ -44,7 +44,7 @@ module _ (p : Interval → Bool) where
       go true e l ih = ih (omega arith)
       go false e l ih = e
 
-module _ (is : List Interval) (x : ℕ) (u : Usual is) where
+module _ (is : List Interval) (x : ℕ) (u : UsualKind is) where
   pub past_yes : (k : ℕ) → k < first_past is x → (at is k).end ≤ x
   past_yes k h = leb-true (at is k).end x (leading_yes (ends_by x) is k h)
 
@@ -66,11 +66,11 @@ module _ (is : List Interval) (x : ℕ) (u : Usual is) where
       ⊎_elim (λ (q : F ≡ k). subst (λ (j : ℕ). x ≤ (at is j).start) q e) (λ q. omega (arith, apart_at 2147483647 0 is F k u q l)) (eq-or-lt_of_le h)
 
 -- A list that passed the test is of the usual kind.
-pub of_test : (is : List Interval) → usual 2147483647 is ≡ true → Usual is
+pub of_test : (is : List Interval) → usual 2147483647 is ≡ true → UsualKind is
 of_test is h = (usual_agrees 2147483647 is).0 h
 
 -- A list of the usual kind has few enough intervals for an index of 32 bits.
-pub usual_few : (ps : List Interval) → Usual ps → length ps ≤ 1073741824
+pub usual_few : (ps : List Interval) → UsualKind ps → length ps ≤ 1073741824
 usual_few ps u = omega (arith, canonical_size 2147483647 1 ps u)
 
 -- Where the intervals that pass a test stand before the others, the others begin after the leading ones.
@@ -83,7 +83,7 @@ leading_found p is i h f =
     let above : F < i → ⊥ = λ l. true≢false (sym (f.0 F (interval 0 0) (omega arith) l) ∙ leading_no p is (omega arith)) in
     ⊎_elim (λ l. absurd (below l)) (λ l. ⊎_elim (λ (q : F ≡ i). sym q) (λ q. absurd (above q)) (eq-or-lt_of_le l)) (lt_or_le i F)
 
-module _ (is : List Interval) (x : ℕ) (u : Usual is) where
+module _ (is : List Interval) (x : ℕ) (u : UsualKind is) where
   -- A later interval begins and ends later.
   later : (i j : ℕ) → i ≤ j → j < length is → ((at is i).start ≤ (at is j).start) × ((at is i).end ≤ (at is j).end)
   later i j h l =

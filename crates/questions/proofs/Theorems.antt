@@ -1,22 +1,24 @@
 -- L8's promises of the answers, in its words; that the code gives these answers is the contract of `answer_questions`.
-use Rattle.std.proofs.Common.{ℕ, ◌+◌, ◌-◌, ◌*◌, ◌≤◌, ◌<◌, max, ◌≡◌, refl, sym, ap, ◌∙◌, true, List, [], ◌∷◌, ◌⊎◌, inl, inr, ⊎_elim, ◌↔◌, arith, ltb, length}
+use Rattle.std.proofs.Common.{ℕ, ◌+◌, ◌-◌, ◌*◌, ◌≤◌, ◌<◌, max, ◌≡◌, refl, sym, ap, ◌∙◌, true, List, [], ◌∷◌, ◌⊎◌, inl, inr, ⊎_elim, ◌↔◌, arith, ltb, length, take_all}
 use Rattle.intervals.specs.declared.Interval.{Interval}
 use Rattle.intervals.specs.Interval.{Holds, Canonical, covered_in}
 use Rattle.intervals.proofs.Order.{lt_or_le}
-use Rattle.intervals.proofs.Counted.{and_agrees, ltb_agrees}
-use Rattle.questions.specs.Answers.{between, nearest, indices, first_and_count, all_that, within, inside, partly, share}
-use Rattle.questions.specs.Batch.{summary_of}
+use Rattle.buffers.proofs.Tabulate.{tabulate_length, tabulate_at}
+use Rattle.intervals.proofs.Shape.{covers_below}
+use Rattle.intervals.proofs.Counted.{and_agrees, ltb_agrees, covered_none, covered_split}
+use Rattle.questions.specs.Answers.{letters_between, nearest, indices, first_and_count, all_that, within, inside, partly, share}
+use Rattle.questions.specs.Batch.{blocks, block, summary_of}
 use Rattle.std.specs.List.{sum}
-use Rattle.questions.specs.Usual.{Usual}
+use Rattle.questions.specs.Usual.{UsualKind}
 use Rattle.questions.specs.Promised.{Some, consecutive, distance, Nearest, over_ends}
 use Rattle.questions.specs.Terms.Found.{first_past, first_from}
 use Rattle.questions.proofs.Nearest.{index_nearest}
 use Rattle.questions.proofs.Ranges.{within_run, run_named, partly_ends}
-use Rattle.questions.proofs.Blocks.{summary_total}
+use Rattle.questions.proofs.Blocks.{total_blocks}
 use Rattle.questions.proofs.Share.{share_whole, share_remainder}
 
 -- The letters between are 0 when the interval covers x or is adjacent, and only then.
-pub between_none : (x : ℕ) (i : Interval) → i.start < i.end → (between x i ≡ 0) ↔ (Holds i x ⊎ ((x + 1 ≡ i.start) ⊎ (x ≡ i.end)))
+pub between_none : (x : ℕ) (i : Interval) → i.start < i.end → (letters_between x i ≡ 0) ↔ (Holds i x ⊎ ((x + 1 ≡ i.start) ⊎ (x ≡ i.end)))
 between_none x i h = (
   (λ e.
       ⊎_elim (λ l. inr (inl (omega arith)))
@@ -55,7 +57,7 @@ partly_law a b i =
     )
 
 -- Consecutive: first index and how many name all intervals within.
-pub within_law : (a b : ℕ) (is : List Interval) → Usual is
+pub within_law : (a b : ℕ) (is : List Interval) → UsualKind is
     → indices (within a b) 0 is ≡ consecutive ((all_that (within a b) is).first) ((all_that (within a b) is).second)
 within_law a b is u =
     let e = within_run is u a b in
@@ -64,7 +66,7 @@ within_law a b is u =
     ∙ ap (λ (l : List ℕ). consecutive (first_and_count l).first (first_and_count l).second) (sym e)
 
 -- At most two have letters both inside and outside: first index and how many name them all, the second of two being the next after the first and all those wholly within.
-pub partly_ends_law : (a b : ℕ) (is : List Interval) → Usual is → a < b
+pub partly_ends_law : (a b : ℕ) (is : List Interval) → UsualKind is → a < b
     → ((all_that (partly a b) is).second ≤ 2)
     × (indices (partly a b) 0 is ≡ over_ends ((all_that (partly a b) is).second) ((all_that (partly a b) is).first) ((all_that (within a b) is).second))
 partly_ends_law a b is u h = partly_ends is u a b h
@@ -76,4 +78,12 @@ share_law a b is h = (share_whole is a b h, share_remainder is a b h)
 
 -- The sum of the summary is the number of masked letters.
 pub summary_law : (n : ℕ) (is : List Interval) → Canonical n 1 is → sum (summary_of n is) ≡ covered_in is 0 n
-summary_law n is c = summary_total n is c
+summary_law n is c =
+    let long = tabulate_length (block is) (blocks n) in
+    ap sum (sym (take_all (blocks n) (summary_of n is) (omega arith)))
+    ∙ total_blocks is (summary_of n is) 0 (blocks n) (omega arith) (λ j l. tabulate_at (block is) (blocks n) j 0 (omega arith))
+    ∙ ap (λ (x : ℕ). covered_in is (1024 * 0) x) (let q : 1024 * (0 + blocks n) ≡ 1024 * blocks n = omega arith in q)
+    ∙ covered_split is 0 n (1024 * blocks n) (omega arith) (omega arith)
+    ∙ (let z : covered_in is n (1024 * blocks n) ≡ 0 =
+    covered_none is n (1024 * blocks n) (λ x l m o. let b = covers_below n 1 x 0 is c o in omega arith) in
+    omega arith)

@@ -5,7 +5,7 @@ use Rattle.intervals.specs.Interval.{interval, covered_in}
 use Rattle.intervals.proofs.Order.{lt_or_le}
 use Rattle.intervals.proofs.Counted.{covered_at_most}
 use Rattle.questions.specs.Answers.{inside}
-use Rattle.questions.specs.Usual.{Usual}
+use Rattle.questions.specs.Usual.{UsualKind}
 use Rattle.intervals.specs.Terms.Leading.{ends_by}
 use Rattle.questions.specs.Terms.Found.{first_past, IsFirstPast}
 use Rattle.questions.specs.Terms.Walked.{Walks}
@@ -20,7 +20,7 @@ pub record Walking (ps : List Interval) (a b k letters : ℕ) : Type 0 where
   pub passed : k ≤ first_past ps b
   pub rest : letters + covered_in (drop k ps) a b ≡ covered_in ps a b
 
-module _ (ps : List Interval) (u : Usual ps) (a b : ℕ) where
+module _ (ps : List Interval) (u : UsualKind ps) (a b : ℕ) where
   abbrev is : List Interval
   is = ps
 

@@ -12,22 +12,22 @@ abbrev pub none : Answer
 none = answer 4294967295 0
 
 -- The letters between letter x and an interval: 0 when it covers x or is adjacent.
-abbrev pub between : ℕ → Interval → ℕ
-between x i = (i.start - (x + 1)) + (x - i.end)
+abbrev pub letters_between : ℕ → Interval → ℕ
+letters_between x i = (i.start - (x + 1)) + (x - i.end)
 
 -- The index of the nearest to x in a list that begins with i: that of i, unless one after it is nearer.
 unfoldable pub nearest_index : ℕ → Interval → List Interval → ℕ
 nearest_index x i [] = 0
 nearest_index x i (j ∷ is) =
     let k = nearest_index x j is in
-    cond (leb (between x i) (between x (get_or (j ∷ is) k (interval 0 0)))) 0 (suc k)
+    cond (leb (letters_between x i) (letters_between x (get_or (j ∷ is) k (interval 0 0)))) 0 (suc k)
 
 -- Nearest: its index and the letters between; of equal distances the left one.
 unfoldable pub nearest : ℕ → List Interval → Answer
 nearest x [] = none
 nearest x (i ∷ is) =
     let k = nearest_index x i is in
-    answer k (between x (get_or (i ∷ is) k (interval 0 0)))
+    answer k (letters_between x (get_or (i ∷ is) k (interval 0 0)))
 
 -- The indices of the intervals that pass a test, where the list's first has index j.
 unfoldable pub indices : (Interval → Bool) → ℕ → List Interval → List ℕ

@@ -3,10 +3,10 @@ use Rattle.std.specs.Prelude.{ℕ, zero, suc, ◌+◌, ◌≤◌, ◌<◌, List,
 use Rattle.buffers.specs.Fill.{tabulate_from}
 use Rattle.intervals.specs.declared.Interval.{Interval}
 use Rattle.intervals.specs.Interval.{interval}
-use Rattle.questions.specs.Answers.{between}
+use Rattle.questions.specs.Answers.{letters_between}
 
 abbrev pub distance : ℕ → List Interval → ℕ → ℕ
-distance x is k = between x (get_or is k (interval 0 0))
+distance x is k = letters_between x (get_or is k (interval 0 0))
 
 -- No interval of the list is nearer to x than that at k, and none as near stands left of it.
 pub record Nearest (x : ℕ) (is : List Interval) (k : ℕ) : Type 0 where

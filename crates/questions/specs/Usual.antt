@@ -3,5 +3,5 @@ use Rattle.std.specs.Prelude.{List}
 use Rattle.intervals.specs.declared.Interval.{Interval}
 use Rattle.intervals.specs.Interval.{Canonical}
 
-abbrev pub Usual : List Interval → Type 0
-Usual is = Canonical 2147483647 1 is
+abbrev pub UsualKind : List Interval → Type 0
+UsualKind is = Canonical 2147483647 1 is

@@ -4,7 +4,7 @@ use lib.Seq.{take-nil}
 use borrow.Author.Tests.{eq-eqb, ne_eqb}
 use Rattle.report.specs.Letters.{letters_of}
 use Rattle.report.specs.Written.{Written}
-use Rattle.report.specs.Terms.Held.{fitting, Held}
+use Rattle.report.specs.Held.{fitting, Held}
 use Rattle.report.proofs.Writing.{take_written, written_by}
 
 fitting_none : (d : List ℕ) (from : ℕ) → fitting [] d from ≡ []

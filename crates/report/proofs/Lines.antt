@@ -6,7 +6,7 @@ use Rattle.intervals.specs.Terms.Bounds.{Inside}
 use Rattle.report.specs.Text.{line, lines, report}
 use Rattle.report.specs.declared.text.Text.{Text}
 use Rattle.report.specs.Adds.{Adds}
-use Rattle.report.specs.Terms.Fits.{Fits}
+use Rattle.report.specs.Fits.{Fits}
 use Rattle.report.proofs.Decimal.{length_decimal}
 use Rattle.report.proofs.Writing.{none, next, adds_as, fits_next}
 

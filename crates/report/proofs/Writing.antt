@@ -5,7 +5,7 @@ use Rattle.buffers.proofs.Put.{put_at_none, put_at_next, put_at_length}
 use Rattle.report.specs.declared.text.Text.{Text}
 use Rattle.report.specs.Written.{Written}
 use Rattle.report.specs.Adds.{Adds}
-use Rattle.report.specs.Terms.Fits.{Fits}
+use Rattle.report.specs.Fits.{Fits}
 
 -- Nothing was written yet.
 pub none : (t : Text) → Adds [] t t

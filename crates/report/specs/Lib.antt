@@ -3,4 +3,5 @@ pub mod Text
 pub mod Letters
 pub mod Written
 pub mod Adds
-pub mod Terms
+pub mod Fits
+pub mod Held

@@ -16,8 +16,8 @@ impl<'a> Text<'a> {
     ghost use Rattle.std.specs.Prelude.{ℕ, ◌≡◌, List, ◌++◌, length, take};
     ghost use Rattle.report.specs.Text.{decimal, line, lines, numbered, count_line, report, refusal_line, size_line};
     ghost use Rattle.report.specs.Adds.{Adds};
-    ghost use Rattle.report.specs.Terms.Fits.{Fits};
-    ghost use Rattle.report.specs.Terms.Held.{fitting, Held};
+    ghost use Rattle.report.specs.Fits.{Fits};
+    ghost use Rattle.report.specs.Held.{fitting, Held};
 
     // Nothing is written yet.
     pub fn new(bytes: &'a mut [u8]) -> Self

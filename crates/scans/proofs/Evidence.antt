@@ -2,7 +2,8 @@
 use Rattle.std.proofs.Common.{◌≡◌, sym, subst, ℕ, ◌+◌, ◌*◌, ◌≤◌, ◌<◌, arith, List, length, drop, length-take, length-drop, pos, neg_ℤ, ◌*ℤ◌, ◌≤ℤ◌}
 use Rattle.floats.specs.Binary64.{one}
 use Rattle.floats.proofs.Whole.{is_neg, is_scaled, is_le}
-use Rattle.floats.proofs.Sums.{err, err_units}
+use Rattle.floats.proofs.Sums.{err_units}
+use Rattle.floats.specs.Terms.Rounded.{err}
 use Rattle.letters.specs.Place.{Place}
 use Rattle.scans.specs.Setup.{Setup}
 use Rattle.scans.specs.Score.{score, stretch, Evidence}

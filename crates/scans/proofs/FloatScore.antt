@@ -7,8 +7,8 @@ use lib.Ieee.{binary64}
 use Rattle.floats.specs.Arithmetic.{◌⊕◌, ◌⊖◌}
 use Rattle.floats.specs.Binary64.{value64, zero64}
 use Rattle.floats.proofs.Whole.{Is, is_sub, is_size, value_is}
-use Rattle.floats.proofs.Sums.{err, err_units, After, after_as, after_start, after_step, after_score}
-use Rattle.floats.proofs.Rounded.{Near, pos64, neg64}
+use Rattle.floats.proofs.Sums.{err_units, after_as, after_start, after_step, after_score}
+use Rattle.floats.specs.Terms.Rounded.{Near, pos64, neg64, err, After}
 use Rattle.letters.specs.Place.{Place, ambiguous, plain, BelowAt, Below}
 use Rattle.scans.specs.Setup.{Setup, ln_at, kmers}
 use Rattle.scans.specs.Counts.{raise, cleared}

@@ -7,9 +7,9 @@ use Rattle.floats.specs.Arithmetic.{◌⊕◌}
 use Rattle.floats.specs.Binary64.{zero64, slack}
 use Rattle.floats.proofs.Compare.{le_self}
 use Rattle.floats.proofs.Order.{le_trans, lt_le, nle_lt}
-use Rattle.floats.proofs.Sums.{err, zero_near}
+use Rattle.floats.proofs.Sums.{zero_near}
 use Rattle.floats.proofs.Tests.{le_near, le_sure}
-use Rattle.floats.proofs.Rounded.{Near}
+use Rattle.floats.specs.Terms.Rounded.{Near, err}
 use Rattle.letters.specs.Place.{Place, Below}
 use Rattle.scans.specs.Setup.{Setup, f_at, kmers}
 use Rattle.scans.specs.Counts.{raise, cleared}

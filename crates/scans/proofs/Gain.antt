@@ -3,8 +3,8 @@ use Rattle.std.proofs.Common.{◌≡◌, refl, ap, ◌∙◌, ℕ, zero, suc, �
 use lib.Ieee.{binary64}
 use Rattle.floats.specs.Binary64.{one, value64}
 use Rattle.floats.proofs.Whole.{Is, is_as, is_sub, is_times, value_is_pos}
-use Rattle.floats.proofs.Sums.{zero_ranged}
-use Rattle.floats.proofs.Rounded.{pos64, Ranged}
+use Rattle.floats.proofs.Sums.{zero_near, zero_ranged}
+use Rattle.floats.specs.Terms.Rounded.{pos64, Ranged}
 use Rattle.letters.specs.Place.{Place, ambiguous, plain, BelowAt, Below}
 use Rattle.scans.specs.Setup.{Setup, ln_at, f_at, kmers}
 use Rattle.scans.specs.Counts.{count}
@@ -46,6 +46,10 @@ ranged_is B x r = value_is_pos binary64 x r.low
 pub gain_none : (S : Setup) → gain S [] ≡ 0
 unfolding gain
 gain_none S = ap nat_abs (sums_none (ln_value S) (kmers S))
+
+-- An ambiguous place adds nothing.
+pub adds_none : (S : Setup) (q : List Place) → pos64 (added S q ambiguous) ≡ 0
+adds_none S q = omega (arith, zero_near.upper, (zero_ranged 16).low)
 
 module _ (S : Setup) (R : InRange S) where
   ln_sum_non_negative : (m : ℕ) → m ≤ S.window_size → NonNegative (ln_sum (ln_value S) m)

@@ -3,7 +3,7 @@ use Rattle.std.proofs.Common.{◌≡◌, ap, subst, ℕ, zero, suc, ◌+◌, ◌
 use lib.Seq.{append_snoc}
 use Rattle.floats.specs.Binary64.{zero64}
 use Rattle.floats.proofs.Compare.{le_value}
-use Rattle.floats.proofs.Rounded.{pos64}
+use Rattle.floats.specs.Terms.Rounded.{pos64}
 use Rattle.letters.specs.Place.{Place, ambiguous, plain, Below}
 use Rattle.scans.specs.Setup.{Setup, ln_at, kmers}
 use Rattle.scans.specs.Counts.{count}

@@ -5,10 +5,9 @@ use lib.Ieee.Fits.{and_l, and_r}
 use Rattle.floats.proofs.Binary64.{near_self, near_as, count_sub}
 use Rattle.floats.proofs.Compare.{le_self}
 use Rattle.floats.proofs.Order.{le_trans}
-use Rattle.floats.proofs.Sums.{half}
 use Rattle.floats.proofs.Tests.{le_near}
 use Rattle.floats.specs.Value.{Finite}
-use Rattle.floats.proofs.Rounded.{Near, Ranged, eps, pos64}
+use Rattle.floats.specs.Terms.Rounded.{Near, Ranged, eps, pos64, half}
 use Rattle.scans.specs.Setup.{Setup, ln_at, f_at}
 unfoldable pub use Rattle.scans.specs.Terms.Units.{margin, unevenness}
 use Rattle.scans.specs.Terms.Shape.{f_step, usual_to, Usual}

@@ -1,9 +1,9 @@
 -- Tables in range: a stretch that a scan finds has no better shorter one from the same first place, in exact scores and up to the errors of the float scores.
 -- Stated of `dust_backward`, so for both approx settings, and for any window, so for both strands.
 use Rattle.std.proofs.Common.{◌≡◌, subst, ℕ, ◌+◌, ◌*◌, ◌≤◌, ◌<◌, mul-le-mul_right, arith, List, [], ◌∷◌, length, take, drop, length-take, length-drop, pos, ◌+ℤ◌, ◌*ℤ◌, Float}
-use Rattle.floats.proofs.Sums.{err, err_units}
+use Rattle.floats.proofs.Sums.{err_units}
 use Rattle.floats.proofs.Whole.{is_add, is_scaled, is_le}
-use Rattle.floats.proofs.Rounded.{eps}
+use Rattle.floats.specs.Terms.Rounded.{eps, err}
 use Rattle.letters.specs.Place.{Place, Below}
 use Rattle.scans.specs.Setup.{Setup, kmers}
 use Rattle.scans.specs.Scans.{Find, none, at, dust_forward, dust_backward}

@@ -1,19 +1,15 @@
 -- The backward scan put together: what the slice holds can be tried, and its outcome is the definition's.
-use Rattle.std.proofs.Common.{◌≡◌, sym, ap, ap₂, ◌∙◌, subst, Bool, true, false, cond, List, [], ◌∷◌, ℕ, zero, suc, ◌^◌, ◌<◌, ◌≤◌, arith, length, get_or, take, get_or-take, length-take-le, eqb}
+use Rattle.std.proofs.Common.{◌≡◌, sym, ap, ap₂, ◌∙◌, subst, Bool, true, false, cond, List, [], ◌∷◌, ℕ, zero, suc, ◌<◌, ◌≤◌, arith, length, get_or, take, get_or-take, length-take-le, eqb}
 use Rattle.letters.specs.Place.{Place}
-use Rattle.scans.specs.declared.Params.{Params}
 use Rattle.scans.specs.declared.ForwardPosition.{ForwardPosition}
 use Rattle.search.specs.declared.Scanned.{Scanned}
 use Rattle.search.specs.declared.candidates.Searched.{Searched}
 use Rattle.scans.specs.Setup.{Setup}
 use Rattle.scans.specs.Counts.{cleared}
 use Rattle.scans.specs.Scans.{none, Outcome, Candidate, no_candidate, backward_start, Backward, backward_from, with_best, try_from, tried, dust_backward}
-use Rattle.scans.specs.Terms.Window.{Windowed}
-use Rattle.scans.specs.Terms.Parts.{Ringed}
 use Rattle.search.specs.Terms.Search.{no_position, candidates_in, to_try, ScansBackward, HoldsCandidates}
 use Rattle.search.specs.Terms.Carry.{Answers}
 use Rattle.search.proofs.Noting.{AllBelow}
-use Rattle.scans.proofs.Walk.{windowed_queued}
 use Rattle.search.proofs.Slices.{candidates_length, candidates_at}
 use Rattle.search.proofs.Searching.{to_try_fit}
 

@@ -1,5 +1,5 @@
--- The find that a quick scan and a carried scan tell together (`carries_ahead`), and where they tell none (`carries_off`).
-use Rattle.std.proofs.Common.{◌≡◌, refl, sym, ap, ◌∙◌, subst, Bool, true, false, not, true≢false, List, [], ◌∷◌, ◌++◌, ◌≢◌, ℕ, suc, ◌+◌, ◌-◌, ◌^◌, ◌/◌, ◌<◌, ◌≤◌, arith, length, get_or, drop, length-append, length-drop, drop-drop, T, Float}
+-- The find that a quick scan and a carried scan tell together (`carries_ahead`).
+use Rattle.std.proofs.Common.{◌≡◌, refl, sym, ap, ◌∙◌, subst, Bool, true, false, not, List, [], ◌∷◌, ◌++◌, ◌≢◌, ℕ, suc, ◌+◌, ◌-◌, ◌^◌, ◌/◌, ◌<◌, ◌≤◌, arith, length, get_or, drop, length-append, length-drop, drop-drop, T, Float}
 use lib.Ieee.{lt, le}
 use Rattle.floats.specs.Arithmetic.{◌⊕◌, ◌⊖◌}
 use Rattle.floats.specs.Binary64.{slack}
@@ -14,7 +14,7 @@ use Rattle.scans.specs.Terms.Counted.{Counted, Touched}
 use Rattle.scans.specs.Scans.{at, Forward, dust_forward, dust_backward}
 use Rattle.scans.specs.Terms.Window.{window, newest_in, counted_value}
 use Rattle.scans.specs.Terms.Parts.{Ringed, rest_of}
-use Rattle.search.specs.Terms.Carry.{ScansQuick, no_carry, Carried, Answers, carried_ahead, CarriesAhead}
+use Rattle.search.specs.Terms.Carry.{ScansQuick, Carried, Answers, carried_ahead, CarriesAhead}
 use Rattle.scans.proofs.Counting.{count_le}
 use Rattle.scans.proofs.Rings.{window_length, window_newest, newest_at}
 use Rattle.scans.proofs.Touched.{counted_touched, touched_part}

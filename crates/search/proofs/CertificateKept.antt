@@ -6,7 +6,7 @@ use lib.Ieee.Fits.{and_l, and_r}
 use Rattle.floats.specs.Arithmetic.{◌⊕◌, ◌⊖◌, ◌⊗◌}
 use Rattle.floats.specs.Binary64.{zero64, number}
 use Rattle.floats.proofs.Compare.{le_value}
-use Rattle.floats.proofs.Rounded.{pos64, Ranged}
+use Rattle.floats.specs.Terms.Rounded.{pos64, Ranged}
 use Rattle.floats.proofs.Sums.{zero_near, zero_ranged}
 use Rattle.letters.specs.Place.{Place, ambiguous, plain, BelowAt, Below}
 use Rattle.search.specs.declared.Certificate.{Certificate}
@@ -20,10 +20,10 @@ use Rattle.search.specs.Terms.Certified.{LowUnits, StartUnits, Certifiable, Boun
 use Rattle.scans.proofs.Test.{by_test}
 use Rattle.scans.proofs.Counting.{hit_self, count_snoc, below_left, below_right}
 use Rattle.scans.proofs.Exact.{added}
-use Rattle.scans.proofs.Gain.{InRange, added_ranged}
+use Rattle.scans.proofs.Gain.{InRange, added_ranged, adds_none}
 use Rattle.scans.proofs.FloatScore.{value_added}
 use Rattle.scans.proofs.Shape.{usual_range}
-use Rattle.search.proofs.CertificateLow.{adds_none, adds_first, more_later, low_fresh, low_repeated}
+use Rattle.search.proofs.CertificateLow.{adds_first, more_later, low_fresh, low_repeated}
 use Rattle.search.proofs.CertificateStart.{start_left, start_joined}
 
 -- The oldest place leaves; it is older than the start.
@@ -52,7 +52,7 @@ window_added S counts q₀ (plain x) n = ap (λ (c : ℕ). ln_at S c) (omega (ar
 
 -- Nothing, where it does not stand among them.
 adds_nothing : (S : Setup) (R : InRange S) (C : Certifiable S) (es : List Place) (e : Place) → ((x : ℕ) → e ≡ plain x → count x es ≡ 0) → pos64 (added S es e) ≡ 0
-adds_nothing S R C es ambiguous f = adds_none S R C es
+adds_nothing S R C es ambiguous f = adds_none S es
 adds_nothing S R C es (plain x) f = adds_first S R C es x (f x refl)
 
 module _ (S : Setup) (q₀ : List Place) (e : Place) (below : Below (kmers S) (q₀ ++ e ∷ [])) (room : length q₀ < S.window_size) (j : ℕ) (counts : List ℕ) (n : Counted (kmers S) counts (drop j q₀))

@@ -7,11 +7,11 @@ use Rattle.floats.specs.Arithmetic.{◌⊕◌, ◌⊖◌, ◌⊗◌}
 use Rattle.floats.specs.Binary64.{one, number}
 use Rattle.floats.proofs.Binary64.{one_eps, near_self, count_add, mul_int64}
 use Rattle.floats.proofs.Compare.{le_value}
-use Rattle.floats.proofs.Rounded.{pos64, neg64, Ranged}
+use Rattle.floats.specs.Terms.Rounded.{pos64, neg64, Ranged}
 use Rattle.floats.proofs.Sized.{number_sized}
 use Rattle.floats.proofs.Sums.{zero_near, zero_ranged}
 use Rattle.floats.proofs.Tests.{le_near}
-use Rattle.letters.specs.Place.{Place, ambiguous, plain, BelowAt, Below}
+use Rattle.letters.specs.Place.{Place, plain, BelowAt, Below}
 use Rattle.scans.specs.Setup.{Setup, ln_at, kmers}
 use Rattle.scans.specs.Counts.{count}
 use Rattle.scans.specs.Terms.Units.{margin, distance, unevenness, gain, loss}
@@ -21,14 +21,10 @@ use Rattle.scans.proofs.Exact.{added}
 use Rattle.scans.proofs.Gain.{InRange, gain_none, gain_snoc, gain_cons}
 use Rattle.scans.proofs.Rising.{added_more}
 use Rattle.scans.proofs.Shape.{margin_eps, usual_shape, f_rises}
+use Rattle.scans.proofs.BackwardScan.{count_drop}
 use Rattle.search.proofs.CertificateNumber.{strayed_few, distance_ranged, distance_margin, far_above, kept_on, Changed, raised, stepped}
 
 -- ---- Counts and sums of fewer places.
-count_drop : (x a : ℕ) (q : List Place) → count x (drop a q) ≤ count x q
-count_drop x zero q = omega arith
-count_drop x (suc a) [] = omega arith
-count_drop x (suc a) (e ∷ q) = omega (arith, count_drop x a q)
-
 pub count_take : (x a : ℕ) (q : List Place) → count x (take a q) ≤ count x q
 count_take x zero q = omega arith
 count_take x (suc a) [] = omega arith
@@ -73,10 +69,7 @@ module _ (S : Setup) (R : InRange S) (C : Certifiable S) where
       subst (λ (k : ℕ). gain S (drop k q) ≤ gain S (drop c q)) z
       (subst (λ (r : List Place). gain S r ≤ gain S (drop c q)) (drop-drop m c q) (gain_drop m (drop c q) (below_drop (kmers S) c q b) (omega (arith, length-drop c q))))
 
-  -- An ambiguous place adds nothing, nor does a k-mer's first.
-  pub adds_none : (q : List Place) → pos64 (added S q ambiguous) ≡ 0
-  adds_none q = omega (arith, zero_near.upper, (zero_ranged 16).low)
-
+  -- A k-mer's first place adds nothing.
   pub adds_first : (q : List Place) (x : ℕ) → count x q ≡ 0 → pos64 (added S q (plain x)) ≡ 0
   adds_first q x z = ap (λ (c : ℕ). pos64 (ln_at S (suc c))) z ∙ first_none
 

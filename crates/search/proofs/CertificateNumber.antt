@@ -8,7 +8,7 @@ use Rattle.floats.specs.Binary64.{one}
 use Rattle.floats.proofs.Binary64.{one_eps, near_self, near_as, near_add, near_sub, count_sub}
 use Rattle.floats.proofs.Compare.{lt_value, le_value}
 use Rattle.floats.proofs.Range.{ranged_16}
-use Rattle.floats.proofs.Rounded.{Near, pos_part, neg_part, eps, pos64, neg64, Ranged}
+use Rattle.floats.specs.Terms.Rounded.{Near, pos_part, neg_part, eps, pos64, neg64, Ranged}
 use Rattle.scans.specs.Terms.Units.{margin, distance, unevenness}
 use Rattle.search.specs.Terms.Certified.{strayed, Kept}
 use Rattle.scans.proofs.Shape.{margin_eps, unevenness_eps}

@@ -2,7 +2,7 @@
 -- A new place (`start_joined`) and a place that leaves (`start_left`) keep it.
 use Rattle.std.proofs.Common.{◌≡◌, refl, ap, ◌∙◌, subst, ℕ, zero, suc, ◌+◌, ◌*◌, ◌-◌, ◌≤◌, ◌<◌, arith, ◌⊎◌, inl, inr, List, [], ◌∷◌, ◌++◌, length, drop, length-drop, Float}
 use Rattle.floats.specs.Arithmetic.{◌⊖◌}
-use Rattle.floats.proofs.Rounded.{pos64, neg64}
+use Rattle.floats.specs.Terms.Rounded.{pos64, neg64}
 use Rattle.letters.specs.Place.{Place, BelowAt, Below}
 use Rattle.scans.specs.Setup.{Setup, f_at, kmers}
 use Rattle.scans.specs.Terms.Units.{margin, unevenness, gain, loss}

@@ -9,9 +9,9 @@ use Rattle.floats.specs.Arithmetic.{◌⊕◌, ◌⊖◌}
 use Rattle.floats.specs.Binary64.{one, zero64}
 use Rattle.floats.proofs.Binary64.{one_eps, one_pos, near_self, near_as, count_sub}
 use Rattle.floats.proofs.Sized.{Sized, sized_parts}
-use Rattle.floats.proofs.Sums.{err, After, after_as, after_start, after_step}
+use Rattle.floats.proofs.Sums.{after_as, after_start, after_step, after_shift}
 use Rattle.floats.proofs.Tests.{lt_near}
-use Rattle.floats.proofs.Rounded.{Near, Ranged, eps, pos64}
+use Rattle.floats.specs.Terms.Rounded.{Near, Ranged, eps, pos64, err, After}
 use Rattle.letters.specs.Place.{Place, ambiguous, plain, BelowAt, Below}
 use Rattle.scans.specs.Setup.{Setup, ln_at, f_at, kmers}
 use Rattle.scans.specs.Counts.{count, lower}
@@ -35,10 +35,6 @@ certain_units = 17592186044416 * eps
 certain_sized : Sized false certain_units certain
 unfolding of_bits fits magnitude eps
 certain_sized = record { ok = record { finite = tt; fits = tt }; sign_is = refl; units = refl }
-
--- P - N written otherwise.
-after_shift : {s : Float} {i P N : ℕ} (Q R : ℕ) → After i s P N → P + R ≡ Q + N → After i s Q R
-after_shift Q R a e = record { near = near_as a.near e (omega arith); high = omega (arith, a.high); low = omega (arith, a.low) }
 
 -- The difference of two f entries, less 2^-10.
 less_certain : (s : Float) (P N : ℕ) → Near binary64 s P N (1048576 * eps) → P ≤ 1048576 * one → N ≤ 1048576 * one → Near binary64 (s ⊖ certain) P (N + certain_units) (3145728 * eps)

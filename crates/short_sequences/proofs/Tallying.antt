@@ -7,22 +7,22 @@ use Rattle.buffers.specs.Fill.{tabulate, tabulate_from}
 use Rattle.buffers.proofs.Tabulate.{tabulate_length, tabulate_at}
 use Rattle.intervals.proofs.Counted.{covered_at_most}
 use Rattle.short_sequences.specs.Sequences.{sequences_of}
-use Rattle.short_sequences.specs.Tallies.{is_refused, mask_of, masked_letters, leads_to, count_of, tallies_over, tallies_of, refused_of, total}
+use Rattle.short_sequences.specs.Tallies.{is_refused, mask_of, masked_letters, leads_to, passing, tallies_over, tallies_of, refused_of, total}
 use Rattle.short_sequences.specs.Terms.Outcome.{outcome_of, counted, one_if_refused}
 use Rattle.short_sequences.proofs.Sequences.{sequences_count, sequence_size}
 
 -- One sequence more.
-count_more : (test : List ℕ → Bool) (ss : List (List ℕ)) (s : List ℕ) → count_of test (ss ++ (s ∷ [])) ≡ count_of test ss + cond (test s) 1 0
-unfolding count_of
+count_more : (test : List ℕ → Bool) (ss : List (List ℕ)) (s : List ℕ) → passing test (ss ++ (s ∷ [])) ≡ passing test ss + cond (test s) 1 0
+unfolding passing
 count_more test [] s = omega arith
 count_more test (r ∷ ss) s = omega (arith, count_more test ss s)
 
-count_most : (test : List ℕ → Bool) (ss : List (List ℕ)) → count_of test ss ≤ length ss
-unfolding count_of
+count_most : (test : List ℕ → Bool) (ss : List (List ℕ)) → passing test ss ≤ length ss
+unfolding passing
 count_most test [] = omega arith
 count_most test (s ∷ ss) = go (test s) (count_most test ss)
   where
-    go : (b : Bool) → count_of test ss ≤ length ss → cond b 1 0 + count_of test ss ≤ suc (length ss)
+    go : (b : Bool) → passing test ss ≤ length ss → cond b 1 0 + passing test ss ≤ suc (length ss)
     go true h = omega arith
     go false h = omega arith
 
@@ -45,10 +45,10 @@ letters_most s = go (is_refused s)
 
 module _ (m : ℕ) where
   pub tallies_length : (ss : List (List ℕ)) → length (tallies_over m ss) ≡ m + 1
-  tallies_length ss = tabulate_length (λ c. count_of (leads_to c) ss) (m + 1)
+  tallies_length ss = tabulate_length (λ c. passing (leads_to c) ss) (m + 1)
 
-  pub tally_at : (ss : List (List ℕ)) (c : ℕ) → c < m + 1 → get_or (tallies_over m ss) c 0 ≡ count_of (leads_to c) ss
-  tally_at ss c h = tabulate_at (λ c. count_of (leads_to c) ss) (m + 1) c 0 h
+  pub tally_at : (ss : List (List ℕ)) (c : ℕ) → c < m + 1 → get_or (tallies_over m ss) c 0 ≡ passing (leads_to c) ss
+  tally_at ss c h = tabulate_at (λ c. passing (leads_to c) ss) (m + 1) c 0 h
 
   pub tally_most : (ss : List (List ℕ)) (c : ℕ) → c < m + 1 → get_or (tallies_over m ss) c 0 ≤ length ss
   tally_most ss c h = omega (arith, tally_at ss c h, count_most (leads_to c) ss)
@@ -107,8 +107,8 @@ module _ (m : ℕ) where
         go true e = no_entry e
         go false e = one_entry e
 
-    pub refused_more : count_of is_refused ss + one_if_refused (outcome_of s) ≡ count_of is_refused (ss ++ (s ∷ []))
-    refused_more = ap (λ (n : ℕ). count_of is_refused ss + n) (go (is_refused s)) ∙ sym (count_more is_refused ss s)
+    pub refused_more : passing is_refused ss + one_if_refused (outcome_of s) ≡ passing is_refused (ss ++ (s ∷ []))
+    refused_more = ap (λ (n : ℕ). passing is_refused ss + n) (go (is_refused s)) ∙ sym (count_more is_refused ss s)
       where
         go : (b : Bool) → one_if_refused (cond b None (Some (masked_letters s))) ≡ cond b 1 0
         go true = refl
@@ -116,7 +116,7 @@ module _ (m : ℕ) where
 
 -- Cleared tallies are those of no sequence.
 pub no_tallies : (m : ℕ) (d d' : List ℕ) → length d ≡ m + 1 → d' ≡ replicate (length d) 0 → d' ≡ tallies_over m []
-unfolding count_of
+unfolding passing
 no_tallies m d d' h e =
     let long : length d' ≡ m + 1 = ap length e ∙ length-replicate (length d) 0 ∙ h in
     ext_get_or 0 d' (tallies_over m []) (long ∙ sym (tallies_length m []))
@@ -129,11 +129,11 @@ no_tallies m d d' h e =
 pub record Tallying (m i refused : ℕ) (tallies : List ℕ) : Type 0 where
   pub within : i ≤ 5 ^ m
   pub tallies_are : tallies ≡ tallies_over m (take i (sequences_of m))
-  pub refused_are : refused ≡ count_of is_refused (take i (sequences_of m))
+  pub refused_are : refused ≡ passing is_refused (take i (sequences_of m))
 
 module _ (m : ℕ) where
   pub tallying_start : (d : List ℕ) → d ≡ tallies_over m [] → Tallying m 0 0 d
-  unfolding count_of
+  unfolding passing
   tallying_start d e = record { within = omega arith; tallies_are = e; refused_are = refl }
 
   module _ {i refused : ℕ} {d : List ℕ} (a : Tallying m i refused d) (h : i < 5 ^ m) where
@@ -185,7 +185,7 @@ module _ (m : ℕ) where
             refused_are =
                 ap₂ (λ (x y : ℕ). x + y) a.refused_are (q ∙ ap one_if_refused e)
                 ∙ refused_more m ss sequence short
-                ∙ ap (λ (l : List (List ℕ)). count_of is_refused l) (sym one_more);
+                ∙ ap (λ (l : List (List ℕ)). passing is_refused l) (sym one_more);
           }
 
   all_taken : (i : ℕ) → 5 ^ m ≤ i → take i (sequences_of m) ≡ sequences_of m
@@ -194,11 +194,11 @@ module _ (m : ℕ) where
   pub tallying_end : {i refused : ℕ} {d : List ℕ} → Tallying m i refused d → 5 ^ m ≤ i → (refused ≡ refused_of m) × (d ≡ tallies_of m)
   unfolding refused_of tallies_of
   tallying_end {i} a h =
-      (a.refused_are ∙ ap (λ (l : List (List ℕ)). count_of is_refused l) (all_taken i h), a.tallies_are ∙ ap (λ (l : List (List ℕ)). tallies_over m l) (all_taken i h))
+      (a.refused_are ∙ ap (λ (l : List (List ℕ)). passing is_refused l) (all_taken i h), a.tallies_are ∙ ap (λ (l : List (List ℕ)). tallies_over m l) (all_taken i h))
 
 -- ---- The tallies and the refused sum to 5^m.
-total_none : (n i : ℕ) → total (tabulate_from (λ c. count_of (leads_to c) []) n i) ≡ 0
-unfolding total tabulate_from count_of
+total_none : (n i : ℕ) → total (tabulate_from (λ c. passing (leads_to c) []) n i) ≡ 0
+unfolding total tabulate_from passing
 total_none zero i = refl
 total_none (suc n) i = omega (arith, total_none n (suc i))
 
@@ -215,30 +215,30 @@ total_counted (Some c) xs h = omega (arith, total_set xs c h)
 module _ (m : ℕ) where
   -- After i sequences of the list they sum to i.
   sum_to : (i : ℕ) → i ≤ 5 ^ m → (d : List ℕ) (refused : ℕ) → Tallying m i refused d → total d + refused ≡ i
-  unfolding count_of tabulate
+  unfolding passing tabulate
   sum_to zero h d refused a = omega (arith, ap total a.tallies_are, total_none (m + 1) 0, a.refused_are)
   sum_to (suc i) h d refused a =
       let ss : List (List ℕ) = take i (sequences_of m) in
       let d' : List ℕ = tallies_over m ss in
-      let before : Tallying m i (count_of is_refused ss) d' = record { within = omega arith; tallies_are = refl; refused_are = refl } in
+      let before : Tallying m i (passing is_refused ss) d' = record { within = omega arith; tallies_are = refl; refused_are = refl } in
       let l : i < 5 ^ m = omega arith in
       let o : Option ℕ = outcome_of (get_or (sequences_of m) i []) in
       let after = tallying_turn m before l refl refl refl in
-      let ih = sum_to i (omega arith) d' (count_of is_refused ss) before in
+      let ih = sum_to i (omega arith) d' (passing is_refused ss) before in
       let step = total_counted o d' (some_weaker o (λ c. (c < length d') × (get_or d' c 0 ≤ i)) (λ c. c < length d') (λ c k. k.0) (letters_inside m before l refl)) in
       let s : i + 1 ≡ suc i = add-one i in
       omega (
         arith,
         ap total (a.tallies_are ∙ sym (subst (λ (n : ℕ). counted o d' ≡ tallies_over m (take n (sequences_of m))) s after.tallies_are)),
-        a.refused_are ∙ sym (subst (λ (n : ℕ). count_of is_refused ss + one_if_refused o ≡ count_of is_refused (take n (sequences_of m))) s after.refused_are),
+        a.refused_are ∙ sym (subst (λ (n : ℕ). passing is_refused ss + one_if_refused o ≡ passing is_refused (take n (sequences_of m))) s after.refused_are),
       )
 
   pub tallies_sum : total (tallies_of m) + refused_of m ≡ 5 ^ m
   unfolding tallies_of refused_of
   tallies_sum =
-      sum_to (5 ^ m) (omega arith) (tallies_over m (sequences_of m)) (count_of is_refused (sequences_of m))
+      sum_to (5 ^ m) (omega arith) (tallies_over m (sequences_of m)) (passing is_refused (sequences_of m))
       (record {
         within = omega arith;
         tallies_are = ap (λ (l : List (List ℕ)). tallies_over m l) (sym (all_taken m (5 ^ m) (omega arith)));
-        refused_are = ap (λ (l : List (List ℕ)). count_of is_refused l) (sym (all_taken m (5 ^ m) (omega arith)));
+        refused_are = ap (λ (l : List (List ℕ)). passing is_refused l) (sym (all_taken m (5 ^ m) (omega arith)));
       })

@@ -21,7 +21,7 @@ use Rattle.longdust.specs.Mask.{mask}
 use Rattle.longdust.specs.Buffers.{Buffers, lengths}
 use Rattle.longdust.specs.Call.{listed, Filled, Answered}
 use Rattle.short_sequences.specs.Sequences.{five_letters, sequences_of, OverFive}
-use Rattle.short_sequences.specs.Tallies.{short_options, lent, refusal_of, mask_of, is_refused, count_of, refused_of}
+use Rattle.short_sequences.specs.Tallies.{short_options, lent, refusal_of, mask_of, is_refused, passing, refused_of}
 use Rattle.short_sequences.proofs.Sequences.{sequences_count, nothing_else}
 
 -- The buffers of these sizes are as long as listed for up to 8 letters.
@@ -92,8 +92,8 @@ unfolding refusal_of short_options defaults threshold_bad gc_bad xdrop_bad any_b
 refusal_is s o h = rw (none_passes is_high refl s o, none_passes is_other refl s o) (sizes (length s) h)
 
 count_all : (test : List ℕ → Bool) (b : Bool) (ss : List (List ℕ)) → ((s : List ℕ) → Memᴰ s ss → test s ≡ b)
-    → count_of test ss ≡ cond b (length ss) 0
-unfolding count_of
+    → passing test ss ≡ cond b (length ss) 0
+unfolding passing
 count_all test b [] h = go b
   where
     go : (b : Bool) → ◌≡◌ {A = ℕ} 0 (cond b 0 0)

@@ -64,20 +64,20 @@ unfoldable pub leads_to : ℕ → List ℕ → Bool
 leads_to c s = not (is_refused s) && eqb (masked_letters s) c
 
 -- How many sequences of a list pass a test.
-unfoldable pub count_of : (List ℕ → Bool) → List (List ℕ) → ℕ
-count_of test [] = 0
-count_of test (s ∷ ss) = cond (test s) 1 0 + count_of test ss
+unfoldable pub passing : (List ℕ → Bool) → List (List ℕ) → ℕ
+passing test [] = 0
+passing test (s ∷ ss) = cond (test s) 1 0 + passing test ss
 
 -- How many sequences of a list lead to 0, 1 .. m masked letters.
 abbrev pub tallies_over : ℕ → List (List ℕ) → List ℕ
-tallies_over m ss = tabulate (λ c. count_of (leads_to c) ss) (m + 1)
+tallies_over m ss = tabulate (λ c. passing (leads_to c) ss) (m + 1)
 
 -- Of all sequences of size m: the tallies, and how many are refused.
 unfoldable pub tallies_of : ℕ → List ℕ
 tallies_of m = tallies_over m (sequences_of m)
 
 unfoldable pub refused_of : ℕ → ℕ
-refused_of m = count_of is_refused (sequences_of m)
+refused_of m = passing is_refused (sequences_of m)
 
 -- The sum of numbers.
 unfoldable pub total : List ℕ → ℕ

@@ -8,8 +8,7 @@ use Rattle.scans.specs.Setup.{Setup}
 use Rattle.scans.specs.Scans.{Find, none, at}
 use Rattle.scans.proofs.Test.{by_test}
 use Rattle.step.specs.Step.{Run, begin, without_oldest, leave, join, st2, whole, start_after, save_from, saved_after, found_by, step, run_from, run, intervals_of_places, intervals_of}
-use Rattle.step.specs.Dropping.{start_dropping, found_dropping, step_dropping, run_dropping, intervals_dropping, not_below, none_below_from, none_below}
-use Rattle.step.specs.Terms.Searching.{look_by}
+use Rattle.step.specs.Dropping.{start_dropping, found_dropping, step_dropping, run_dropping, intervals_dropping, not_below, none_below_from, none_below, look_by}
 use Rattle.step.proofs.Letter.{look_is}
 
 -- There is an end only once there is a start.

@@ -4,8 +4,8 @@ use lib.Dec.{nleb→lt}
 use lib.Signed.{lt_z}
 use lib.Ieee.{binary64}
 use Rattle.floats.proofs.Binary64.{near_as}
-use Rattle.floats.proofs.Sums.{err, half, err_small, zero_near}
-use Rattle.floats.proofs.Rounded.{Near, eps}
+use Rattle.floats.proofs.Sums.{err_small, zero_near}
+use Rattle.floats.specs.Terms.Rounded.{Near, eps, err, half}
 use Rattle.letters.specs.Place.{Place, ambiguous, plain, Below, ReadAt, ReadFrom}
 use Rattle.intervals.specs.declared.Interval.{Interval}
 use Rattle.intervals.specs.Interval.{Covers}

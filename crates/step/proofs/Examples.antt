@@ -11,8 +11,7 @@ use Rattle.scans.proofs.Examples.{tied, twice}
 use Rattle.step.specs.Step.{begin, leave, join, window_score, extend_tried, search, found_by, found, look, step, run_from, run, intervals_of_places, intervals_of}
 use Rattle.scans.specs.Range.{table_in_range, in_range, CheckedSetup}
 use Rattle.step.specs.ScanFind.{looked_from, FoundByScan}
-use Rattle.step.specs.Dropping.{found_dropping, step_dropping, run_dropping, intervals_dropping}
-use Rattle.step.specs.Terms.Searching.{look_by}
+use Rattle.step.specs.Dropping.{found_dropping, step_dropping, run_dropping, intervals_dropping, look_by}
 
 twice_found : FoundByScan tied twice 0 2
 unfolding looked_from begin leave join window_score extend_tried search found_by found look step run_from run if_backward_from if_backward extends backward_from forward_from dust_forward try_from tried dust_backward of_bits of_fields of_int add sub mul neg lt le

@@ -15,6 +15,7 @@ use Rattle.search.specs.declared.Carry.{Carry}
 use Rattle.scans.specs.Terms.Window.{window, find_of, Windowed}
 use Rattle.scans.proofs.Test.{by_test}
 use Rattle.scans.proofs.Windows.{long}
+use Rattle.step.specs.Dropping.{look_by}
 use Rattle.step.specs.Step.{Run, join, is_at, search, first_letter, start_after, saved_after, found_by, found, look, step}
 use Rattle.step.specs.declared.window.Window.{Window}
 use Rattle.step.specs.declared.hand.Open.{Open}
@@ -22,7 +23,6 @@ use Rattle.step.specs.declared.state.State.{State}
 use Rattle.step.specs.Terms.KnownCounts.{KnownCounts, Sought, sought, rescanned}
 use Rattle.step.specs.Terms.Like.{Like}
 use Rattle.step.specs.Terms.Entering.{held_by, held, newest_of, Left, Joined, Entered, Enters}
-use Rattle.step.specs.Terms.Searching.{look_by}
 use Rattle.step.specs.Terms.Finding.{last_q_by, Found, TakesFind, PassedOn}
 use Rattle.step.proofs.Searching.{Seeks}
 use Rattle.step.proofs.Shape.{InWindow, search_inside}

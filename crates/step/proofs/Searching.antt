@@ -19,6 +19,7 @@ use Rattle.search.specs.Terms.Carry.{counts_left, Answers}
 use Rattle.scans.proofs.Counting.{count_le}
 use Rattle.scans.proofs.Windows.{long}
 use Rattle.scans.proofs.Touched.{touched_more}
+use Rattle.step.specs.Dropping.{look_by}
 use Rattle.step.specs.Step.{Run, whole, window_score, extend_tried, search}
 use Rattle.step.specs.declared.window.Window.{Window}
 use Rattle.step.specs.declared.state.State.{State}
@@ -26,7 +27,7 @@ use Rattle.step.specs.declared.state.Look.{Look}
 use Rattle.step.specs.declared.state.Look.TheVariants.{Pass, Extension, Scan}
 use Rattle.step.specs.Terms.KnownCounts.{KnownCounts, Sought, Passing, Passes, Clearing, rescanned, extended_of, answered_by}
 use Rattle.step.specs.Terms.Entering.{held, Entered}
-use Rattle.step.specs.Terms.Searching.{is_searched, tried_by, Extended, look_by, looked_as, counts_looked, Looks}
+use Rattle.step.specs.Terms.Searching.{is_searched, tried_by, Extended, looked_as, counts_looked, Looks}
 use Rattle.step.specs.Terms.Finding.{last_q_by}
 use Rattle.step.proofs.Moving.{window_split, older_long}
 use Rattle.step.proofs.KnownCounts.{known_passed, known_extended, known_answered}

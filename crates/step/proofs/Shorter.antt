@@ -1,5 +1,5 @@
 -- Tables in range: a stretch that a run finds by a scan has no better shorter one from the same first place.
-use Rattle.std.proofs.Common.{◌≡◌, sym, ap, ◌∙◌, subst, ℕ, suc, ◌+◌, ◌-◌, arith, Bool, true, false, cond, not, ◌&&◌, List, ◌∷◌, length, drop, length-drop, T, pos}
+use Rattle.std.proofs.Common.{◌≡◌, sym, subst, ℕ, suc, ◌+◌, arith, Bool, true, false, cond, not, ◌&&◌, List, ◌∷◌, length, drop, length-drop, T}
 use Rattle.letters.specs.Place.{Place, plain, Below}
 use Rattle.scans.specs.Setup.{Setup, kmers}
 use Rattle.scans.specs.Counts.{raise}
@@ -7,9 +7,8 @@ use Rattle.scans.specs.Score.{stretch, NoBetterShorter}
 use Rattle.scans.specs.Scans.{none, at, Outcome, extends, if_backward, dust_backward}
 use Rattle.scans.proofs.Gain.{InRange}
 use Rattle.scans.proofs.Shorter.{scan_no_better_shorter}
-use Rattle.step.specs.Step.{Run, extend_tried, search, first_letter, run}
+use Rattle.step.specs.Step.{Run, extend_tried, search, run}
 use Rattle.step.specs.ScanFind.{looked_from, FoundByScan}
-use Rattle.step.proofs.Shape.{first_is}
 use Rattle.step.proofs.Placing.{Placed, placed_below, placed_stretch, joined_placed, run_placed}
 
 -- A find without an extension is the backward scan's.

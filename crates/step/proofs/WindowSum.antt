@@ -2,18 +2,16 @@
 use Rattle.std.proofs.Common.{◌≡◌, sym, subst, ℕ, suc, ◌+◌, ◌*◌, ◌≤◌, ◌<◌, mul-le-mul_right, arith, List, [], ◌∷◌, ◌++◌, length, T, Float}
 use lib.Ieee.{binary64, add, sub, lt}
 use Rattle.floats.specs.Binary64.{one, zero64}
-use Rattle.floats.proofs.Sized.{sized_parts}
 use Rattle.floats.proofs.Binary64.{one_pos, near_as}
-use Rattle.floats.proofs.Range.{zero_number}
 use Rattle.floats.proofs.Tests.{lt_near}
-use Rattle.floats.proofs.Sums.{err, half, zero_near, sum_leave, sum_join, sum_score}
-use Rattle.floats.proofs.Rounded.{Near, pos64}
+use Rattle.floats.proofs.Sums.{zero_near, sum_leave, sum_join, sum_score}
+use Rattle.floats.specs.Terms.Rounded.{Near, pos64, err, half}
 use Rattle.letters.specs.Place.{Place, ambiguous, plain, BelowAt, Below}
 use Rattle.scans.specs.Setup.{Setup, ln_at, kmers}
 use Rattle.scans.specs.Counts.{hit, count}
 use Rattle.scans.proofs.Counting.{hit_self, count_snoc}
 use Rattle.scans.proofs.Exact.{added}
-use Rattle.scans.proofs.Gain.{InRange, gain, loss, added_ranged, gain_snoc, gain_cons, gain_bound}
+use Rattle.scans.proofs.Gain.{InRange, gain, loss, adds_none, added_ranged, gain_snoc, gain_cons, gain_bound}
 use Rattle.step.specs.Step.{Run, sum_without, sum_with, window_score}
 
 module _ (S : Setup) (R : InRange S) where
@@ -25,13 +23,10 @@ module _ (S : Setup) (R : InRange S) where
       let w : length q * one ≤ 65534 * one = mul-le-mul_right one (omega (arith, R.window_small)) in
       omega (arith, one_pos)
 
-  nothing_added : (q : List Place) → pos64 (added S q ambiguous) ≡ 0
-  nothing_added q = omega (arith, (sized_parts zero_number).0)
-
   -- The oldest entry leaves.
   pub leave_near : (s : Float) (e : Place) (q : List Place) (E : ℕ) → Below (kmers S) (e ∷ q) → length q < S.window_size → E ≤ one
       → Near binary64 s (gain S (e ∷ q)) 0 E → Near binary64 (sum_without S (e ∷ q) s e) (gain S q) 0 (E + half)
-  leave_near s ambiguous q E b l h N = near_as N (omega (arith, gain_cons S R q ambiguous tt l, nothing_added q)) (omega arith)
+  leave_near s ambiguous q E b l h N = near_as N (omega (arith, gain_cons S R q ambiguous tt l, adds_none S q)) (omega arith)
   leave_near s (plain x) q E b l h N =
       let c : hit x (plain x) + count x q ≡ suc (count x q) = omega (arith, hit_self x) in
       let e : Place = plain x in
@@ -41,7 +36,7 @@ module _ (S : Setup) (R : InRange S) where
   -- A new entry joins.
   pub join_near : (s : Float) (e : Place) (q : List Place) (E : ℕ) → Below (kmers S) q → BelowAt (kmers S) e → length q < S.window_size → E ≤ one
       → Near binary64 s (gain S q) 0 E → Near binary64 (sum_with S (q ++ e ∷ []) s e) (gain S (q ++ e ∷ [])) 0 (E + half)
-  join_near s ambiguous q E b be l h N = near_as N (omega (arith, gain_snoc S R q ambiguous tt l, nothing_added q)) (omega arith)
+  join_near s ambiguous q E b be l h N = near_as N (omega (arith, gain_snoc S R q ambiguous tt l, adds_none S q)) (omega arith)
   join_near s (plain x) q E b be l h N =
       let c : count x (q ++ plain x ∷ []) ≡ suc (count x q) = omega (arith, hit_self x, count_snoc x q (plain x)) in
       let e : Place = plain x in

@@ -1,13 +1,18 @@
 -- The paper's own rule for finds that begin before the first letter, which the request 'Starts before the first letter' (L6) replaced: st2 stays below zero, and an interval that starts there is dropped.
 -- For one theorem alone, `same_by_dropping`.
-use Rattle.std.specs.Prelude.{ℕ, ◌+◌, List, [], ◌∷◌, Bool, true, cond, ◌&&◌, ◌||◌, length, ℤ, pos}
+use Rattle.std.specs.Prelude.{ℕ, ◌+◌, List, [], ◌∷◌, Bool, true, cond, ◌&&◌, ◌||◌, leb, length, ℤ, pos}
 use Rattle.std.specs.Int.Signed.{lt_z, le_z}
-use Rattle.letters.specs.Place.{Place, places}
+use Rattle.letters.specs.Place.{Place, ambiguous, plain, places}
 use Rattle.intervals.specs.declared.Interval.{Interval}
 use Rattle.scans.specs.Setup.{Setup}
+use Rattle.scans.specs.Counts.{count}
 use Rattle.scans.specs.Scans.{Find, none, at, Outcome}
-use Rattle.step.specs.Step.{Run, begin, leave, join, st2, save_from, saved_after, found_by}
-use Rattle.step.specs.Terms.Searching.{look_by}
+use Rattle.step.specs.Step.{Run, begin, leave, join, search, st2, save_from, saved_after, found_by}
+
+-- What a new entry leads to: a search if it is plain and its count at least min_start_cnt.
+unfoldable pub look_by : Setup → ℕ → Run → Place → Outcome
+look_by S i a ambiguous = record { find = none; counts = a.counts }
+look_by S i a (plain x) = cond (leb S.min_start_cnt (count x a.window)) (search S i a x) (record { find = none; counts = a.counts })
 
 -- If st2 < end: start becomes st2 if start < 0 or st2 < start. Otherwise start = st2.
 abbrev pub start_dropping : ℤ → ℤ → ℤ → ℤ

@@ -5,7 +5,7 @@
 
 ghost use Rattle.std.specs.Prelude.{ℕ, ◌≡◌, List, length, OnOk};
 ghost use Rattle.std.specs.Io.KnownBytes.{Consumes};
-ghost use Rattle.report.specs.Terms.Held.{Held};
+ghost use Rattle.report.specs.Held.{Held};
 ghost use Rattle.contig.specs.Run.{letters_room};
 
 use report::Text;

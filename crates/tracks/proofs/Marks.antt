@@ -7,13 +7,13 @@ use Rattle.intervals.specs.Interval.{interval, Holds}
 use Rattle.intervals.proofs.Order.{lt_or_le}
 use Rattle.intervals.proofs.Counted.{or_agrees, and_agrees, ltb_agrees, same_test}
 use Rattle.intervals.specs.Merge.{byte_of}
-use Rattle.tracks.specs.Tracks.{share, forward, reverse, seen, marks_for}
+use Rattle.tracks.specs.Tracks.{meet, forward, reverse, seen, marks_for}
 use Rattle.tracks.specs.Promised.{Gives}
 use Rattle.tracks.proofs.Every.{every, every_at}
 
 -- Intervals share a letter exactly when some letter lies in both.
-share_agrees : (i j : Interval) → (share i j ≡ true) ↔ ((x : ℕ) × Holds i x × Holds j x)
-share_agrees i j = (
+meet_agrees : (i j : Interval) → (meet i j ≡ true) ↔ ((x : ℕ) × Holds i x × Holds j x)
+meet_agrees i j = (
   (λ h. let l = ltb-true (max i.start j.start) (min i.end j.end) h in (max i.start j.start, omega arith, omega arith)),
   (λ h. lt-ltb (max i.start j.start) (min i.end j.end) (omega arith)),
 )
@@ -72,8 +72,8 @@ unfolding seen
 seen_agrees mark [] ms j = ((λ h. absurd (let z : ◌≡◌ {A = ℕ} 0 1 = cc in omega arith)), (λ h. absurd (let b : ⊥ = omega (arith, h.1) in b)))
 seen_agrees mark (i ∷ is) ms j =
     let both =
-    or_agrees (share i j && mark (get_or ms 0 0)) (seen mark is (drop 1 ms) j)
-    (and_agrees (share i j) (mark (get_or ms 0 0)) {Q = mark (get_or ms 0 0) ≡ true} (share_agrees i j) ((λ u. u), (λ u. u)))
+    or_agrees (meet i j && mark (get_or ms 0 0)) (seen mark is (drop 1 ms) j)
+    (and_agrees (meet i j) (mark (get_or ms 0 0)) {Q = mark (get_or ms 0 0) ≡ true} (meet_agrees i j) ((λ u. u), (λ u. u)))
     (seen_agrees mark is (drop 1 ms) j) in (
       (λ h. ⊎_elim
           (λ u. (zero, omega arith, u.0, u.1))
@@ -110,8 +110,8 @@ seen_empty mark (i ∷ is) ms s = rw (le-ltb (max i.start s) (min i.end s) (omeg
 
 -- An interval [s, q) made of [s, p) and [p, q).
 module _ (s p q : ℕ) (h : s ≤ p) (l : p ≤ q) where
-  share_split : (i : Interval) → share i (interval s q) ≡ (share i (interval s p) || share i (interval p q))
-  share_split i =
+  meet_split : (i : Interval) → meet i (interval s q) ≡ (meet i (interval s p) || meet i (interval p q))
+  meet_split i =
       let a = max i.start s in
       let b = max i.start p in
       let c = min i.end p in
@@ -133,8 +133,8 @@ module _ (s p q : ℕ) (h : s ≤ p) (l : p ≤ q) where
   unfolding seen
   seen_split mark [] ms = refl
   seen_split mark (i ∷ is) ms =
-      ap₂ (λ (t u : Bool). (t && mark (get_or ms 0 0)) || u) (share_split i) (seen_split mark is (drop 1 ms))
-      ∙ regroup (share i (interval s p)) (share i (interval p q)) (mark (get_or ms 0 0)) (seen mark is (drop 1 ms) (interval s p))
+      ap₂ (λ (t u : Bool). (t && mark (get_or ms 0 0)) || u) (meet_split i) (seen_split mark is (drop 1 ms))
+      ∙ regroup (meet i (interval s p)) (meet i (interval p q)) (mark (get_or ms 0 0)) (seen mark is (drop 1 ms) (interval s p))
       (seen mark is (drop 1 ms) (interval p q))
 
 module _ (is : List Interval) (ms : List ℕ) where

@@ -23,8 +23,8 @@ unfoldable pub joined : Joined → ℕ → List Interval → List Interval → L
 joined kind n ours theirs = stretches (wanted_at kind ours theirs) n
 
 -- Two intervals have a letter in common.
-abbrev pub share : Interval → Interval → Bool
-share i j = ltb (max i.start j.start) (min i.end j.end)
+abbrev pub meet : Interval → Interval → Bool
+meet i j = ltb (max i.start j.start) (min i.end j.end)
 
 -- The two marks of a byte, whose other bits don't count.
 abbrev pub forward : ℕ → Bool
@@ -36,7 +36,7 @@ reverse m = eqb (m / 2 % 2) 1
 -- Some interval of the list shares a letter with j and has the mark; ms holds a byte for each.
 unfoldable pub seen : (ℕ → Bool) → List Interval → List ℕ → Interval → Bool
 seen mark [] ms j = false
-seen mark (i ∷ is) ms j = (share i j && mark (get_or ms 0 0)) || seen mark is (drop 1 ms) j
+seen mark (i ∷ is) ms j = (meet i j && mark (get_or ms 0 0)) || seen mark is (drop 1 ms) j
 
 -- The marks of j: those of our intervals that share a letter with it.
 unfoldable pub marks_for : List Interval → List ℕ → Interval → ℕ

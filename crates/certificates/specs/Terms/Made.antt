@@ -4,8 +4,7 @@ use Rattle.std.specs.Float.{nan, binary64}
 use Rattle.std.specs.Float.Ieee.{fits, lt, le, neg}
 use Rattle.floats.specs.Arithmetic.{◌⊕◌, ◌⊖◌}
 use Rattle.floats.specs.Binary64.{zero64, two_to20}
-use Rattle.floats.proofs.Rounded.{Near, Ranged, pos64, neg64}
-use Rattle.floats.proofs.Sums.{After, err}
+use Rattle.floats.specs.Terms.Rounded.{Near, Ranged, pos64, neg64, After, err}
 use Rattle.letters.specs.Place.{Place}
 use Rattle.search.specs.declared.Certificate.{Certificate}
 use Rattle.scans.specs.declared.Params.{Params}

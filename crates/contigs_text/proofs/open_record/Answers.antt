@@ -2,7 +2,7 @@ use Rattle.std.proofs.Common.{◌≤◌, ◌≡◌, ap, ◌∙◌, [], arith, le
 use borrow.Author.Rules.{rules}
 use Rattle.checks.proofs.Refusing.{number_positive}
 use Rattle.report.specs.Letters.{letters_of}
-use Rattle.report.specs.Terms.Held.{Held}
+use Rattle.report.specs.Held.{Held}
 use Rattle.report.proofs.Letters.{held_nothing}
 use Rattle.contigs_text.proofs.Fitting.{refused_fits, too_long_fits}
 use Rattle.contigs_text.proofs.Opening.{part_none, part_as, part_all, no_lines, held_many, held_few, held_all, too_long, refused, accepted}

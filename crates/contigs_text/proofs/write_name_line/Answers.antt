@@ -1,5 +1,5 @@
 use borrow.Author.Rules.{rules}
-use Rattle.report.specs.Terms.Fits.{Fits}
+use Rattle.report.specs.Fits.{Fits}
 use Rattle.report.proofs.Writing.{fits_next, next}
 use Rattle.contigs_text.specs.Text.{name_line}
 use Rattle.contigs_text.proofs.Fitting.{name_line_fits}

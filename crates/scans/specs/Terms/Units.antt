@@ -2,7 +2,7 @@
 use Rattle.std.specs.Prelude.{List, ℕ, ◌+◌, ◌*◌, ◌^◌, nat_abs, Float}
 use Rattle.std.specs.Float.{binary64}
 use Rattle.std.specs.Float.Ieee.{of_bits}
-use Rattle.floats.proofs.Rounded.{pos64}
+use Rattle.floats.specs.Terms.Rounded.{pos64}
 use Rattle.letters.specs.Place.{Place}
 use Rattle.scans.specs.Setup.{Setup, f_at, kmers}
 use Rattle.scans.specs.Score.{ln_sums, ln_value}

@@ -6,7 +6,7 @@ use Rattle.std.specs.Float.Ieee.{lt, le, neg}
 use Rattle.floats.specs.Value.{Finite}
 use Rattle.floats.specs.Arithmetic.{◌⊕◌, ◌⊖◌}
 use Rattle.floats.specs.Binary64.{one, zero64}
-use Rattle.floats.proofs.Rounded.{pos64, neg64}
+use Rattle.floats.specs.Terms.Rounded.{pos64, neg64}
 use Rattle.letters.specs.Place.{Place}
 use Rattle.search.specs.declared.Certificate.{Certificate}
 use Rattle.scans.specs.Setup.{Setup, ln_at, f_at, kmers}

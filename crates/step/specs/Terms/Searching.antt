@@ -9,9 +9,10 @@ use Rattle.letters.specs.Place.{Place, ambiguous, plain}
 use Rattle.scans.specs.declared.Params.{Params}
 use Rattle.scans.specs.Setup.{Setup}
 use Rattle.scans.specs.Terms.Numbers.{setup_of}
-use Rattle.scans.specs.Counts.{count, raise}
+use Rattle.scans.specs.Counts.{raise}
 use Rattle.scans.specs.Scans.{none, at, Outcome, extends, dust_backward}
-use Rattle.step.specs.Step.{Run, is_at, search}
+use Rattle.step.specs.Step.{Run, is_at}
+use Rattle.step.specs.Dropping.{look_by}
 use Rattle.step.specs.declared.state.State.{State}
 use Rattle.step.specs.declared.state.Look.{Look}
 use Rattle.step.specs.declared.state.Look.TheVariants.{Pass, Extension, Scan}
@@ -33,11 +34,6 @@ tried_by p f a =
 pub record Extended (p : Params) (ln f : List Float) (a : State) (x : ℕ) (counts : List ℕ) (r : Bool) (counts' : List ℕ) : Type 0 where
   pub answer : r ≡ tried_by p f a && extends (setup_of p ln f) counts a.window.len x
   pub counts_are : counts' ≡ cond r (raise counts (plain x)) counts
-
--- What a new entry leads to: a search if it is plain and its count at least min_start_cnt.
-unfoldable pub look_by : Setup → ℕ → Run → Place → Outcome
-look_by S i a ambiguous = record { find = none; counts = a.counts }
-look_by S i a (plain x) = cond (leb S.min_start_cnt (count x a.window)) (search S i a x) (record { find = none; counts = a.counts })
 
 -- What the look of the code answers: nothing more, a find by extension, or that the backward scan is due.
 abbrev pub looked_as : Setup → Run → Look → List ℕ → Outcome

@@ -2,7 +2,7 @@
 use Rattle.std.proofs.Common.{◌≡◌, refl, sym, ap, ap₂, ◌∙◌, ℕ, zero, suc, ◌+◌, ◌-◌, ◌*◌, ◌^◌, ◌≤◌, ◌<◌, le_trans, le_of_eq, one-mul, mul-pos, mul-le-mul_left, mul-le-mul_right, le_of_mul-le-mul_right, pow-suc, arith, lit≤}
 use native.Mathlib.Nat.{mul-mul-mul_comm, pow-zero, pow-le-pow_left, div-le_of_le-mul}
 use Rattle.floats.specs.Binary64.{one}
-use Rattle.floats.proofs.Rounded.{eps}
+use Rattle.floats.specs.Terms.Rounded.{eps}
 use Rattle.floats.proofs.Binary64.{one_eps}
 use Rattle.tables.specs.Series.{term, lower, rest, upper, over, total}
 use Rattle.tables.proofs.LnBound.Horner.{num, den, den_pos}

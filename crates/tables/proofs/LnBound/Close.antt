@@ -3,7 +3,7 @@ use Rattle.std.proofs.Common.{◌≡◌, sym, ap, Bool, false, ℕ, ◌+◌, ◌
 use lib.Ieee.{unlike}
 use Rattle.floats.specs.Arithmetic.{◌⊕◌, ◌⊗◌, ◌⊘◌}
 use Rattle.floats.specs.Binary64.{one}
-use Rattle.floats.proofs.Rounded.{eps}
+use Rattle.floats.specs.Terms.Rounded.{eps}
 use Rattle.floats.proofs.Binary64.{one_pos}
 use Rattle.floats.proofs.Sized.{Sized, mul_rounded, div_rounded, add_rounded}
 

@@ -5,7 +5,7 @@ use native.Mathlib.Nat.{pow-le-pow_right}
 use lib.Ieee.{of_bits, of_int}
 use Rattle.floats.specs.Arithmetic.{◌⊗◌, ◌⊘◌}
 use Rattle.floats.specs.Binary64.{one, number, one64}
-use Rattle.floats.proofs.Rounded.{eps}
+use Rattle.floats.specs.Terms.Rounded.{eps}
 use Rattle.floats.proofs.Constants.{one64_is}
 use Rattle.floats.proofs.Binary64.{one_pos, one_eps}
 use Rattle.floats.proofs.Sized.{Sized, number_sized}

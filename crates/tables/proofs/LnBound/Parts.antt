@@ -4,7 +4,7 @@ use lib.Ieee.{binary64, unlike, fits, of_bits}
 use Rattle.floats.specs.Arithmetic.{◌⊕◌, ◌⊖◌, ◌⊗◌, ◌⊘◌}
 use Rattle.floats.specs.Value.{magnitude}
 use Rattle.floats.specs.Binary64.{one, number, one64, two64}
-use Rattle.floats.proofs.Rounded.{Near, eps}
+use Rattle.floats.specs.Terms.Rounded.{Near, eps}
 use Rattle.floats.proofs.Value.{if_pos, if_neg}
 use Rattle.floats.proofs.Constants.{two64_is}
 use Rattle.floats.proofs.Binary64.{one_pos, one_eps, add64}

@@ -3,7 +3,7 @@ use Rattle.std.proofs.Common.{◌≡◌, sym, subst, List, ℕ, ◌+◌, ◌-◌
 use lib.Ieee.{binary64}
 use Rattle.buffers.specs.Fill.{put}
 use Rattle.floats.specs.Binary64.{one, value64, number}
-use Rattle.floats.proofs.Rounded.{eps, pos64, neg64}
+use Rattle.floats.specs.Terms.Rounded.{eps, pos64, neg64}
 use Rattle.floats.proofs.Whole.{Is, is_add, is_sub, is_scaled, is_le, value_is}
 use Rattle.tables.specs.Ln.{ln_of}
 use Rattle.tables.specs.Tables.{ln_table}

@@ -1,7 +1,7 @@
 -- The text holds the letters of the bytes that left the reader.
 use Rattle.std.proofs.Common.{ℕ, ◌≡◌, List, length}
 use Rattle.std.specs.Io.KnownBytes.{Consumes}
-use Rattle.report.specs.Terms.Held.{Held}
+use Rattle.report.specs.Held.{Held}
 use Rattle.contig.specs.Run.{letters_room}
 use Rattle.track.proofs.read_letters.Given as goal
 

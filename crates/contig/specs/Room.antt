@@ -1,4 +1,4 @@
--- Terms of contracts: room for an answer.
+-- Room for an answer, as the calls that write one ask for it.
 use Rattle.std.specs.Prelude.{◌+◌, ◌≤◌, length}
 use Rattle.report.specs.declared.text.Text.{Text}
 use Rattle.contig.specs.Run.{text_room}

@@ -1,4 +1,4 @@
--- Room in a lent text.
+-- Room in a lent text, as the calls that write to it ask for it.
 use Rattle.std.specs.Prelude.{ℕ, ◌+◌, ◌≤◌, List, length}
 use Rattle.report.specs.declared.text.Text.{Text}
 

@@ -1,6 +1,6 @@
--- What the laws of rounding speak of: a value as two naturals of which one is 0, so that a fact on values is a linear fact on naturals, and how far a rounded number strays.
-use Rattle.std.proofs.Common.{◌≡◌, ℕ, ◌+◌, ◌*◌, ◌^◌, ◌≤◌, cond}
-use lib.Ieee.{Float, Format, binary64}
+-- What the laws of rounding speak of: a value as two naturals of which one is 0, so that a fact on values is a linear fact on naturals, and how far a rounded number strays, and a running sum.
+use Rattle.std.specs.Prelude.{◌≡◌, ℕ, ◌+◌, ◌*◌, ◌^◌, ◌≤◌, cond, Float}
+use Rattle.std.specs.Float.{binary64, Format}
 use Rattle.floats.specs.Value.{sign, magnitude, Finite}
 use Rattle.floats.specs.Binary64.{one}
 
@@ -32,3 +32,16 @@ pub record Ranged (B : ℕ) (x : Float) : Type 0 where
   pub ok : Finite binary64 x
   pub high : pos64 x ≤ B * one
   pub low : neg64 x ≡ 0
+
+-- ---- i * 2 ^ -33, for i steps of two roundings each, and 2 ^ -34, for one rounding
+abbrev pub err : ℕ → ℕ
+err i = i * (2097152 * eps)
+
+abbrev pub half : ℕ
+half = 1048576 * eps
+
+-- ---- the scans: after i places s is within i * 2 ^ -33 of the exact sum P - N, which is at most i * 16 in size
+pub record After (i : ℕ) (s : Float) (P N : ℕ) : Type 0 where
+  pub near : Near binary64 s P N (err i)
+  pub high : P ≤ N + i * (16 * one)
+  pub low : N ≤ P + i * (16 * one)
