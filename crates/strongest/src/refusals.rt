@@ -30,6 +30,15 @@ pub fn largest(table: &[u64], w: usize) -> u64
     most
 }
 
+impl<'a> Scoring<'a> {
+    /// The largest of the ln entries 1..w.
+    pub fn largest_ln(&self, w: usize) -> u64
+        ensures { result ≡ largest self.now.ln.now w }
+    {
+        largest(self.ln, w)
+    }
+}
+
 // A lent buffer is shorter than listed.
 #[tactic(auto, unfolding(crate::specs::Checks::too_short_of))]
 fn too_short(request: &Request, codes_len: usize, counts_len: usize) -> bool

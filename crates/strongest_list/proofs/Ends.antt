@@ -1,25 +1,26 @@
 -- One end: what is read of it, and the best of the stretches without a barred letter that end there.
-use Rattle.std.proofs.Common.{◌≡◌, ℕ, zero, suc, ◌+◌, ◌-◌, ◌<◌, ◌≤◌, min, Bool, true, false, cond, ltb, ltb→lt, List, length, get_or, None, Some, ℤ, pos, refl, sym, ap, ◌∙◌, subst, arith, ◌⊎◌, inl, inr, ⊎_elim, eqb, ◌≤ℤ◌, ltb-true, lt-ltb, eqb-true}
+use Rattle.std.proofs.Common.{◌≡◌, ℕ, zero, suc, ◌+◌, ◌-◌, ◌^◌, ◌<◌, ◌≤◌, min, Bool, true, false, cond, ltb, ltb→lt, List, length, get_or, None, Some, ℤ, pos, refl, sym, ap, ◌∙◌, subst, arith, ◌⊎◌, inl, inr, ⊎_elim, eqb, ◌≤ℤ◌, ltb-true, ltb-false, lt-ltb, eqb-true}
 use lib.Signed.{lt_z}
 use Rattle.intervals.proofs.Order.{lt_or_le}
 use Rattle.scans.proofs.Test.{by_test}
 use borrow.Author.Tests.{eqb-false}
 use Rattle.buffers.proofs.At.{default_free}
-use Rattle.letters.specs.Place.{Place}
+use Rattle.letters.specs.Place.{Place, places}
 use Rattle.floats.proofs.Whole.{Is, is_le}
 use Rattle.strongest.specs.declared.scores.Scored.{Scored}
 use Rattle.strongest.specs.declared.scores.Reading.{Reading}
-use Rattle.strongest.specs.Strongest.{score_of, best_of}
+use Rattle.scans.specs.Score.{ln_sums, stretch}
+use Rattle.strongest.specs.Strongest.{entry, score_of, best_of}
 use Rattle.strongest.specs.Terms.Reading.{back_to, scores_back, Narrow, Reads}
 use Rattle.strongest.proofs.Order.{up, down, parts, is_pos, difference_is, lt_is, is_lt}
 use Rattle.strongest.proofs.Largest.{largest_up}
 use Rattle.strongest.proofs.Best.{best_some, best_within, best_highest, best_longest, best_same}
 use Rattle.strongest.proofs.Backward.{part, back_stretch}
 use Rattle.strongest_list.specs.declared.Request.{Request}
+use Rattle.strongest_list.specs.declared.search.EndReading.{EndReading}
 use Rattle.strongest_list.specs.Stretches.{Stretch, ending, score_in, beats}
 use Rattle.strongest_list.specs.Terms.Codes.{run_to}
-use Rattle.strongest_list.specs.Terms.Tiles.{RunOf}
-use Rattle.strongest_list.specs.Terms.Best.{score_of_codes, EndsAt, Picks, steps_of, ReadsEnd}
+use Rattle.strongest_list.specs.Terms.Best.{score_of_codes, EndsAt, Picks, steps_of, ReadsEnd, best_ending}
 use Rattle.strongest_list.proofs.Ranking.{same_stretch, not_beats}
 
 -- The tables are narrow for fewer steps, too.
@@ -43,22 +44,25 @@ module _ (q : Request) (cs : List ℕ) (b : ℕ) where
 
   -- ---- The last m places up to b, read over the letters that they need.
   pub read : (m from size : ℕ) (r : Reading) → b < length cs → 0 < q.kmer → 0 < m → m ≤ b + 1 → m ≤ 65535 → size ≡ min (m + q.kmer - 1) (b + 1) → from ≡ b + 1 - size
-      → Reads q.kmer q.scoring.threshold q.scoring.ln.now q.scoring.f.now (part cs from (b + 1 - from)) m r → ReadsEnd q cs b m r.best
+      → Reads q.kmer q.scoring.threshold q.scoring.ln.now q.scoring.f.now (part cs from (b + 1 - from)) m r → ReadsEnd q cs b m (record { best = r.best; gain = r.gain })
   unfolding score_in
   read m from size r inside some h l few s_is f_is R =
       let k : ℕ = q.kmer in
       let t : ℕ = q.scoring.threshold in
       let same : b + 1 - from ≡ size = omega arith in
       let S : ℕ → ℤ = scores_back k t q.scoring.ln.now q.scoring.f.now (part cs from (b + 1 - from)) in
+      let places_are : (j : ℕ) → j ≤ m → back_to k (part cs from (b + 1 - from)) j ≡ stretch (places k cs) (b + 1 - j) j =
+      λ j i. ap (λ (n : ℕ). back_to k (part cs from n) j) same ∙ back_stretch k cs b m size from inside some l s_is f_is j i in
       let up_to : (j : ℕ) → j ≤ m → S j ≡ at j =
-      λ j i. ap (λ (p : List Place). score_of k t q.scoring.ln.now q.scoring.f.now p)
-      (ap (λ (n : ℕ). back_to k (part cs from n) j) same ∙ back_stretch k cs b m size from inside some l s_is f_is j i) in
+      λ j i. ap (λ (p : List Place). score_of k t q.scoring.ln.now q.scoring.f.now p) (places_are j i) in
       let size_is : r.best.size ≡ best_of at m = R.size h ∙ best_same S at m (λ j _ i. up_to j i) in
       record {
         size = size_is;
         is = sym (up_to r.best.size (omega (arith, size_is, best_at_most at m h))) ∙ R.best h;
         gain_small = omega (arith, R.best_small);
         loss_small = R.loss_small;
+        all = ap (ln_sums (entry q.scoring.ln.now) (4 ^ k)) (sym (places_are m (omega arith))) ∙ R.gain;
+        all_small = omega (arith, R.gain_small);
       }
 
   -- ---- None of the stretches of m places at most up to b beats the best of them.
@@ -81,10 +85,6 @@ module _ (q : Request) (cs : List ℕ) (b : ℕ) where
 
 -- ---- Letters in a row that are not barred.
 module _ (cs : List ℕ) where
-  pub run_none : 0 ≡ run_to cs 0
-  unfolding run_to
-  run_none = refl
-
   pub run_low : (e : ℕ) → run_to cs e ≤ e
   unfolding run_to
   run_low zero = omega arith
@@ -125,26 +125,8 @@ module _ (cs : List ℕ) where
   pub at_zero : (x : ℕ) → x < length cs → get_or cs x 0 ≡ get_or cs x 5
   at_zero x h = default_free cs x 0 5 h
 
-  pub run_of_more : (k w e b run r : ℕ) → e ≡ b + 1 → b < length cs → RunOf k w cs b run → r ≡ cond (ltb (get_or cs b 0) 5) (suc run) 0 → RunOf k w cs e r
-  unfolding run_to
-  run_of_more k w e b run r h i R j =
-      subst (λ (n : ℕ). RunOf k w cs n r) (let z : suc b ≡ e = omega arith in z)
-      (subst (λ (n : ℕ). RunOf k w cs (suc b) n) (sym (j ∙ ap (λ (n : ℕ). cond (ltb n 5) (suc run) 0) (default_free cs b 0 5 i))) (by (ltb (get_or cs b 5) 5) refl))
-    where
-      by : (t : Bool) → ltb (get_or cs b 5) 5 ≡ t → RunOf k w cs (suc b) (cond t (suc run) 0)
-      by true e =
-          let same : run_to cs (suc b) ≡ suc (run_to cs b) = ap (λ (t : Bool). cond t (suc (run_to cs b)) 0) e in
-          record { low = omega (arith, R.low, same); same = λ h. omega (arith, R.same (let z : run < w + k = omega arith in z), same) }
-      by false e =
-          let same : run_to cs (suc b) ≡ 0 = ap (λ (t : Bool). cond t (suc (run_to cs b)) 0) e in
-          record { low = omega arith; same = λ h. sym same }
-
-  pub run_more : (e b run r : ℕ) → e ≡ b + 1 → b < length cs → run ≡ run_to cs b → r ≡ cond (ltb (get_or cs b 0) 5) (suc run) 0 → r ≡ run_to cs e
-  unfolding run_to
-  run_more e b run r h k i j = j ∙ ap (λ (n : ℕ). cond (ltb n 5) (suc run) 0) (default_free cs b 0 5 k) ∙ ap (λ (n : ℕ). cond (ltb (get_or cs b 5) 5) (suc n) 0) i ∙ ap (run_to cs) (let z : suc b ≡ e = omega arith in z)
-
 -- ---- How many places the longest free stretch has.
-steps_cases : (k w b run : ℕ) → ((run ≡ b + 1) × (steps_of k w b run ≡ min w run)) ⊎ ((run ≡ b + 1 → ⊥) × (steps_of k w b run ≡ min w (run + 1 - k)))
+pub steps_cases : (k w b run : ℕ) → ((run ≡ b + 1) × (steps_of k w b run ≡ min w run)) ⊎ ((run ≡ b + 1 → ⊥) × (steps_of k w b run ≡ min w (run + 1 - k)))
 steps_cases k w b run = go (eqb run (b + 1)) refl
   where
     go : (t : Bool) → eqb run (b + 1) ≡ t → ((run ≡ b + 1) × (min w (cond t run (run + 1 - k)) ≡ min w run)) ⊎ ((run ≡ b + 1 → ⊥) × (min w (cond t run (run + 1 - k)) ≡ min w (run + 1 - k)))
@@ -153,6 +135,15 @@ steps_cases k w b run = go (eqb run (b + 1)) refl
 
 pub steps_in : (k w b run m : ℕ) → 0 < k → run ≤ b + 1 → m ≡ steps_of k w b run → (m ≤ b + 1) × (m ≤ w)
 steps_in k w b run m some h e = ⊎_elim (λ c. let j = c.1 in (omega arith, omega arith)) (λ c. let j = c.1 in (omega arith, omega arith)) (steps_cases k w b run)
+
+-- `run` letters in a row before letter e, as far as any search asks.
+pub record RunOf (k w : ℕ) (cs : List ℕ) (e run : ℕ) : Type 0 where
+  pub low : run ≤ run_to cs e
+  pub same : run < w + k → run ≡ run_to cs e
+
+-- A free stretch has a free letter at its end.
+pub run_some : (k w b run : ℕ) → 0 < k → 0 < steps_of k w b run → 0 < run
+run_some k w b run some h = ⊎_elim (λ c. let j = c.0 in omega arith) (λ c. let j = c.1 in omega arith) (steps_cases k w b run)
 
 -- Letters in a row beyond those that any search asks for make no difference.
 pub steps_same : (k w b run : ℕ) (cs : List ℕ) → 0 < k → RunOf k w cs (b + 1) run → steps_of k w b run ≡ steps_of k w b (run_to cs (b + 1))
@@ -201,7 +192,10 @@ module _ (q : Request) (cs : List ℕ) (b run m : ℕ) (some : 0 < q.kmer) (insi
   pub none_there : m ≡ 0 → Picks f (EndsAt q cs b) None
   none_there z = record { chosen = λ s e. let n = steps_most s e in let some' = e.eligible.some in let x : ⊥ = omega arith in x; exact = tt }
 
-  module _ (r : Scored) (R : ReadsEnd q cs b m r) (made : 0 < m) where
+  module _ (e : EndReading) (R : ReadsEnd q cs b m e) (made : 0 < m) where
+    abbrev r : Scored
+    r = e.best
+
     m_in : (m ≤ b + 1) × (m ≤ q.window_size)
     m_in = steps_in q.kmer q.window_size b run m some run_within m_is
 
@@ -217,7 +211,7 @@ module _ (q : Request) (cs : List ℕ) (b run m : ℕ) (some : 0 < q.kmer) (insi
         (subst (λ (n : ℕ). beats f (ending b s.size) (ending b n) ≡ false) (sym R.size)
         (best_unbeaten q cs b m s.size e.eligible.some (steps_most s e) m_in.0))
 
-    pub one_there : q.floor < r.gain - r.loss → Picks f (EndsAt q cs b) (Some (record { first = b + 1 - r.size; size = r.size; gain = r.gain; loss = r.loss }))
+    one_there : q.floor < r.gain - r.loss → Picks f (EndsAt q cs b) (Some (record { first = b + 1 - r.size; size = r.size; gain = r.gain; loss = r.loss }))
     one_there h =
         let i = size_in in
         let j = m_in in
@@ -238,7 +232,7 @@ module _ (q : Request) (cs : List ℕ) (b run m : ℕ) (some : 0 < q.kmer) (insi
           exact = record { is = R.is; gain_small = R.gain_small; loss_small = R.loss_small };
         }
 
-    pub none_above : r.gain - r.loss ≤ q.floor → Picks f (EndsAt q cs b) None
+    none_above : r.gain - r.loss ≤ q.floor → Picks f (EndsAt q cs b) None
     none_above h =
         record {
           chosen = λ s e.
@@ -252,3 +246,11 @@ module _ (q : Request) (cs : List ℕ) (b run m : ℕ) (some : 0 < q.kmer) (insi
               z;
           exact = tt;
         }
+
+    pub ends_here : Picks f (EndsAt q cs b) (best_ending q b e)
+    ends_here = by (ltb q.floor (r.gain - r.loss)) refl
+      where
+        by : (t : Bool) → ltb q.floor (r.gain - r.loss) ≡ t
+            → Picks f (EndsAt q cs b) (cond t (Some (record { first = b + 1 - r.size; size = r.size; gain = r.gain; loss = r.loss })) None)
+        by true g = one_there (ltb-true q.floor (r.gain - r.loss) g)
+        by false g = none_above (ltb-false q.floor (r.gain - r.loss) g)

@@ -2,6 +2,9 @@ pub mod Ranking
 pub mod Choosing
 pub mod Ends
 pub mod Steps
+pub mod Orders
+pub mod Turning
+pub mod Leaving
 pub mod Shown
 pub mod Same
 pub mod Taking
@@ -12,6 +15,4 @@ pub mod Examples
 pub mod Laws
 pub mod Floors
 pub mod Places
-pub mod Orders
-pub mod Turning
 pub mod Mirror

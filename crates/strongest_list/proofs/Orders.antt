@@ -41,7 +41,7 @@ gain_is ln m (e ∷ q) h =
     ∙ ap₂ (λ (x y : ℤ). x +ℤ y) (gain_is ln m q h.1) (adds_worth ln q e)
     ∙ ap pos (let z : gain ln q + worth ln q e ≡ worth ln q e + gain ln q = omega arith in z)
 
-abbrev natural : ℤ → ℕ
+abbrev pub natural : ℤ → ℕ
 natural (pos n) = n
 natural (negsuc n) = 0
 

@@ -1,12 +1,12 @@
 -- Ends in order: the best of the stretches that end before place e, and of those that end at it.
-use Rattle.std.proofs.Common.{◌≡◌, ℕ, ◌+◌, ◌<◌, ◌≤◌, Bool, true, false, cond, ltb, leb, ◌&&◌, ◌||◌, List, Option, None, Some, ℤ, refl, sym, ap, ap₂, ◌∙◌, subst, arith, ◌⊎◌, inl, inr, ⊎_elim, eqb, eq-or-lt_of_le, le-ltb, eqb-true, IfSome}
+use Rattle.std.proofs.Common.{◌≡◌, ℕ, ◌+◌, ◌<◌, Bool, true, false, cond, ltb, leb, ◌&&◌, ◌||◌, List, Option, None, Some, ℤ, refl, sym, ap, ap₂, ◌∙◌, subst, arith, ◌⊎◌, inl, inr, ⊎_elim, eqb, eq-or-lt_of_le, le-ltb, eqb-true}
 use Rattle.floats.proofs.Whole.{Is, le_is}
 use Rattle.strongest.proofs.Order.{difference_is, lt_is}
 use Rattle.strongest_list.specs.declared.Request.{Request}
 use Rattle.strongest_list.specs.declared.search.Candidate.{Candidate}
 use Rattle.strongest_list.specs.Stretches.{Stretch, beats}
 use Rattle.strongest_list.specs.Terms.Tiles.{EndsIn}
-use Rattle.strongest_list.specs.Terms.Best.{score_of_codes, EndsAt, Exact, Small, Picks, stretch_of, better_of}
+use Rattle.strongest_list.specs.Terms.Best.{score_of_codes, EndsAt, Exact, Picks, stretch_of, better_of}
 use Rattle.strongest_list.proofs.Choosing.{only_left, only_right, better_left, better_right}
 
 exact_is : (score : Stretch → ℤ) (c : Candidate) → Exact score c → Is (score (stretch_of c)) c.gain c.loss
@@ -40,23 +40,20 @@ module _ (score : Stretch → ℤ) where
       by false e = record { chosen = better_left score P Q R left right both (stretch_of o) (stretch_of n) h.chosen k.chosen e; exact = h.exact }
 
 module _ (q : Request) (cs : List ℕ) where
-  pub ends_none : (lo : ℕ) → Picks (score_of_codes q cs) (EndsIn q cs lo lo) None
-  ends_none lo = record { chosen = λ s h. let e = h.to in let f = h.from in let z : ⊥ = omega arith in z; exact = tt }
+  pub ends_none : (hi : ℕ) → Picks (score_of_codes q cs) (EndsIn q cs hi hi) None
+  ends_none hi = record { chosen = λ s h. let e = h.to in let f = h.from in let z : ⊥ = omega arith in z; exact = tt }
 
-  pub ends_more : (lo e b : ℕ) (o n r : Option Candidate) → e ≡ b + 1 → lo ≤ b → Picks (score_of_codes q cs) (EndsIn q cs lo b) o → Picks (score_of_codes q cs) (EndsAt q cs b) n → r ≡ better_of o n
-      → Picks (score_of_codes q cs) (EndsIn q cs lo e) r
-  ends_more lo e b o n r same low h k d =
-      subst (λ (c : Option Candidate). Picks (score_of_codes q cs) (EndsIn q cs lo e) c) (sym d)
-      (better_picks (score_of_codes q cs) (EndsIn q cs lo b) (EndsAt q cs b) (EndsIn q cs lo e)
-      (λ s p. record { eligible = p.eligible; from = p.from; to = omega (arith, p.to) })
+  -- End b joins those after it.
+  pub end_joins : (b e hi : ℕ) (o n : Option Candidate) → e ≡ b + 1 → b < hi → Picks (score_of_codes q cs) (EndsIn q cs e hi) o → Picks (score_of_codes q cs) (EndsAt q cs b) n
+      → Picks (score_of_codes q cs) (EndsIn q cs b hi) (better_of n o)
+  end_joins b e hi o n same low h k =
+      better_picks (score_of_codes q cs) (EndsAt q cs b) (EndsIn q cs e hi) (EndsIn q cs b hi)
       (λ s p. record { eligible = p.eligible; from = omega (arith, p.ends); to = omega (arith, p.ends) })
-      (λ s p. ⊎_elim (λ i. inr (record { eligible = p.eligible; ends = omega arith })) (λ i. inl (record { eligible = p.eligible; from = p.from; to = omega arith })) (eq-or-lt_of_le p.to))
-      (λ s t p i. omega (arith, p.to, i.ends)) o n h k)
+      (λ s p. record { eligible = p.eligible; from = omega (arith, p.from); to = p.to })
+      (λ s p. ⊎_elim (λ i. inl (record { eligible = p.eligible; ends = omega arith })) (λ i. inr (record { eligible = p.eligible; from = omega arith; to = p.to })) (eq-or-lt_of_le p.from))
+      (λ s t p i. omega (arith, p.ends, i.from)) n o k h
 
-  pub small : (o : Option Candidate) (P : Stretch → Type 0) → Picks (score_of_codes q cs) P o → IfSome o Small
-  small None P h = tt
-  small (Some c) P h = record { gain_small = h.exact.gain_small; loss_small = h.exact.loss_small }
-
-  -- After the last turn.
-  pub ends_all : (lo e n : ℕ) (o : Option Candidate) → e ≤ n → n ≤ e → Picks (score_of_codes q cs) (EndsIn q cs lo e) o → Picks (score_of_codes q cs) (EndsIn q cs lo n) o
-  ends_all lo e n o h k p = subst (λ (m : ℕ). Picks (score_of_codes q cs) (EndsIn q cs lo m) o) (let z : e ≡ n = omega arith in z) p
+-- Nothing found at an end leaves what was found.
+pub better_none : (o : Option Candidate) → better_of None o ≡ o
+better_none None = refl
+better_none (Some c) = refl

@@ -1,4 +1,5 @@
 pub mod Codes
 pub mod Best
 pub mod Tiles
+pub mod Leaving
 pub mod Listed

@@ -30,11 +30,7 @@ pub record Bars (from to : ℕ) (cs cs' : List ℕ) : Type 0 where
 pub record Opens (s : List ℕ) (i : Interval) (cs cs' : List ℕ) : Type 0 where
   pub at : (x : ℕ) → get_or cs' x 5 ≡ cond (leb i.start x && ltb x i.end) (get_or (codes s) x 4) (get_or cs x 5)
 
--- How many letters in a row are not barred, `run` of them before a letter with this code.
-abbrev pub run_on : ℕ → ℕ → ℕ
-run_on run code = cond (ltb code 5) (suc run) 0
-
 -- How many letters in a row before letter e are not barred.
 unfoldable pub run_to : List ℕ → ℕ → ℕ
 run_to cs zero = 0
-run_to cs (suc e) = run_on (run_to cs e) (get_or cs e 5)
+run_to cs (suc e) = cond (ltb (get_or cs e 5) 5) (suc (run_to cs e)) 0

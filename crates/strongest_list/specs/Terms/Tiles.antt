@@ -6,7 +6,6 @@ use Rattle.strongest_list.specs.declared.search.Candidate.{Candidate}
 use Rattle.strongest_list.specs.declared.tiles.Tile.{Tile}
 use Rattle.strongest_list.specs.Stretches.{Stretch, score, beats}
 use Rattle.strongest_list.specs.Call.{asked_of}
-use Rattle.strongest_list.specs.Terms.Codes.{run_to}
 use Rattle.strongest_list.specs.Terms.Best.{Eligible, stretch_of, Exact}
 
 -- How many ends a tile has.
@@ -27,11 +26,6 @@ pub record EndsIn (q : Request) (cs : List ℕ) (lo hi : ℕ) (s : Stretch) : Ty
   pub eligible : Eligible q cs s
   pub from : lo < s.first + s.size
   pub to : s.first + s.size ≤ hi
-
--- `run` letters in a row before letter e, as far as any search asks.
-pub record RunOf (k w : ℕ) (cs : List ℕ) (e run : ℕ) : Type 0 where
-  pub low : run ≤ run_to cs e
-  pub same : run < w + k → run ≡ run_to cs e
 
 abbrev pub candidate_of : Tile → Candidate
 candidate_of t = record { first = t.first; size = t.size; gain = t.gain; loss = t.loss }

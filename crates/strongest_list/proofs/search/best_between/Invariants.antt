@@ -1,11 +1,16 @@
--- Before place b the best of the stretches that end from lo on, and the letters in a row that are not barred.
+-- The best of the stretches that end at place `from` or later.
+use Rattle.std.proofs.Common.{◌≤◌}
 use Rattle.strongest_list.specs.Terms.Best.{score_of_codes, Picks}
-use Rattle.strongest_list.specs.Terms.Tiles.{EndsIn, RunOf}
+use Rattle.strongest_list.specs.Terms.Tiles.{EndsIn}
 use Rattle.strongest_list.proofs.search.best_between.Given as goal
 
-abbrev pub invariant-loop-b : goal.invariant-loop-b
-invariant-loop-b l =
+abbrev pub invariant-down : goal.invariant-down
+invariant-down l =
     record {
-      run_is : RunOf l.request.kmer l.request.window_size l.codes l.b l.run;
-      picks : Picks (score_of_codes l.request l.codes) (EndsIn l.request l.codes l.lo l.b) l.best;
+      low : l.lo ≤ l.reached.from;
+      high : l.reached.from ≤ l.hi;
+      picks : Picks (score_of_codes l.request l.codes) (EndsIn l.request l.codes l.reached.from l.hi) l.reached.best;
     }
+
+abbrev pub decreases-down : goal.decreases-down
+decreases-down l = l.reached.from
