@@ -120,6 +120,7 @@ run "$program" contigs 1 2000
 run "$program" questions 1 200000
 run "$program" tracks 1 200000
 run compare/bedtools.sh
+run "$program" strands 1 100000
 run "$program" strongest 1 200000
 run "$program" small 1 200000
 run "$program" short port

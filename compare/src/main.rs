@@ -25,6 +25,7 @@ mod sets;
 mod strongest;
 mod short;
 mod small;
+mod strands;
 #[cfg(test)]
 mod tests;
 mod tracks;
@@ -54,6 +55,7 @@ compare questions bench    questions per second of both, 1,000,000 intervals in 
 compare tracks SEED COUNT  joined tracks, the port's against a plain join letter by letter, on random pairs
 compare tracks beds FOLDER SEED COUNT  larger pairs as BED files, for compare/bedtools.sh
 compare tracks held FOLDER SEED COUNT  the port on these pairs against what bedtools made of them
+compare strands SEED COUNT one strand alone, both joined and the tables alone against the original, on random requests
 compare strongest SEED COUNT  the strongest stretch at a letter, the port's against a plain search
 compare short              the table of all short sequences, by the original: crates/short_sequences_table/stdout
 compare short port         the port's call for it, on every size and past the bounds
@@ -103,6 +105,7 @@ fn main() {
             let held = tracks::held(tracks_port(), folder, number(seed), number(count));
             held.unwrap_or_else(|error| stop(&error.to_string()))
         }
+        ["strands", seed, count] => strands::command(strands_port(), number(seed), number(count)),
         ["strongest", seed, count] => strongest::command(strongest_port(), number(seed), number(count)),
         ["small", "bench"] => return small::bench(small_port(), port()),
         ["small", seed, count] => small::command(small_port(), port(), number(seed), number(count)),
@@ -137,6 +140,16 @@ fn tracks_port() -> tracks::Port {
 }
 
 #[cfg(port)]
+fn strands_port() -> strands::Port {
+    strands::Port {
+        fill: archive::fill_tables,
+        strand: archive::strand,
+        merge: archive::merge_strands,
+        text: archive::refusal_text,
+    }
+}
+
+#[cfg(port)]
 fn strongest_port() -> strongest::Port {
     strongest::port
 }
@@ -168,6 +181,11 @@ fn questions_port() -> questions::Port {
 
 #[cfg(not(port))]
 fn tracks_port() -> tracks::Port {
+    stop(WITHOUT_PORT)
+}
+
+#[cfg(not(port))]
+fn strands_port() -> strands::Port {
     stop(WITHOUT_PORT)
 }
 
