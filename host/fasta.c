@@ -17,7 +17,7 @@ static void fault(struct fasta *fasta, uint64_t line, const char *what) {
 
 uint64_t record_bytes(const struct options *o, const struct record *record, uint64_t letters, int calls) {
     uint64_t own = sizeof *record + record->header_len + record->runs_capacity * sizeof *record->runs;
-    return own + (calls == 0 ? letters : (uint64_t)calls * (letters + lent_bytes(o, letters)));
+    return own + letters + (calls == 0 ? 0 : lent_bytes(o, letters, calls));
 }
 
 /* Goes on without the letters of a record that cannot be masked. */
@@ -42,7 +42,7 @@ static uint64_t most_letters(const struct fasta *fasta, const struct record *rec
 static void grow(struct fasta *fasta, struct record *record, uint64_t letters) {
     uint64_t most = most_letters(fasta, record), next = record->letters_capacity + record->letters_capacity / 4 + 4096;
     if (letters > most) {
-        give_up(fasta, record, letters > MOST_LETTERS ? 10 : TOO_LARGE);
+        give_up(fasta, record, letters > MOST_LETTERS ? LONGDUST_TOO_MANY_LETTERS : TOO_LARGE);
         return;
     }
     if (next < letters) next = letters;

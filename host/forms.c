@@ -1,9 +1,11 @@
 #include "forms.h"
 
 #include <inttypes.h>
+#include <stdbool.h>
 #include <stdio.h>
 #include <string.h>
 
+#include "longdust.h"
 #include "say.h"
 
 static void put_text(struct output *out, const char *text) { put_bytes(out, text, strlen(text)); }
@@ -91,26 +93,37 @@ void put_record(struct output *out, const struct options *o, const struct record
     end_record(out);
 }
 
-void say_refused(const struct record *record) {
-    const char *name = record->header + 1;
-    int length = (int)record->name_len, byte = record->refused_byte;
+/* The archive's text of a refusal. */
+static void refusal_text(int64_t refusal, char text[80]) {
+    int64_t length = longdust_refusal_text((uint32_t)refusal, (uint8_t *)text, 79);
+    text[length < 0 ? 0 : length] = '\0';
+}
+
+/* Behind the text: which letter earned the refusal, or how many there are. */
+static void refusal_detail(const struct record *record, char detail[80]) {
+    int byte = record->refused_byte;
+    bool shown = byte > 32 && byte < 127;
     size_t at = record->refused_at + 1;
     switch (-record->result) {
-        case 2: say("%.*s: refused (2): letter %zu is the byte %d, which is above 127", length, name, at, byte); break;
-        case 3:
-            say("%.*s: refused (3): it has %" PRIu64 " letters, and --kmer asks for more", length, name,
-                record->letters_len);
+        case LONGDUST_HIGH_BYTE:
+        case LONGDUST_OTHER_BYTE:
+            snprintf(detail, 80, shown ? ": letter %zu is '%c'" : ": letter %zu is the byte %d", at, byte);
             break;
-        case 10: say("%.*s: refused (10): it has more than 2147483647 letters", length, name); break;
-        case 13:
-            say(byte > 32 && byte < 127 ? "%.*s: refused (13): letter %zu is '%c', and only A to Z, - and * are accepted"
-                                        : "%.*s: refused (13): letter %zu is the byte %d, and only A to Z, - and * "
-                                          "are accepted",
-                length, name, at, byte);
-            break;
-        case TOO_LARGE:
-            say("%.*s: left out: its %" PRIu64 " letters do not fit --memory", length, name, record->letters_len);
-            break;
-        default: say("%.*s: refused (%d)", length, name, (int)-record->result); break;
+        case LONGDUST_TOO_FEW_LETTERS:
+        case LONGDUST_TOO_MANY_LETTERS: snprintf(detail, 80, ": it has %" PRIu64, record->letters_len); break;
+        default: detail[0] = '\0'; break;
     }
+}
+
+void say_refused(const struct record *record) {
+    const char *name = record->header + 1;
+    int length = (int)record->name_len;
+    char text[80], detail[80];
+    if (record->result == -TOO_LARGE) {
+        say("%.*s: left out: its %" PRIu64 " letters do not fit --memory", length, name, record->letters_len);
+        return;
+    }
+    refusal_text(-record->result, text);
+    refusal_detail(record, detail);
+    say("%.*s: refused (%d): %s%s", length, name, (int)-record->result, text, detail);
 }

@@ -1,12 +1,6 @@
-/* Two calls for one record give the mask of one call on both strands. That mask is, by definition, the forward
- * strand's list merged with the list of the reverse complement read backwards (`mask_of` in
- * crates/mask/specs/Mask.antt); a forward-only call answers the forward list of the letters that it is given,
- * and the letters that `reverse_complement` makes have the codes of the reverse complement. The proved joining
- * (`longdust_join_tracks`, letters in either) answers a list of the usual kind that covers the letters of both; the
- * mask is such a list too, and two lists of the usual kind that cover the same letters are equal (`canonical_unique`
- * in crates/intervals/proofs/Theorems.antt). The forward mark of an interval says that one of the forward list
- * lies in it; the joining sets it where one of them shares a letter with it, which is the same, since the interval
- * holds all letters of both lists that touch it. Likewise the reverse mark, with the strands exchanged. */
+/* A long record is masked by two threads, one strand each (`longdust_strand`), and the lists of both strands make its
+ * mask (`longdust_merge_strands`): the same mask and marks as of one call, by `strands_make_mask` in
+ * crates/longdust/proofs/StrandTheorems.antt. Any other record is masked by one call. */
 #include "mask.h"
 
 #include <stdlib.h>
@@ -15,7 +9,7 @@
 #include "memory.h"
 #include "say.h"
 
-/* From this many letters on a record is masked by two calls. */
+/* From this many letters on a record is masked by two calls, one a strand. */
 #ifndef LONG_RECORD
 #define LONG_RECORD 1000000
 #endif
@@ -28,11 +22,21 @@ uint64_t bench_bytes(const struct options *o) { return 36 * o->window_size + 24 
 
 enum { ROW = 3 * 8 + 1 }; /* an interval in each of the three lists, and its mark */
 
-uint64_t lent_bytes(const struct options *o, uint64_t letters) { return 2 * letters + 1 + ROW * (uint64_t)rows(o, letters); }
+/* Two calls: both strands' codes and lists; then the lists, as long as they turned out, and the joined one with its
+ * marks, which has at most as many intervals as both. */
+static uint64_t strands_bytes(uint64_t letters, uint64_t r) {
+    uint64_t masking = 2 * letters + 2 * 8 * r, joining = (8 + 8 + 1) * 2 * r;
+    return masking < joining ? joining : masking;
+}
+
+uint64_t lent_bytes(const struct options *o, uint64_t letters, int calls) {
+    uint64_t r = (uint64_t)rows(o, letters);
+    return calls == 2 ? strands_bytes(letters, r) : 2 * letters + ROW * r;
+}
 
 uint64_t letters_within(const struct options *o, uint64_t bytes) {
     uint64_t k = o->kmer;
-    return bytes <= ROW + 1 ? 0 : (bytes - ROW - 1) / (3 * (k + 1) + ROW) * (k + 1);
+    return bytes <= ROW ? 0 : (bytes - ROW) / (3 * (k + 1) + ROW) * (k + 1);
 }
 
 bool is_long(const struct options *o, uint64_t letters) {
@@ -70,14 +74,18 @@ void free_bench(struct bench *bench) {
     free(bench->candidates);
 }
 
-static struct lent lend(const struct options *o, uint8_t *letters, uint64_t n) {
+/* What a call on both strands is lent, and what a call on one. */
+static struct lent lend_both(const struct options *o, size_t n) {
     return (struct lent){
-        .letters = letters,
-        .codes = new_memory(n + 1), /* joining writes a mark an interval there, n + 1 at most */
+        .codes = new_memory(n),
         .reverse_codes = new_memory(n),
         .lists = new_memory(3 * rows(o, n) * sizeof(uint32_t[2])),
         .marks = new_memory(rows(o, n)),
     };
+}
+
+static struct lent lend_strand(const struct options *o, size_t n) {
+    return (struct lent){.codes = new_memory(n), .lists = new_memory(rows(o, n) * sizeof(uint32_t[2]))};
 }
 
 static void take_back(struct lent *lent) {
@@ -88,35 +96,45 @@ static void take_back(struct lent *lent) {
     *lent = (struct lent){0};
 }
 
-/* The arguments of both masking calls, in their order. */
-#define ARGUMENTS                                                                                                     \
-    lent->letters, n, o->kmer, o->window_size, o->score_threshold, o->gc_kind, o->gc_value, o->xdrop_set,             \
-        o->xdrop_length, o->min_start_cnt, o->approx, forward_only, bench->ln, o->window_size + 1, bench->f,          \
-        o->window_size + 2, bench->queue, o->window_size, bench->window_counts, kmers(o), bench->scan_counts,         \
-        kmers(o), bench->candidates, o->window_size, lent->codes, n, lent->reverse_codes, n, lent->lists + r, r,      \
+/* What the masking calls are told: the options up to `approx`, the tables, and a thread's work space. */
+#define OPTIONS                                                                                                       \
+    o->kmer, o->window_size, o->score_threshold, o->gc_kind, o->gc_value, o->xdrop_set, o->xdrop_length,              \
+        o->min_start_cnt, o->approx
+#define BENCH                                                                                                         \
+    bench->ln, o->window_size + 1, bench->f, o->window_size + 2, bench->queue, o->window_size, bench->window_counts,  \
+        kmers(o), bench->scan_counts, kmers(o), bench->candidates, o->window_size
+#define BOTH                                                                                                          \
+    letters, n, OPTIONS, o->forward_only, BENCH, lent->codes, n, lent->reverse_codes, n, lent->lists + r, r,          \
         lent->lists + 2 * r, r, lent->lists, r, lent->marks, r, &in_range
 
-/* With tables that the call fills, or with those that are there. */
-static int64_t call(struct bench *bench, struct lent *lent, size_t n, bool fill, uint32_t forward_only) {
+/* Both strands, or the forward one alone if the options say so; the call fills the tables, or reads those that are
+ * there. */
+static int64_t mask_both(struct bench *bench, const uint8_t *letters, size_t n, struct lent *lent) {
     const struct options *o = bench->masker->options;
     size_t r = rows(o, n);
     uint32_t in_range;
-    return fill ? longdust_process(ARGUMENTS) : longdust_process_tables(ARGUMENTS);
+    return o->gc_kind == GC_AUTO ? longdust_process(BOTH) : longdust_process_tables(BOTH);
 }
 
-/* The tables depend on the letters only if GC is the record's own; else any sequence fills them, here k + 1 A. */
+static int64_t fill_tables(const struct options *o, const uint8_t *letters, size_t n, double *ln, double *f, uint8_t *codes) {
+    uint32_t in_range;
+    return longdust_fill_tables(letters, n, o->kmer, o->window_size, o->score_threshold, o->gc_kind, o->gc_value, ln,
+                                o->window_size + 1, f, o->window_size + 2, codes, n, &in_range);
+}
+
+/* One strand. */
+static int64_t mask_strand(struct bench *bench, const uint8_t *letters, size_t n, struct lent *lent, uint32_t reverse) {
+    const struct options *o = bench->masker->options;
+    uint32_t in_range;
+    int64_t filled = o->gc_kind == GC_AUTO ? fill_tables(o, letters, n, bench->ln, bench->f, lent->codes) : 0;
+    if (filled < 0) return filled;
+    return longdust_strand(letters, n, OPTIONS, reverse, BENCH, lent->codes, n, lent->lists, rows(o, n), &in_range);
+}
+
+/* The tables depend on the letters only if GC is the record's own; then each call has its own. */
 struct masker make_masker(const struct options *o) {
-    struct masker masker = {.options = o};
-    uint8_t letters[13];
-    size_t n = o->kmer + 1;
-    memset(letters, 'A', n);
-    masker.ln = new_ln(o);
-    masker.f = new_f(o);
-    struct bench bench = bench_with(&masker, masker.ln, masker.f);
-    struct lent lent = lend(o, letters, n);
-    int64_t result = call(&bench, &lent, n, true, 1);
-    take_back(&lent);
-    free_bench(&bench);
+    struct masker masker = {.options = o, .ln = new_ln(o), .f = new_f(o)};
+    int64_t result = fill_tables(o, NULL, 0, masker.ln, masker.f, NULL);
     if (result < 0) fail("the masker refuses the options with %d", (int)-result);
     return masker;
 }
@@ -126,68 +144,42 @@ void free_masker(struct masker *masker) {
     free(masker->f);
 }
 
-/* The complement of each byte: U counts as T; a byte that is no base is its own, as its code is. */
-static void fill_complements(uint8_t complements[256]) {
-    static const char bases[] = "ACGTUacgtu", others[] = "TGCAAtgcaa";
-    for (int byte = 0; byte < 256; byte++) complements[byte] = (uint8_t)byte;
-    for (size_t i = 0; i < sizeof bases - 1; i++) complements[(uint8_t)bases[i]] = (uint8_t)others[i];
-}
-
-static uint8_t *reverse_complement(const uint8_t *letters, size_t n) {
-    uint8_t complements[256], *reversed = new_memory(n);
-    fill_complements(complements);
-    for (size_t i = 0; i < n; i++) reversed[n - 1 - i] = complements[letters[i]];
-    return reversed;
-}
-
 void lend_call(const struct options *o, struct record *record, int index) {
     size_t n = (size_t)record->letters_len;
-    record->lent[index] = lend(o, index == 0 ? record->letters : reverse_complement(record->letters, n), n);
+    record->lent[index] = record->calls == 2 ? lend_strand(o, n) : lend_both(o, n);
+}
+
+/* A strand's list is as long as it turned out, and its codes are done with. */
+static void keep_list(struct lent *lent) {
+    free(lent->codes);
+    lent->codes = NULL;
+    lent->lists = resized(lent->lists, (uint64_t)(lent->result < 0 ? 0 : lent->result) * sizeof *lent->lists);
 }
 
 void make_call(struct bench *bench, struct record *record, int index) {
-    const struct options *o = bench->masker->options;
     struct lent *lent = &record->lent[index];
-    bool alone = record->calls == 2;
-    lent->result = call(bench, lent, (size_t)record->letters_len, o->gc_kind == GC_AUTO, o->forward_only || alone);
-    if (index == 1) free(lent->letters);
-    lent->letters = NULL;
-}
-
-/* The list of the reverse complement as one of the record's letters, from the last entry on. */
-static void read_backwards(uint32_t (*list)[2], size_t count, uint32_t n) {
-    for (size_t i = 0, j = count; i < j--; i++) {
-        uint32_t start = n - list[j][1], end = n - list[j][0];
-        list[j][0] = n - list[i][1];
-        list[j][1] = n - list[i][0];
-        list[i][0] = start;
-        list[i][1] = end;
+    size_t n = (size_t)record->letters_len;
+    if (record->calls == 2) {
+        lent->result = mask_strand(bench, record->letters, n, lent, (uint32_t)index);
+        keep_list(lent);
+    } else {
+        lent->result = mask_both(bench, record->letters, n, lent);
     }
 }
 
-/* The letters in either strand's list, touching intervals joined, into the work lists of `ours`, and the marks of
- * ours into its codes; the answer is the number of intervals. */
-static size_t join_either(const struct options *o, size_t n, struct lent *ours, const struct lent *theirs) {
-    size_t r = rows(o, n), entries = (size_t)(ours->result + theirs->result);
-    int64_t count = longdust_join_tracks(0, n, (const uint32_t(*)[2])ours->lists, (size_t)ours->result, ours->marks,
-                                         (size_t)ours->result, (const uint32_t(*)[2])theirs->lists,
-                                         (size_t)theirs->result, ours->lists + r, entries, ours->codes, entries);
-    if (count < 0) fail("the masker refuses to join two strands with %d", (int)-count);
-    return (size_t)count;
-}
-
-/* Of two calls: the mask with its marks, in the lent list and marks of the first. The joined list is the same
- * whichever strand is ours, and the marks of an interval are those of both. */
-static void join_strands(const struct options *o, struct record *record) {
+/* The mask of two strands, in the place of the first one's list. */
+static void join_strands(struct record *record) {
     struct lent *forward = &record->lent[0], *reverse = &record->lent[1];
-    size_t n = (size_t)record->letters_len;
-    read_backwards(reverse->lists, (size_t)reverse->result, (uint32_t)n);
-    memset(reverse->marks, 2, (size_t)reverse->result);
-    size_t count = join_either(o, n, forward, reverse), again = join_either(o, n, reverse, forward);
-    if (count != again) fail("two strands give %zu intervals and %zu", count, again);
-    memmove(forward->lists, forward->lists + rows(o, n), count * sizeof *forward->lists);
-    for (size_t i = 0; i < count; i++) forward->marks[i] = forward->codes[i] | reverse->codes[i];
-    forward->result = (int64_t)count;
+    size_t ours = (size_t)forward->result, theirs = (size_t)reverse->result, most = ours + theirs;
+    uint32_t (*list)[2] = new_memory(most * sizeof *list);
+    forward->marks = new_memory(most);
+    forward->result = longdust_merge_strands((size_t)record->letters_len, (const uint32_t(*)[2])forward->lists, ours,
+                                             (const uint32_t(*)[2])reverse->lists, theirs, list, most, forward->marks,
+                                             most);
+    if (forward->result < 0) fail("the masker refuses to join two strands with %d", (int)-forward->result);
+    free(forward->lists);
+    forward->lists = list;
+    take_back(reverse);
 }
 
 /* The first letter that earned refusal 2 or 13. */
@@ -195,7 +187,7 @@ static void find_refused(struct record *record) {
     for (size_t i = 0; i < record->letters_len; i++) {
         uint8_t byte = record->letters[i], lower = byte | 32;
         bool high = byte >= 128, accepted = (lower >= 'a' && lower <= 'z') || byte == '-' || byte == '*';
-        if (record->result == -2 ? !high : high || accepted) continue;
+        if (record->result == -LONGDUST_HIGH_BYTE ? !high : high || accepted) continue;
         record->refused_at = i;
         record->refused_byte = byte;
         return;
@@ -205,6 +197,7 @@ static void find_refused(struct record *record) {
 /* The masked letters, in the place of the codes. */
 static void copy_letters(const struct options *o, struct record *record) {
     size_t n = (size_t)record->letters_len;
+    if (record->lent[0].codes == NULL) record->lent[0].codes = new_memory(n);
     int64_t copied = longdust_masked_copy(record->letters, n, (const uint32_t(*)[2])record->lent[0].lists,
                                           (size_t)record->result, o->form == SOFT, o->replacement,
                                           record->lent[0].codes, n);
@@ -215,9 +208,9 @@ static void copy_letters(const struct options *o, struct record *record) {
 
 void finish_mask(const struct options *o, struct record *record) {
     struct lent *lent = record->lent;
-    if (record->calls == 2 && lent[0].result >= 0) join_strands(o, record);
+    if (record->calls == 2 && lent[0].result >= 0) join_strands(record);
     record->result = lent[0].result;
-    if (record->result == -2 || record->result == -13) find_refused(record);
+    if (record->result == -LONGDUST_HIGH_BYTE || record->result == -LONGDUST_OTHER_BYTE) find_refused(record);
     if (record->result >= 0) {
         if (o->form == SOFT || o->form == HARD) copy_letters(o, record);
         record->list = resized(lent[0].lists, (uint64_t)record->result * sizeof *record->list);

@@ -24,9 +24,10 @@ struct bench {
     struct longdust_forward_position *candidates;
 };
 
-/* Bytes of a bench with its tables, and of what one call is lent for this many letters, those themselves left out. */
+/* Bytes of a bench with its tables, and the most that so many calls are lent for a record of this many letters, those
+ * themselves left out. */
 uint64_t bench_bytes(const struct options *options);
-uint64_t lent_bytes(const struct options *options, uint64_t letters);
+uint64_t lent_bytes(const struct options *options, uint64_t letters, int calls);
 
 /* The most letters for which they and what one call is lent fit into these bytes. */
 uint64_t letters_within(const struct options *options, uint64_t bytes);

@@ -13,9 +13,8 @@ struct line_run {
 
 /* What one call of the archive is lent for a record. */
 struct lent {
-    uint8_t *letters; /* the record's, or their reverse complement, which is freed with the rest */
     uint8_t *codes, *reverse_codes;
-    uint32_t (*lists)[2]; /* three lists of R entries, the mask in the first */
+    uint32_t (*lists)[2]; /* three lists of R entries, the mask in the first; of one strand its list alone */
     uint8_t *marks;
     int64_t result;
 };

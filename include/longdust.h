@@ -1,5 +1,6 @@
 /* Low-complexity masking of a nucleotide sequence: two calls, which differ in who fills the tables. Below, each with
- * its own slices and checks: longdust_masked_copy, which shows a mask in the letters, longdust_questions, which
+ * its own slices and checks: longdust_fill_tables, which fills them alone, longdust_strand and longdust_merge_strands,
+ * which mask one strand alone and join the lists of both, longdust_masked_copy, which shows a mask in the letters, longdust_questions, which
  * answers questions about a list of intervals, longdust_join_tracks, which joins a list with another,
  * longdust_strongest_stretch, which finds the best-scoring stretch at a letter, longdust_small, which masks short
  * sequences in work space of its own, and longdust_short_sequences, which masks every short sequence.
@@ -44,8 +45,8 @@
  * The result is the number of masked intervals, and list[i][0] to list[i][1] (from 0, the end not
  * included) is the i-th of them, in order, apart from each other; marks[i] says which strand saw it: 1 if
  * an interval of the forward strand joined into it, 2 if one of the reverse complement did, 3 if both (a
- * forward-only run: 1). Entries of list and marks past the last do not change. *in_range is 1 if score_threshold is at most 16, ln entries 1..w lie in 0..16 and f entries
- * 1..w in 0..1048576, else 0.
+ * forward-only run: 1). Entries of list and marks past the last do not change. *in_range is 1 if score_threshold is
+ * at most 16, ln entries 1..w lie in 0..16 and f entries 1..w in 0..1048576, else 0.
  *
  * A negative result is minus the number of the first check that the request fails; *in_range is 0
  * then, and no slice is changed:
@@ -61,6 +62,7 @@
  *    9  xdrop_set is not 0 and xdrop_length is 0
  *   10  n is above 2,147,483,647
  *   11  a slice is shorter than listed
+ * longdust_refusal_text gives this in words for the refusals of all calls.
  */
 #ifndef LONGDUST_H
 #define LONGDUST_H
@@ -71,6 +73,35 @@
 #ifdef __cplusplus
 extern "C" {
 #endif
+
+/* The refusals of all calls: a call returns minus one of these. */
+enum longdust_refusal {
+    LONGDUST_KMER_OUTSIDE = 1,
+    LONGDUST_HIGH_BYTE = 2,
+    LONGDUST_TOO_FEW_LETTERS = 3,
+    LONGDUST_WINDOW_BELOW = 4,
+    LONGDUST_WINDOW_ABOVE = 5,
+    LONGDUST_BAD_THRESHOLD = 6,
+    LONGDUST_BAD_GC = 7,
+    LONGDUST_MIN_START_BELOW = 8,
+    LONGDUST_BAD_XDROP = 9,
+    LONGDUST_TOO_MANY_LETTERS = 10,
+    LONGDUST_SHORT_SLICE = 11,
+    LONGDUST_BAD_REPLACEMENT = 12,
+    LONGDUST_OTHER_BYTE = 13,
+    LONGDUST_UNUSUAL_LIST = 16,
+    LONGDUST_BAD_QUESTION = 17,
+    LONGDUST_NO_BUDGET = 18,
+    LONGDUST_PLACE_OUTSIDE = 19,
+    LONGDUST_HIGH_TABLE = 20,
+    LONGDUST_OUTSIDE_PROFILE = 21,
+    LONGDUST_BAD_LENGTH = 22
+};
+
+/* Writes the text of a refusal, of its number in the enum, to the front of text, without an end; 64 bytes are enough
+ * for each. The result is its length, 0 if no refusal has the number; minus 11, and text is not changed, if text
+ * is shorter. */
+int64_t longdust_refusal_text(uint32_t number, uint8_t *text, size_t text_len);
 
 /* A candidate of a backward scan, a place with its score: 16 bytes, the score at byte 8. */
 struct longdust_forward_position {
@@ -118,6 +149,65 @@ int64_t longdust_process(
     uint32_t (*list)[2], size_t list_len,
     uint8_t *marks, size_t marks_len,
     uint32_t *in_range);
+
+/* Fills ln 0..w and f 0..w+1 as longdust_process does, for calls that read them: they are the same for all sequences,
+ * and sequence may be empty, unless gc_kind is 2. Its letters are not checked, and a byte that is no base does not
+ * count. codes has n entries at least and is left with any content.
+ *
+ * The result is 0, and *in_range is the flag of the calls that read these tables. A negative result is minus the number
+ * of the first check that fails, of 1 4 5 6 7 11 above; *in_range is 0 then, and no slice is changed. */
+int64_t longdust_fill_tables(
+    const uint8_t *sequence, size_t sequence_len,
+    size_t kmer, size_t window_size, double score_threshold,
+    uint32_t gc_kind, double gc_value,
+    double *ln, size_t ln_len, double *f, size_t f_len,
+    uint8_t *codes, size_t codes_len,
+    uint32_t *in_range);
+
+/* Masks one strand of the sequence, the reverse complement if `reverse` is not 0, with filled tables: two threads mask
+ * a long sequence, each with a strand, and longdust_merge_strands makes its mask from both lists. Options and slices are
+ * those of longdust_process_tables, without those that are not here; list has R entries at least, and codes n.
+ *
+ * The result is the number of the strand's intervals, which stand in the front of list, in the strand's own positions:
+ * of the reverse complement, letter 0 is the complement of the sequence's last. Further entries up to R are left with
+ * any content. *in_range is as above. A negative result is minus the number of the first check that fails, of those
+ * above; *in_range is 0 then, and no slice is changed. */
+int64_t longdust_strand(
+    const uint8_t *sequence, size_t sequence_len,
+    size_t kmer, size_t window_size, double score_threshold,
+    uint32_t gc_kind, double gc_value,
+    uint32_t xdrop_set, uint32_t xdrop_length,
+    uint16_t min_start_cnt, uint32_t approx, uint32_t reverse,
+    const double *ln, size_t ln_len, const double *f, size_t f_len,
+    uint32_t *queue, size_t queue_len,
+    uint16_t *window_counts, size_t window_counts_len,
+    uint16_t *scan_counts, size_t scan_counts_len,
+    struct longdust_forward_position *candidates, size_t candidates_len,
+    uint8_t *codes, size_t codes_len,
+    uint32_t (*list)[2], size_t list_len,
+    uint32_t *in_range);
+
+/* Joins the lists of both strands of a sequence of n letters, each in its own positions, into the mask and its marks:
+ * what longdust_process_tables writes for the same request; with no entry in reverse, what it writes for a forward-only
+ * one.
+ *   forward, reverse  of the usual kind: each entry has a letter or more, ends at n or before, and begins past the end of
+ *                     the entry before it, with a letter or more between
+ *   list              as many entries as both together at least
+ *   marks             as many bytes at least
+ * Entries past the intervals written do not change.
+ *
+ * The result is the number of intervals. A negative result is minus the number of the first check that the request
+ * fails, and no slice is changed then:
+ *   10  n is above 2,147,483,647
+ *   16  forward or reverse is not of the usual kind in n letters
+ *   11  list or marks is shorter than listed
+ */
+int64_t longdust_merge_strands(
+    size_t n,
+    const uint32_t (*forward)[2], size_t forward_len,
+    const uint32_t (*reverse)[2], size_t reverse_len,
+    uint32_t (*list)[2], size_t list_len,
+    uint8_t *marks, size_t marks_len);
 
 /* Copies the sequence to the front of copy, its masked letters in lower case or replaced. Letter x is
  * masked if any entry of list holds it, list[i][0] <= x < list[i][1], so a list in any order will do.

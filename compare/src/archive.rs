@@ -4,8 +4,9 @@ use crate::copies;
 use crate::port::{Buffers, Candidate, Lent};
 use crate::questions;
 use crate::request::{Gc, Request, Tables};
-use crate::tracks;
 use crate::small;
+use crate::strands;
+use crate::tracks;
 use std::ptr;
 
 /// Both calls are declared with tables that may be written, so that one expression calls either; that
@@ -288,4 +289,171 @@ pub fn short_sequences(m: usize, tallies: &mut [u32], length: usize, refused: &m
     let (tallies, tallies_len) = pointer(tallies, length);
     // SAFETY: as above.
     unsafe { longdust_short_sequences(m, tallies, tallies_len, refused) }
+}
+
+extern "C" {
+    fn longdust_fill_tables(
+        sequence: *const u8,
+        sequence_len: usize,
+        kmer: usize,
+        window_size: usize,
+        score_threshold: f64,
+        gc_kind: u32,
+        gc_value: f64,
+        ln: *mut f64,
+        ln_len: usize,
+        f: *mut f64,
+        f_len: usize,
+        codes: *mut u8,
+        codes_len: usize,
+        in_range: *mut u32,
+    ) -> i64;
+
+    fn longdust_strand(
+        sequence: *const u8,
+        sequence_len: usize,
+        kmer: usize,
+        window_size: usize,
+        score_threshold: f64,
+        gc_kind: u32,
+        gc_value: f64,
+        xdrop_set: u32,
+        xdrop_length: u32,
+        min_start_cnt: u16,
+        approx: u32,
+        reverse: u32,
+        ln: *const f64,
+        ln_len: usize,
+        f: *const f64,
+        f_len: usize,
+        queue: *mut u32,
+        queue_len: usize,
+        window_counts: *mut u16,
+        window_counts_len: usize,
+        scan_counts: *mut u16,
+        scan_counts_len: usize,
+        candidates: *mut Candidate,
+        candidates_len: usize,
+        codes: *mut u8,
+        codes_len: usize,
+        list: *mut [u32; 2],
+        list_len: usize,
+        in_range: *mut u32,
+    ) -> i64;
+
+    fn longdust_merge_strands(
+        n: usize,
+        forward: *const [u32; 2],
+        forward_len: usize,
+        reverse: *const [u32; 2],
+        reverse_len: usize,
+        list: *mut [u32; 2],
+        list_len: usize,
+        marks: *mut u8,
+        marks_len: usize,
+    ) -> i64;
+
+    fn longdust_refusal_text(number: u32, text: *mut u8, text_len: usize) -> i64;
+}
+
+pub fn fill_tables(request: &Request, lent: &mut Buffers) -> (i64, u32) {
+    let (gc_kind, gc_value) = gc_numbers(request.gc);
+    let letters = lent.sequence.len();
+    let (sequence, sequence_len) = pointer(&mut lent.sequence, letters);
+    let (ln, ln_len) = raw(&mut lent.ln);
+    let (f, f_len) = raw(&mut lent.f);
+    let (codes, codes_len) = raw(&mut lent.codes);
+    let (k, w, threshold) = (request.kmer, request.window_size, request.score_threshold);
+    let mut in_range = 0xdead;
+    // SAFETY: as above.
+    let result = unsafe {
+        longdust_fill_tables(
+            sequence,
+            sequence_len,
+            k,
+            w,
+            threshold,
+            gc_kind,
+            gc_value,
+            ln.cast(),
+            ln_len,
+            f.cast(),
+            f_len,
+            codes,
+            codes_len,
+            &mut in_range,
+        )
+    };
+    (result, in_range)
+}
+
+/// The forward strand with the first buffer for codes and the first list, the other with the second ones.
+pub fn strand(request: &Request, lent: &mut Buffers, reverse: bool) -> (i64, u32) {
+    let yes = |said: bool| if said { request.yes } else { 0 };
+    let (gc_kind, gc_value) = gc_numbers(request.gc);
+    let letters = lent.sequence.len();
+    let (sequence, sequence_len) = pointer(&mut lent.sequence, letters);
+    let (ln, ln_len) = raw(&mut lent.ln);
+    let (f, f_len) = raw(&mut lent.f);
+    let (queue, queue_len) = raw(&mut lent.queue);
+    let (window_counts, window_counts_len) = raw(&mut lent.window_counts);
+    let (scan_counts, scan_counts_len) = raw(&mut lent.scan_counts);
+    let (candidates, candidates_len) = raw(&mut lent.candidates);
+    let (codes, codes_len) = raw(if reverse { &mut lent.reverse_codes } else { &mut lent.codes });
+    let (list, list_len) = raw(&mut lent.lists[reverse as usize]);
+    let mut in_range = 0xdead;
+    // SAFETY: as above.
+    let result = unsafe {
+        longdust_strand(
+            sequence,
+            sequence_len,
+            request.kmer,
+            request.window_size,
+            request.score_threshold,
+            gc_kind,
+            gc_value,
+            yes(request.xdrop.is_some()),
+            request.xdrop.unwrap_or(0),
+            request.min_start_cnt,
+            yes(request.approx),
+            yes(reverse),
+            ln.cast(),
+            ln_len,
+            f.cast(),
+            f_len,
+            queue,
+            queue_len,
+            window_counts,
+            window_counts_len,
+            scan_counts,
+            scan_counts_len,
+            candidates,
+            candidates_len,
+            codes,
+            codes_len,
+            list,
+            list_len,
+            &mut in_range,
+        )
+    };
+    (result, in_range)
+}
+
+pub fn merge_strands(request: &mut strands::Merge) -> i64 {
+    let strands::Merge { n, forward, reverse, list, marks } = request;
+    let lengths = [forward.len(), reverse.len(), list.len() - strands::GUARD, marks.len() - strands::GUARD];
+    let (forward, forward_len) = pointer(forward, lengths[0]);
+    let (reverse, reverse_len) = pointer(reverse, lengths[1]);
+    let (list, list_len) = pointer(list, lengths[2]);
+    let (marks, marks_len) = pointer(marks, lengths[3]);
+    // SAFETY: as above.
+    unsafe {
+        longdust_merge_strands(*n, forward, forward_len, reverse, reverse_len, list, list_len, marks, marks_len)
+    }
+}
+
+pub fn refusal_text(number: u32, text: &mut [u8], length: usize) -> i64 {
+    let (text, text_len) = pointer(text, length);
+    // SAFETY: as above.
+    unsafe { longdust_refusal_text(number, text, text_len) }
 }

@@ -26,6 +26,7 @@ mod strongest;
 mod strongest_list;
 mod short;
 mod small;
+mod strands;
 #[cfg(test)]
 mod tests;
 mod tracks;
@@ -55,6 +56,7 @@ compare questions bench    questions per second of both, 1,000,000 intervals in 
 compare tracks SEED COUNT  joined tracks, the port's against a plain join letter by letter, on random pairs
 compare tracks beds FOLDER SEED COUNT  larger pairs as BED files, for compare/bedtools.sh
 compare tracks held FOLDER SEED COUNT  the port on these pairs against what bedtools made of them
+compare strands SEED COUNT one strand alone, both joined and the tables alone against the original, on random requests
 compare strongest SEED COUNT  the strongest stretch at a letter, the port's against a plain search
 compare strongest-list SEED COUNT  the strongest stretches of a contig, the port's against a plain search
 compare short              the table of all short sequences, by the original: crates/short_sequences_table/stdout
@@ -105,6 +107,7 @@ fn main() {
             let held = tracks::held(tracks_port(), folder, number(seed), number(count));
             held.unwrap_or_else(|error| stop(&error.to_string()))
         }
+        ["strands", seed, count] => strands::command(strands_port(), number(seed), number(count)),
         ["strongest", seed, count] => strongest::command(strongest_port(), number(seed), number(count)),
         ["strongest-list", seed, count] => {
             strongest_list::command(strongest_list_port(), number(seed), number(count))
@@ -139,6 +142,16 @@ fn questions_port() -> questions::Port {
 #[cfg(port)]
 fn tracks_port() -> tracks::Port {
     archive::join_tracks
+}
+
+#[cfg(port)]
+fn strands_port() -> strands::Port {
+    strands::Port {
+        fill: archive::fill_tables,
+        strand: archive::strand,
+        merge: archive::merge_strands,
+        text: archive::refusal_text,
+    }
 }
 
 #[cfg(port)]
@@ -178,6 +191,11 @@ fn questions_port() -> questions::Port {
 
 #[cfg(not(port))]
 fn tracks_port() -> tracks::Port {
+    stop(WITHOUT_PORT)
+}
+
+#[cfg(not(port))]
+fn strands_port() -> strands::Port {
     stop(WITHOUT_PORT)
 }
 

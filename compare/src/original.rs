@@ -170,7 +170,7 @@ pub fn refusal_before_sizes(request: &Request) -> Option<u32> {
 }
 
 /// The flag: T at most 16, ln entries 1..w in 0..16 and f entries 1..w in 0..1,048,576.
-fn in_range(request: &Request, ln: &[u64], f: &[u64]) -> bool {
+pub fn in_range(request: &Request, ln: &[u64], f: &[u64]) -> bool {
     let within = |table: &[u64], high: f64| {
         floats(&table[1..=request.window_size]).iter().all(|entry| (0.0..=high).contains(entry))
     };
@@ -189,29 +189,30 @@ fn reverse_complement(letters: &[u8]) -> Vec<u8> {
     letters.iter().rev().map(complement).collect()
 }
 
+/// The list that the original gives one strand by itself, in that strand's own positions.
+pub fn strand(request: &Request, reverse: bool, ln: &[f64], f: &[f64]) -> Vec<(usize, usize)> {
+    let letters = with_t(&request.sequence);
+    let letters = if reverse { reverse_complement(&letters) } else { letters };
+    let alone = Request { forward_only: true, sequence: Vec::new(), tables: Tables::Formula, ..request.clone() };
+    let (ln, f) = (|| ln.to_vec(), || f.to_vec());
+    let list = masked(
+        || handed::Longdust::process(&letters, handed::options(&alone), ln(), f()),
+        || handed_raised::Longdust::process(&letters, handed_raised::options(&alone), ln(), f()),
+    );
+    list.intervals
+}
+
 /// The marks of a mask, from the lists that the original gives each strand by itself: 1 if an interval of the forward
 /// list lies in the masked one, 2 if one of the reverse complement's list does, read backwards, 3 if both.
 pub fn marks(request: &Request, ln: &[f64], f: &[f64], intervals: &[(usize, usize)]) -> Vec<u8> {
     if intervals.is_empty() {
         return Vec::new();
     }
-    let letters = with_t(&request.sequence);
-    let n = letters.len();
-    let alone = Request { forward_only: true, sequence: Vec::new(), tables: Tables::Formula, ..request.clone() };
-    let strand = |letters: &[u8]| {
-        let (ln, f) = (|| ln.to_vec(), || f.to_vec());
-        let list = masked(
-            || handed::Longdust::process(letters, handed::options(&alone), ln(), f()),
-            || handed_raised::Longdust::process(letters, handed_raised::options(&alone), ln(), f()),
-        );
-        list.intervals
-    };
-    let forward = strand(&letters);
+    let n = request.sequence.len();
+    let forward = strand(request, false, ln, f);
     let reverse = match request.forward_only {
         true => Vec::new(),
-        false => {
-            strand(&reverse_complement(&letters)).into_iter().rev().map(|(start, end)| (n - end, n - start)).collect()
-        }
+        false => strand(request, true, ln, f).into_iter().rev().map(|(start, end)| (n - end, n - start)).collect(),
     };
     let lies_in = |list: &[(usize, usize)], (start, end): (usize, usize)| {
         let first = list.partition_point(|interval| interval.0 < start);

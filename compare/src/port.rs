@@ -208,7 +208,7 @@ impl Buffers {
     }
 
     /// The first place that changed past the entries of each slice that are free.
-    fn changes(&self, free: &[usize; SLICES]) -> Option<String> {
+    pub fn changes(&self, free: &[usize; SLICES]) -> Option<String> {
         let change = |((slice, &from), name): ((&dyn Slice, &usize), &str)| {
             slice.change(from).map(|i| format!("{name} changed at {i}"))
         };

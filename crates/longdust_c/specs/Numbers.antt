@@ -1,7 +1,10 @@
 -- What the numbers of the calls for C stand for, and the number that such a call returns.
-use Rattle.std.specs.Prelude.{ℕ, zero, suc, Bool, not, cond, eqb, ℤ, pos, negsuc, Float, Result, Ok, Err, Option, None, Some}
+use Rattle.std.specs.Prelude.{ℕ, zero, suc, Bool, not, cond, eqb, ltb, List, [], ◌∷◌, length, ℤ, pos, negsuc, Float, Option, None, Some}
 use Rattle.std.specs.Float.{nan}
 use Rattle.checks.specs.declared.refusal.Refusal.{Refusal}
+use Rattle.checks.specs.declared.refusal.Refusal.TheVariants.{KmerOutside, HighByte, TooFewLetters, WindowBelow, WindowAbove, BadThreshold, BadGc, MinStartBelow, BadXdrop, TooManyLetters, ShortSlice, BadReplacement, OtherByte, UnusualList, BadQuestion, NoBudget, PlaceOutside, HighTable, OutsideProfile, BadLength}
+use Rattle.checks.specs.Checks.{check, first}
+use Rattle.checks.specs.Refusal.{text}
 use Rattle.floats.specs.Binary64.{zero64}
 use Rattle.tables.specs.declared.GcOption.{GcOption}
 use Rattle.tables.specs.declared.GcOption.TheVariants.{Uniform, Fixed, Auto}
@@ -36,6 +39,10 @@ options_of kmer window_size threshold gc_kind gc_value xdrop_set xdrop_length mi
       forward_only = yes forward_only;
     }
 
+-- The call that fills the tables passes the options that shape them; the others are not read.
+abbrev pub table_options : ℕ → ℕ → Float → ℕ → Float → LongdustOptions
+table_options kmer window_size threshold gc_kind gc_value = options_of kmer window_size threshold gc_kind gc_value 1 50 3 0 0
+
 -- The small profile's call does not pass GC, which is uniform.
 abbrev pub small_options : ℕ → ℕ → Float → ℕ → ℕ → ℕ → ℕ → ℕ → LongdustOptions
 small_options kmer window_size threshold xdrop_set xdrop_length min_start_cnt approx forward_only =
@@ -53,10 +60,42 @@ abbrev pub count_or : ℕ → ℕ → ℤ
 count_or zero count = pos count
 count_or (suc number) count = negsuc number
 
--- The count of an answer; 0 for a refused request.
-abbrev pub count_of : Result ℕ Refusal → ℕ
-count_of (Ok count) = count
-count_of (Err _) = 0
-
 abbrev pub flag : Bool → ℕ
 flag b = cond b 1 0
+
+-- The refusal that has a number, none if no refusal has it.
+abbrev pub refusal_numbered : ℕ → Option Refusal
+refusal_numbered n =
+    cond (eqb n 1) (Some KmerOutside)
+    (cond (eqb n 2) (Some HighByte)
+    (cond (eqb n 3) (Some TooFewLetters)
+    (cond (eqb n 4) (Some WindowBelow)
+    (cond (eqb n 5) (Some WindowAbove)
+    (cond (eqb n 6) (Some BadThreshold)
+    (cond (eqb n 7) (Some BadGc)
+    (cond (eqb n 8) (Some MinStartBelow)
+    (cond (eqb n 9) (Some BadXdrop)
+    (cond (eqb n 10) (Some TooManyLetters)
+    (cond (eqb n 11) (Some ShortSlice)
+    (cond (eqb n 12) (Some BadReplacement)
+    (cond (eqb n 13) (Some OtherByte)
+    (cond (eqb n 16) (Some UnusualList)
+    (cond (eqb n 17) (Some BadQuestion)
+    (cond (eqb n 18) (Some NoBudget)
+    (cond (eqb n 19) (Some PlaceOutside)
+    (cond (eqb n 20) (Some HighTable)
+    (cond (eqb n 21) (Some OutsideProfile)
+    (cond (eqb n 22) (Some BadLength)
+    None)))))))))))))))))))
+
+-- Its text, empty if no refusal has the number.
+abbrev pub words : Option Refusal → List ℕ
+words None = []
+words (Some refusal) = text refusal
+
+abbrev pub text_numbered : ℕ → List ℕ
+text_numbered n = words (refusal_numbered n)
+
+-- 11. The text is longer than the slice of m bytes that is lent for it.
+abbrev pub text_refusal : ℕ → ℕ → ℕ
+text_refusal n m = first (check 11 (ltb m (length (text_numbered n))) ∷ [])

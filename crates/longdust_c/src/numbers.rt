@@ -2,9 +2,9 @@
 // Kinds cross as numbers: include/longdust.h lends them so.
 
 ghost use Rattle.std.specs.Prelude.{◌≡◌, ◌<◌, ◌^◌, pos, neg_ℤ, IfOk};
-ghost use Rattle.checks.specs.Refusal.{number, number_of};
-ghost use Rattle.longdust_c.specs.Exported.{mask_count, mask_flag};
-ghost use Rattle.longdust_c.specs.Numbers.{gc_choice, xdrop_choice, masking_of, kind_of, count_or, count_of, flag};
+ghost use Rattle.checks.specs.Refusal.{number, number_of, count_of};
+ghost use Rattle.longdust.specs.Call.{mask_count, mask_flag};
+ghost use Rattle.longdust_c.specs.Numbers.{gc_choice, xdrop_choice, masking_of, kind_of, count_or, flag, refusal_numbered};
 
 use checks::Refusal;
 use longdust::Answer;
@@ -88,5 +88,34 @@ pub fn returned_mask(answer: Result<Answer, Refusal>, in_range: &mut u32) -> i64
             *in_range = 0;
             minus_number(refusal)
         }
+    }
+}
+
+// The refusal that has this number.
+pub fn refusal_numbered(number: u32) -> Option<Refusal>
+    ensures { result ≡ refusal_numbered number }
+{
+    match number {
+        1 => Some(Refusal::KmerOutside),
+        2 => Some(Refusal::HighByte),
+        3 => Some(Refusal::TooFewLetters),
+        4 => Some(Refusal::WindowBelow),
+        5 => Some(Refusal::WindowAbove),
+        6 => Some(Refusal::BadThreshold),
+        7 => Some(Refusal::BadGc),
+        8 => Some(Refusal::MinStartBelow),
+        9 => Some(Refusal::BadXdrop),
+        10 => Some(Refusal::TooManyLetters),
+        11 => Some(Refusal::ShortSlice),
+        12 => Some(Refusal::BadReplacement),
+        13 => Some(Refusal::OtherByte),
+        16 => Some(Refusal::UnusualList),
+        17 => Some(Refusal::BadQuestion),
+        18 => Some(Refusal::NoBudget),
+        19 => Some(Refusal::PlaceOutside),
+        20 => Some(Refusal::HighTable),
+        21 => Some(Refusal::OutsideProfile),
+        22 => Some(Refusal::BadLength),
+        _ => None,
     }
 }
