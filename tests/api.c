@@ -22,6 +22,15 @@ static int64_t (*const process)(const uint8_t *, size_t, size_t, size_t, double,
                                 uint16_t *, size_t, uint16_t *, size_t, candidate *, size_t, uint8_t *, size_t,
                                 uint8_t *, size_t, pair *, size_t, pair *, size_t, pair *, size_t, uint8_t *, size_t,
                                 uint32_t *) = longdust_process;
+static int64_t (*const fill_tables)(const uint8_t *, size_t, size_t, size_t, double, uint32_t, double, double *, size_t,
+                                    double *, size_t, uint8_t *, size_t, uint32_t *) = longdust_fill_tables;
+static int64_t (*const strand)(const uint8_t *, size_t, size_t, size_t, double, uint32_t, double, uint32_t, uint32_t,
+                               uint16_t, uint32_t, uint32_t, const double *, size_t, const double *, size_t, uint32_t *,
+                               size_t, uint16_t *, size_t, uint16_t *, size_t, candidate *, size_t, uint8_t *, size_t,
+                               pair *, size_t, uint32_t *) = longdust_strand;
+static int64_t (*const merge_strands)(size_t, const pair *, size_t, const pair *, size_t, pair *, size_t, uint8_t *,
+                                      size_t) = longdust_merge_strands;
+static int64_t (*const refusal_text)(uint32_t, uint8_t *, size_t) = longdust_refusal_text;
 static int64_t (*const masked_copy)(const uint8_t *, size_t, const pair *, size_t, uint32_t, uint8_t, uint8_t *,
                                     size_t) = longdust_masked_copy;
 static int64_t (*const questions)(size_t, const pair *, size_t, const question *, size_t, uint32_t *, size_t, pair *,
@@ -67,6 +76,20 @@ int main(void) {
        process(letters, 8, 7, 5000, 0.6, 0, 0, 1, 50, 3, 0, 0, NULL, 0, NULL, 0, NULL, 0, NULL, 0, NULL, 0, NULL, 0,
                NULL, 0, NULL, 0, NULL, 0, NULL, 0, NULL, 0, NULL, 0, &flag),
        -11);
+    flag = 1;
+    is("longdust_fill_tables, GC of kind 3", fill_tables(NULL, 0, 7, 5000, 0.6, 3, 0, NULL, 0, NULL, 0, NULL, 0, &flag),
+       -LONGDUST_BAD_GC);
+    is("its flag", flag, 0);
+    flag = 1;
+    is("longdust_strand, w = k",
+       strand(letters, 8, 7, 7, 0.6, 0, 0, 1, 50, 3, 0, 0, NULL, 0, NULL, 0, NULL, 0, NULL, 0, NULL, 0, NULL, 0, NULL,
+              0, NULL, 0, &flag),
+       -LONGDUST_WINDOW_BELOW);
+    is("its flag", flag, 0);
+    is("longdust_merge_strands, too many letters", merge_strands(most + 1, NULL, 0, NULL, 0, NULL, 0, NULL, 0),
+       -LONGDUST_TOO_MANY_LETTERS);
+    is("longdust_refusal_text, 14, which no call has", refusal_text(14, NULL, 0), 0);
+    is("longdust_refusal_text, no room", refusal_text(LONGDUST_SHORT_SLICE, NULL, 0), -LONGDUST_SHORT_SLICE);
     is("longdust_masked_copy, Y", masked_copy(letters, 8, NULL, 0, 0, 'Y', NULL, 0), -12);
     is("longdust_questions, too many letters", questions(most + 1, NULL, 0, NULL, 0, NULL, 0, NULL, 0), -10);
     is("longdust_join_tracks, too many letters", join_tracks(0, most + 1, NULL, 0, NULL, 0, NULL, 0, NULL, 0, NULL, 0),
