@@ -102,7 +102,7 @@ module _ (o : LongdustOptions) (s : List ℕ) {b b' c c' : Buffers} (sizes : len
   process_as_process_tables (Err r) (Ok q) A B = absurd (let x : ⊥ = omega (arith, number_positive r, same_number A B) in x)
 
 -- The marks of an accepted request.
-marks_are : {Tables : LongdustOptions → List ℕ → Buffers → Buffers → Type 0} {o : LongdustOptions} {s : List ℕ} {b b' : Buffers} {r : Answer}
+pub marks_are : {Tables : LongdustOptions → List ℕ → Buffers → Buffers → Type 0} {o : LongdustOptions} {s : List ℕ} {b b' : Buffers} {r : Answer}
     → Answered Tables o s b b' (Ok r) → listed_marks r b' ≡ marks_of (marked_mask o s (ln_read o b') (f_read o b'))
 unfolding mask marked_mask
 marks_are {Tables} {o} {s} {b} {b'} {r} A =

@@ -12,7 +12,7 @@ ghost use Rattle.longdust.specs.Options.{defaults};
 pub use calls::process::process;
 pub use calls::process_in::process_in;
 pub use calls::process_tables::process_tables;
-pub use refusals::xdrop_bad;
+pub use refusals::{check, xdrop_bad};
 use tables::GcOption;
 
 // The options of a request, with the Rust's names.
