@@ -17,7 +17,7 @@ pub use calls::process_in::process_in;
 pub use calls::process_strand::process_strand;
 pub use calls::process_tables::process_tables;
 pub use one_strand::StrandSpace;
-pub use refusals::xdrop_bad;
+pub use refusals::{check, xdrop_bad};
 use tables::GcOption;
 
 // The options of a request, with the Rust's names.

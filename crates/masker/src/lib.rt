@@ -1,0 +1,11 @@
+// The masker with buffers of its own, for one record after the other: its refusal, or its mask and marks.
+
+#![tactic(auto)]
+
+mod calls;
+mod checking;
+mod masker;
+mod tables_kept;
+mod work;
+
+pub use masker::Masker;
