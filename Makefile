@@ -36,7 +36,7 @@ NEEDS = echo '\#include <zlib.h>' | $(CC) -E - > /dev/null 2>&1 || \
 
 .PHONY: all check prove compare bench dist install uninstall tarball clean help
 
-all: target/host/cisternpea ## builds the program target/host/cisternpea, which ./cisternpea runs
+all: target/host/cisternpea ## builds the program, target/host/cisternpea; ./cisternpea does so too and runs it
 
 $(ARCHIVE): $(wildcard dist/x86_64/*)
 	@tools/archive $(DIGEST)
@@ -96,4 +96,4 @@ clean: ## takes target/ away
 
 help: ## lists these verbs
 	@sed -En 's/^([a-z]+):[^#]*## (.*)/make \1\t\2/p' $(MAKEFILE_LIST) | expand -t 16
-	@$(NEEDS)
+	@( $(NEEDS) ) || true
