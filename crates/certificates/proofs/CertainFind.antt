@@ -17,7 +17,7 @@ use Rattle.letters.specs.Place.{Place, Below}
 use Rattle.scans.specs.Setup.{Setup, kmers}
 use Rattle.scans.specs.Counts.{cleared}
 use Rattle.scans.specs.Scans.{forward_start, dust_forward, Backward, backward_start, backward_from, at, dust_backward}
-use Rattle.scans.specs.Judged.{float_score, second_score, Best, best_of, forward_over, peaks_of}
+use Rattle.scans.specs.Judged.{float_score, second_score, Best, best_held, forward_over, peaks_of}
 use Rattle.scans.specs.Terms.Units.{margin, unevenness, gain, loss}
 use Rattle.scans.proofs.Counting.{below_drop, Counted}
 use Rattle.scans.proofs.Gain.{InRange, gain_none, gain_bound}
@@ -245,8 +245,8 @@ module _ (S : Setup) (R : InRange S) (q : List Place) (b : Below (kmers S) q) (h
       let hu = c.high in
       let zero_below : T (le zero64 (v size)) = le_sure zero_near v_last (omega arith) in
       ap (λ (z : Best). z.found) (forward_judges S q j (x size))
-      ∙ subst (λ (k : ℕ). (forward_over (x size ⊕ slack) v j k 1 (best_of forward_start)).found ≡ j + size) (sym d_long)
-      (sure_forward (x size ⊕ slack) v j size v_goes_on v_below size 1 (best_of forward_start) (omega arith) (omega (arith, j_in)) (omega arith) zero_below)
+      ∙ subst (λ (k : ℕ). (forward_over (x size ⊕ slack) v j k 1 (best_held forward_start)).found ≡ j + size) (sym d_long)
+      (sure_forward (x size ⊕ slack) v j size v_goes_on v_below size 1 (best_held forward_start) (omega arith) (omega (arith, j_in)) (omega arith) zero_below)
       ∙ size_is
 
   -- ---- The find.

@@ -24,7 +24,8 @@ use Rattle.scans.proofs.Touched.{counted_touched, touched_more}
 use Rattle.scans.proofs.Shape.{usual_range}
 use Rattle.search.proofs.CarriedScan.{counted_unique}
 use Rattle.certificates.proofs.CertificateCarried.{start_find}
-use Rattle.search.proofs.CertificateRing.{below_window, entry_place}
+use Rattle.scans.proofs.BackwardScan.{window_below_lem}
+use Rattle.search.proofs.CertificateRing.{entry_place}
 
 -- A value that is there, with what a clause says of it.
 pub there : {A : Type 0} {P : A → Type 0} (o : Option A) → IfSome o P → is_some o ≡ true → (x : A) × (o ≡ Some x) × P x
@@ -64,7 +65,7 @@ module _ (p : Params) (ring : List ℕ) (head len : ℕ) (wc : List ℕ) (ln f :
   more = ap (λ (z : List Place). drop start z) joins ∙ drop-append-le start q₀ (e ∷ []) (omega (arith, before))
 
   all : Below (kmers S) (q₀ ++ e ∷ [])
-  all = subst (λ (z : List Place). Below (kmers S) z) joins (below_window p ring head len wc ln counts joining)
+  all = subst (λ (z : List Place). Below (kmers S) z) joins (window_below_lem W)
 
   raised : Counted (kmers S) (raise counts e) (drop start q)
   raised = subst (λ (l : List Place). Counted (kmers S) (raise counts e) l) (sym more) (raise_counted (kmers S) counts (drop start q₀) e (below_right (kmers S) q₀ (e ∷ []) all).0 n)

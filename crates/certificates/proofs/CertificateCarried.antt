@@ -15,10 +15,10 @@ use Rattle.search.specs.declared.Carry.{Carry}
 use Rattle.scans.specs.Setup.{Setup, f_at, kmers}
 use Rattle.scans.specs.Counts.{raise, cleared}
 use Rattle.scans.specs.Scans.{at, value, ForwardSums, forward_start, Forward, forward_from, dust_backward}
-use Rattle.scans.specs.Judged.{sum_over_of, float_score, Best, best_of, better, forward_over}
+use Rattle.scans.specs.Judged.{sum_over_of, float_score, Best, best_held, better, forward_over}
 use Rattle.scans.specs.Terms.Parts.{whole_forward}
 use Rattle.search.specs.Terms.Carry.{Summed, newest_score}
-use Rattle.search.specs.Terms.Certified.{Kept, StartUnits, Certifiable}
+use Rattle.search.specs.Terms.Certified.{KeptNumber, StartUnits, Certifiable}
 use Rattle.scans.specs.Terms.Units.{margin, distance, gain, loss}
 use Rattle.scans.proofs.Test.{by_test}
 use Rattle.scans.proofs.Counting.{below_left, below_right, below_drop, below_take, Counted, raise_counted}
@@ -59,7 +59,7 @@ over_best P x limit n f (suc m) i b some e p =
 -- ---- Tables in range: no score is above the best, and that is at most 2^21 in size.
 -- A score is at most 2^21 in size.
 pub score_kept : (S : Setup) (R : InRange S) (ps : List Place) (m : ℕ) {x : Float} → Below (kmers S) ps → length ps ≤ S.window_size → 0 < m → m ≤ S.window_size
-    → Near binary64 x (gain S ps) (loss S m) (err (m + 1)) → Kept 0 x
+    → Near binary64 x (gain S ps) (loss S m) (err (m + 1)) → KeptNumber 0 x
 score_kept S R ps m {x} bp lp some h n =
     let g = gain_bound S R ps bp lp in
     let lo = mul-le-mul_right one (let z : length ps ≤ 65535 = omega (arith, R.window_small) in z) in
@@ -81,12 +81,12 @@ module _ (S : Setup) (R : InRange S) (es : List Place) (b : Below (kmers S) es) 
       subst (λ (c : Best). T (le (float_score S (take m es)) c.best)) (sym (whole_judges S es))
       ((leads_all (λ (L : ℕ). float_score S (take L es)) 0 (length es) (λ L p k. le_self (near L p k).ok)).top m some (omega arith))
 
-  whole_best_kept : Kept 0 (whole_forward S es).sums.best
+  whole_best_kept : KeptNumber 0 (whole_forward S es).sums.best
   whole_best_kept =
       let z = zero_near in
-      subst (λ (c : Best). Kept 0 c.best) (sym (whole_judges S es))
-      (over_best (Kept 0) (λ (L : ℕ). float_score S (take L es)) (inf false) (length es)
-      (λ L p k. score_kept S R (take L es) L (below_take (kmers S) L es b) (omega (arith, length-take L es)) p (omega arith) (near L p k)) (length es) 1 (best_of forward_start) (omega arith) (omega arith)
+      subst (λ (c : Best). KeptNumber 0 c.best) (sym (whole_judges S es))
+      (over_best (KeptNumber 0) (λ (L : ℕ). float_score S (take L es)) (inf false) (length es)
+      (λ L p k. score_kept S R (take L es) L (below_take (kmers S) L es b) (omega (arith, length-take L es)) p (omega arith) (near L p k)) (length es) 1 (best_held forward_start) (omega arith) (omega arith)
       (record { ok = z.ok; high = omega (arith, z.upper); low = omega (arith, z.lower) }))
 
 -- ---- The scan carried from index j of the window, whose newest place e it has not read; `counts` are those of the places that it has read.
@@ -138,7 +138,7 @@ module _ (S : Setup) (R : InRange S) (q₀ : List Place) (e : Place) (j : ℕ) (
       let me = margin_eps in
       let dl = distance_ranged.low in
       let dm = distance_margin in
-      let best : Kept 0 c.best = subst (Kept 0) (k.best_is on) (whole_best_kept S R es es_below (omega arith)) in
+      let best : KeptNumber 0 c.best = subst (KeptNumber 0) (k.best_is on) (whole_best_kept S R es es_below (omega arith)) in
       let bh = best.high in
       let bl = best.low in
       let top : T (le (float_score S (take m es)) c.best) = subst (λ (x : Float). T (le (float_score S (take m es)) x)) (k.best_is on) (whole_top S R es es_below (omega arith) m some (omega arith)) in

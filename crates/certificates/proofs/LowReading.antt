@@ -21,7 +21,7 @@ use Rattle.scans.specs.Terms.Shape.{Usual}
 use Rattle.scans.specs.Terms.Window.{At, ring_index, window, Windowed}
 use Rattle.scans.specs.Terms.Parts.{AddsEntry, Fresh, Queued}
 use Rattle.scans.specs.Terms.Units.{distance, gain, loss}
-use Rattle.search.specs.Terms.Certified.{Kept}
+use Rattle.search.specs.Terms.Certified.{KeptNumber}
 use Rattle.certificates.specs.Terms.Made.{larger}
 use Rattle.certificates.specs.Terms.Low.{near_starts, low_starts_to, LowBounds, ReadsNewest, ReadsLow, ReadsNear}
 use Rattle.scans.proofs.Test.{by_test}
@@ -48,9 +48,9 @@ below_zero v h = lt_le_trans v (neg distance) zero64 h tt
 not_zero : (v : Float) → T (lt v (neg distance)) → T (not (le zero64 v))
 not_zero v h = not_T (le zero64 v) (lt_nle v zero64 (below_zero v h))
 
-module _ {a b : Float} (ka : Kept 0 a) (kb : Kept 0 b) where
-  larger_kept : Kept 0 (larger a b)
-  larger_kept = by_test (Kept 0) (lt a b) b a (λ _. kb) (λ _. ka)
+module _ {a b : Float} (ka : KeptNumber 0 a) (kb : KeptNumber 0 b) where
+  larger_kept : KeptNumber 0 (larger a b)
+  larger_kept = by_test (KeptNumber 0) (lt a b) b a (λ _. kb) (λ _. ka)
 
   larger_left : T (le a (larger a b))
   larger_left = by_test (λ (v : Float). T (le a v)) (lt a b) b a (λ t. lt_le a b t) (λ _. le_self ka.ok)
@@ -60,7 +60,7 @@ module _ {a b : Float} (ka : Kept 0 a) (kb : Kept 0 b) where
 
 -- ---- Scores of tables in range are kept.
 module _ (S : Setup) (u : Usual S) (q : List Place) (b : Below (kmers S) q) (in_window : length q ≤ S.window_size) (l : ℕ) (some : 0 < l) (inside : l ≤ length q) where
-  near_kept : (v : Float) (P N : ℕ) → Near binary64 v P N (err (l + 1)) → P ≤ length q * (16 * one) → N ≤ length q * (16 * one) + 1048576 * one → Kept 0 v
+  near_kept : (v : Float) (P N : ℕ) → Near binary64 v P N (err (l + 1)) → P ≤ length q * (16 * one) → N ≤ length q * (16 * one) + 1048576 * one → KeptNumber 0 v
   near_kept v P N n p m =
       let e = err_few l (omega (arith, (R S u q b in_window).window_small)) in
       let o = margin_one in
@@ -79,13 +79,13 @@ module _ (S : Setup) (u : Usual S) (q : List Place) (b : Below (kmers S) q) (in_
   shared : a * (16 * one) + l * (16 * one) ≡ length q * (16 * one)
   shared = omega (arith, ap (λ (z : ℕ). z * (16 * one)) at)
 
-  x_kept : Kept 0 (x S q l)
+  x_kept : KeptNumber 0 (x S q l)
   x_kept =
       let g = gain_bound S (R S u q b in_window) (drop a q) (below_drop (kmers S) a q b) (omega (arith, length-drop a q)) in
       let e : length (drop a q) * (16 * one) ≡ l * (16 * one) = ap (λ (z : ℕ). z * (16 * one)) (let z : length (drop a q) ≡ l = omega (arith, length-drop a q) in z) in
       near_kept (x S q l) (gain S (drop a q)) (loss S l) (x_near S u q b in_window a l at some) (omega (arith, shared)) (omega (arith, lost, shared))
 
-  y_kept : Kept 0 (y S q l)
+  y_kept : KeptNumber 0 (y S q l)
   y_kept =
       let g = gain_bound S (R S u q b in_window) q b in_window in
       let h = gain_bound S (R S u q b in_window) (take a q) (below_take (kmers S) a q b) (omega (arith, length-take a q)) in
@@ -103,7 +103,7 @@ pub record NearReading (S : Setup) (q : List Place) (age : ℕ) (score : Float) 
 -- The l newest entries are read, and the starts of more than the near ones score `score` or less.
 pub record LowReading (S : Setup) (q : List Place) (l : ℕ) (a : BackwardState) (score : Float) (counts : List ℕ) : Type 0 where
   pub newest : ReadsNewest S q l a counts
-  pub kept : Kept 0 score
+  pub kept : KeptNumber 0 score
   pub low : (k : ℕ) → near_starts < k → k ≤ l → T (le (x S q k) score)
 
 next : (l : ℕ) → l + 1 - 1 ≡ l
@@ -268,7 +268,7 @@ module _ (p : Params) (ring : List ℕ) (head len : ℕ) (window_counts : List �
     pub low_start : (a : BackwardState) (counts : List ℕ) → Fresh len a → counts ≡ replicate (4 ^ p.kmer) 0 → LowReading S q 0 a (neg two_to20) counts
     low_start a counts fresh clear = record { newest = newest_none S q a len counts fresh clear; kept = lowest_kept; low = λ k far h. absurd (let z : ⊥ = omega arith in z) }
 
-    known_to : (l : ℕ) → l ≤ length q → (score : Float) → Kept 0 score → ((k : ℕ) → near_starts < k → k ≤ l → T (le (x S q k) score)) → T (le (y S q l) score) ⊎ (l ≡ length q) → IfSome (low_starts_to l score) (LowBounds S q)
+    known_to : (l : ℕ) → l ≤ length q → (score : Float) → KeptNumber 0 score → ((k : ℕ) → near_starts < k → k ≤ l → T (le (x S q k) score)) → T (le (y S q l) score) ⊎ (l ≡ length q) → IfSome (low_starts_to l score) (LowBounds S q)
     known_to l inside score kept low ends =
         by_test (λ (c : Option LowStarts). IfSome c (LowBounds S q)) (ltb near_starts l) (Some (record { reach = l; score = score })) None
         (λ far. low_made S u q q_below in_window l (ltb→lt near_starts l far) inside score kept low ends) (λ _. tt)
@@ -303,10 +303,10 @@ module _ (p : Params) (ring : List ℕ) (head len : ℕ) (window_counts : List �
           x_is : b.s ⊖ f_at S l ≡ x S q l
           x_is = x_here l a counts k.newest some more at i b counts' adds
 
-          x_number : Kept 0 (b.s ⊖ f_at S l)
+          x_number : KeptNumber 0 (b.s ⊖ f_at S l)
           x_number = rw x_is (x_kept S u q q_below in_window l (omega arith) low_read.inside)
 
-          kept_next : Kept 0 score'
+          kept_next : KeptNumber 0 score'
           kept_next = rw s_is (larger_kept k.kept x_number)
 
           low_upto : (j : ℕ) → near_starts < j → j ≤ l → T (le (x S q j) score')
@@ -320,7 +320,7 @@ module _ (p : Params) (ring : List ℕ) (head len : ℕ) (window_counts : List �
           pub low_stops : (score'' : Float) → score'' ≡ larger score' (b.sw ⊖ f_at S l) → (c : Option LowStarts) → c ≡ low_starts_to l score'' → ReadsLow S q (record { low = c; at = len - l }) counts'
           low_stops score'' e c is =
               let y_is = y_here l a counts k.newest some more at i b counts' adds in
-              let y_number : Kept 0 (b.sw ⊖ f_at S l) = rw y_is (y_kept S u q q_below in_window l (omega arith) low_read.inside) in
+              let y_number : KeptNumber 0 (b.sw ⊖ f_at S l) = rw y_is (y_kept S u q q_below in_window l (omega arith) low_read.inside) in
               record {
                 inside = omega (arith, long w);
                 counted = counted;

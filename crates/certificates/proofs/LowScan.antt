@@ -20,7 +20,7 @@ use Rattle.scans.specs.Scans.{none, Candidate, BackwardSums, backward_start, not
 use Rattle.scans.specs.Judged.{float_score, second_score, Peaks, backward_over}
 use Rattle.scans.specs.Terms.Shape.{Usual}
 use Rattle.scans.specs.Terms.Units.{margin, distance, gain, loss}
-use Rattle.search.specs.Terms.Certified.{Kept}
+use Rattle.search.specs.Terms.Certified.{KeptNumber}
 use Rattle.certificates.specs.Terms.Made.{AtLeast}
 use Rattle.scans.specs.Terms.Parts.{fallen_to}
 use Rattle.certificates.specs.Terms.Low.{near_starts, LowBounds}
@@ -128,7 +128,7 @@ module _ (S : Setup) (u : Usual S) (q : List Place) (b : Below (kmers S) q) (lon
   y_near a l e some = second_near S R q b long a l some e
 
   -- ---- A search that read the l newest places makes them.
-  module _ (l : ℕ) (far : near_starts < l) (inside : l ≤ n S q) (score : Float) (kept : Kept 0 score) (read : (k : ℕ) → near_starts < k → k ≤ l → T (le (x S q k) score)) where
+  module _ (l : ℕ) (far : near_starts < l) (inside : l ≤ n S q) (score : Float) (kept : KeptNumber 0 score) (read : (k : ℕ) → near_starts < k → k ≤ l → T (le (x S q k) score)) where
     made_low : (a k : ℕ) → a + k ≡ n S q → near_starts < k → k ≤ l → AtLeast score (gain S (drop a q)) (loss S k)
     made_low a k at h r =
         omega (arith, le_near (x_near a k at (omega arith)) (near_self kept.ok) (read k h r), few k (omega arith), margin_eps, unevenness_eps)

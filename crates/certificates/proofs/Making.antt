@@ -18,7 +18,7 @@ use Rattle.certificates.specs.declared.certify.Middle.{Middle}
 use Rattle.certificates.specs.declared.certify.Older.{Older}
 use Rattle.scans.specs.Setup.{Setup, f_at, kmers}
 use Rattle.scans.specs.Terms.Units.{margin, distance, gain, loss}
-use Rattle.search.specs.Terms.Certified.{loss_ahead, strayed, Kept}
+use Rattle.search.specs.Terms.Certified.{loss_ahead, strayed, KeptNumber}
 use Rattle.certificates.specs.Terms.Made.{larger, smaller, rounding, AtLeast, Summed, none_read, read_of, near_most, Reads, no_middle, middle_of, Steady, older_of, OlderUnits}
 use Rattle.scans.proofs.Test.{by_test}
 use Rattle.scans.proofs.Counting.{below_drop}
@@ -38,10 +38,10 @@ lowest_number : Finite binary64 (neg two_to20)
 unfolding fits neg of_bits of_fields
 lowest_number = record { finite = tt; fits = tt }
 
-pub lowest_kept : Kept 0 (neg two_to20)
+pub lowest_kept : KeptNumber 0 (neg two_to20)
 lowest_kept = let p = lowest_parts in record { ok = lowest_number; high = omega (arith, p.0); low = omega (arith, p.0, p.1) }
 
-zero_kept : Kept 0 zero64
+zero_kept : KeptNumber 0 zero64
 zero_kept = let z = zero_near in record { ok = z.ok; high = omega (arith, z.upper); low = omega (arith, z.lower) }
 
 other : (x y : Bool) → x || y ≡ true → (T x → ⊥) → T y
@@ -57,9 +57,9 @@ pub not_less : {a b : Float} → Finite binary64 a → Finite binary64 b → T (
 not_less {a} {b} ka kb t =
     ⊎_elim (λ (h : pos64 a + neg64 b < pos64 b + neg64 a). absurd (T_not (lt a b) t ((lt_value ka kb).1 h))) (λ h. h) (order_of (pos64 a + neg64 b) (pos64 b + neg64 a))
 
-larger_is : {a b : Float} → Kept 0 a → Kept 0 b → Kept 0 (larger a b) × NotAbove a (larger a b) × NotAbove b (larger a b)
+larger_is : {a b : Float} → KeptNumber 0 a → KeptNumber 0 b → KeptNumber 0 (larger a b) × NotAbove a (larger a b) × NotAbove b (larger a b)
 larger_is {a} {b} ka kb =
-    by_test (λ (r : Float). Kept 0 r × NotAbove a r × NotAbove b r) (lt a b) b a (λ t. (kb, (let h = (lt_value ka.ok kb.ok).0 t in omega arith), omega arith))
+    by_test (λ (r : Float). KeptNumber 0 r × NotAbove a r × NotAbove b r) (lt a b) b a (λ t. (kb, (let h = (lt_value ka.ok kb.ok).0 t in omega arith), omega arith))
     (λ t. (ka, omega arith, not_less ka.ok kb.ok t))
 
 smaller_is : {a b : Float} → Finite binary64 a → Finite binary64 b → Finite binary64 (smaller a b) × NotAbove (smaller a b) a × NotAbove (smaller a b) b
@@ -73,7 +73,7 @@ rounding_eps = omega (arith, unevenness_eps)
 -- x is P - N but for roundings, and at most 2^21 in size.
 record Scored (x : Float) (P N : ℕ) : Type 0 where
   near : Near binary64 x P N rounding
-  kept : Kept 0 x
+  kept : KeptNumber 0 x
 
 scored : {l : ℕ} {s f : Float} {P N : ℕ} → After l s P N → l ≤ 65535 → Ranged 1048576 f → Scored (s ⊖ f) P (N + pos64 f)
 scored {l} {s} {f} {P} {N} a few r =
@@ -167,7 +167,7 @@ module _ (S : Setup) (R : InRange S) (q : List Place) (b : Below (kmers S) q) (w
   at_least_own x y P N h k = omega (arith, k.near.lower)
 
   -- A sum of ln entries alone.
-  sum_kept : (i : ℕ) {x : Float} → i ≤ n → Near binary64 x (G i) 0 (err (n - i)) → Kept 0 x
+  sum_kept : (i : ℕ) {x : Float} → i ≤ n → Near binary64 x (G i) 0 (err (n - i)) → KeptNumber 0 x
   sum_kept i h k =
       let gf = gain_few i h in
       let few : n - i ≤ 65535 = omega (arith, R.window_small) in
@@ -394,7 +394,7 @@ module _ (S : Setup) (R : InRange S) (q : List Place) (b : Below (kmers S) q) (w
       omega arith
 
   -- ---- The places older than the start at index j, whose score is `top`.
-  gap_kept : {j : ℕ} {a : Older} → Olds S q j a → T (le distance a.gap) → Kept 0 a.gap
+  gap_kept : {j : ℕ} {a : Older} → Olds S q j a → T (le distance a.gap) → KeptNumber 0 a.gap
   gap_kept k some = record { ok = k.gap_number; high = (let h = k.gap_high in omega arith); low = (let h = far_above k.gap_number some in omega arith) }
 
   highest_parts : (pos64 two_to20 ≡ 1048576 * one) × (neg64 two_to20 ≡ 0)

@@ -3,7 +3,7 @@ use Rattle.std.proofs.Common.{ℕ, zero, suc, ◌≤◌, ◌<◌, ◌≡◌, ref
 use borrow.Author.Tests.{lt-ltb, le-ltb}
 use Rattle.fasta.specs.declared.Fault.{Fault}
 use Rattle.fasta.specs.declared.Fault.TheVariants.{LettersFirst, EmptyName}
-use Rattle.fasta.specs.Steps.{number}
+use Rattle.fasta.specs.Steps.{fault_number}
 use Rattle.intervals.specs.declared.Interval.{Interval}
 use Rattle.intervals.proofs.Order.{lt_or_le}
 use Rattle.fasta.specs.Contents.{contents_of, records_of, fault_of}
@@ -58,6 +58,6 @@ module _ (file : List ℕ) where
     unfolding left mask_lines
     faultless z list = by_records z
 
-pub fault_positive : (fault : Fault) → 0 < number fault
+pub fault_positive : (fault : Fault) → 0 < fault_number fault
 fault_positive LettersFirst = omega arith
 fault_positive EmptyName = omega arith

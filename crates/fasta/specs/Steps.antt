@@ -12,14 +12,14 @@ abbrev pub Step : Type 0
 Step = Result (Option Found) Fault
 
 -- A fault's number.
-abbrev pub number : Fault → ℕ
-number LettersFirst = 14
-number EmptyName = 15
+abbrev pub fault_number : Fault → ℕ
+fault_number LettersFirst = 14
+fault_number EmptyName = 15
 
 -- 0 for none.
-abbrev pub number_of : Option Fault → ℕ
-number_of None = 0
-number_of (Some fault) = number fault
+abbrev pub fault_number_of : Option Fault → ℕ
+fault_number_of None = 0
+fault_number_of (Some fault) = fault_number fault
 
 -- The bytes of a part of a file.
 abbrev pub bytes_of : Part → List ℕ → List ℕ
@@ -32,7 +32,7 @@ record_at file name lines = record { name = bytes_of name file; letters = letter
 -- The contents that an answer stands for.
 abbrev pub shown : List ℕ → Step → Contents
 shown file (Ok None) = ends
-shown file (Err fault) = fails (number fault)
+shown file (Err fault) = fails (fault_number fault)
 shown file (Ok (Some found)) = holds (record_at file found.name found.lines) (contents_of (drop found.next.at file))
 
 -- A record's name, its lines and the next cursor stand in this order, after the cursor and within the file.

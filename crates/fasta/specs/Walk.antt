@@ -1,7 +1,7 @@
 -- The answers of steps made one after the other.
 use Rattle.std.specs.Prelude.{ℕ, List, [], ◌∷◌, None, Some, Ok, Err}
 use Rattle.fasta.specs.Contents.{Contents, ends, fails, holds}
-use Rattle.fasta.specs.Steps.{Step, number, record_at, Told}
+use Rattle.fasta.specs.Steps.{Step, fault_number, record_at, Told}
 
 -- Each answer is that of a step at the cursor that the one before gave; the last is the end or the fault.
 abbrev pub Answers : List ℕ → ℕ → List Step → Type 0
@@ -14,5 +14,5 @@ Answers file at (Ok (Some found) ∷ rs) = Told file at (Ok (Some found)) × Ans
 abbrev pub gathered : List ℕ → List Step → Contents
 gathered file [] = ends
 gathered file (Ok None ∷ rs) = ends
-gathered file (Err fault ∷ rs) = fails (number fault)
+gathered file (Err fault ∷ rs) = fails (fault_number fault)
 gathered file (Ok (Some found) ∷ rs) = holds (record_at file found.name found.lines) (gathered file rs)

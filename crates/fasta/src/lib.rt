@@ -4,7 +4,7 @@
 
 ghost use Rattle.std.specs.Prelude.{◌≡◌, true, ◌+◌, ◌≤◌, length, drop};
 ghost use Rattle.fasta.specs.Contents.{contents_of, fault_of};
-ghost use Rattle.fasta.specs.Steps.{number_of, bytes_of, Told};
+ghost use Rattle.fasta.specs.Steps.{fault_number_of, bytes_of, Told};
 ghost use Rattle.fasta.specs.Terms.Lengths.{empty_lines, name_length, line_length, lines_length};
 
 #[derive(Clone, Copy)]
@@ -34,10 +34,10 @@ pub enum Fault {
 }
 
 impl Fault {
-    ghost use Rattle.fasta.specs.Steps.{number};
+    ghost use Rattle.fasta.specs.Steps.{fault_number};
 
     pub fn number(self) -> u32
-        ensures { result ≡ number self }
+        ensures { result ≡ fault_number self }
     {
         self as u32
     }
@@ -86,7 +86,7 @@ impl Cursor {
 
 // A `loop`: it ends in two ways, and a `while let` does not tell which it was.
 pub fn first_fault(file: &[u8]) -> Option<Fault>
-    ensures { number_of result ≡ fault_of (contents_of file.now) }
+    ensures { fault_number_of result ≡ fault_of (contents_of file.now) }
 {
     let mut cursor = Cursor::new();
     loop {

@@ -14,7 +14,7 @@ use Rattle.letters.specs.Place.{Place, Below}
 use Rattle.scans.specs.Setup.{Setup, f_at, kmers}
 use Rattle.scans.specs.Counts.{raise, cleared}
 use Rattle.scans.specs.Scans.{value, ForwardSums, forward_start, forward_judged, Forward, forward_from, dust_forward}
-use Rattle.scans.specs.Judged.{float_score, Best, best_of, better, forward_over}
+use Rattle.scans.specs.Judged.{float_score, Best, best_held, better, forward_over}
 use Rattle.scans.proofs.Test.{by_test}
 use Rattle.scans.proofs.Counting.{below_drop, below_take}
 use Rattle.scans.proofs.Gain.{InRange, gain, loss}
@@ -103,12 +103,12 @@ module _ (x : ℕ → Float) (j : ℕ) where
       (λ t. absurd (subst (λ (c : Bool). T c) (never_above (x l)) t))
       (λ _. leads_on_all n r m (l + 1) b' (omega arith) (omega arith) (leads_on l b (r l p (omega arith)) h))
 
-  leads_start : Leads 1 (best_of forward_start)
+  leads_start : Leads 1 (best_held forward_start)
   leads_start = record { number = le_self zero_near.ok; before = omega arith; top = λ L p k. absurd (omega arith); newest = λ L p k f. absurd (omega arith) }
 
   -- To the n-th, if nothing stops it.
-  pub leads_all : (n : ℕ) → ((L : ℕ) → 0 < L → L ≤ n → T (le (x L) (x L))) → Leads (n + 1) (forward_over (inf false) x j n 1 (best_of forward_start))
-  leads_all n r = leads_on_all n r n 1 (best_of forward_start) (omega arith) (omega arith) leads_start
+  pub leads_all : (n : ℕ) → ((L : ℕ) → 0 < L → L ≤ n → T (le (x L) (x L))) → Leads (n + 1) (forward_over (inf false) x j n 1 (best_held forward_start))
+  leads_all n r = leads_on_all n r n 1 (best_held forward_start) (omega arith) (omega arith) leads_start
 
 -- ---- Tables in range. A find: the scan from index j is best at the newest entry.
 module _ (S : Setup) (R : InRange S) (q : List Place) (j : ℕ) (m : Float) (b : Below (kmers S) q) (h : length q ≤ S.window_size) (some : 0 < length q)
@@ -128,12 +128,12 @@ module _ (S : Setup) (R : InRange S) (q : List Place) (j : ℕ) (m : Float) (b :
       let s = find_some in
       float_near S R (take L d) (below_take (kmers S) L d (below_drop (kmers S) j q b)) (omega (arith, length-drop j q)) (omega arith)
 
-  leads : Leads (λ (L : ℕ). float_score S (take L d)) j (length d + 1) (best_of (dust_forward S q j m).sums)
+  leads : Leads (λ (L : ℕ). float_score S (take L d)) j (length d + 1) (best_held (dust_forward S q j m).sums)
   leads =
       let x : ℕ → Float = λ (L : ℕ). float_score S (take L d) in
       let same = forward_judges S q j m in
       subst (λ (c : Best). Leads x j (length d + 1) c) (sym same)
-      (leads_end x j (m ⊕ slack) (length d) (λ L p k. le_self (near L p).ok) (length d) 1 (best_of forward_start) (omega arith) (omega arith) (leads_start x j)
+      (leads_end x j (m ⊕ slack) (length d) (λ L p k. le_self (near L p).ok) (length d) 1 (best_held forward_start) (omega arith) (omega arith) (leads_start x j)
       (ap (λ (c : Best). c.found) (sym same) ∙ found_newest))
 
   -- Its best is the score of the stretch from there to the newest,

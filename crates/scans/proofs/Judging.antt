@@ -9,7 +9,7 @@ use Rattle.letters.specs.Place.{Place, ambiguous}
 use Rattle.scans.specs.Setup.{Setup, f_at}
 use Rattle.scans.specs.Counts.{raise, cleared}
 use Rattle.scans.specs.Scans.{value, second_value, ForwardSums, forward_start, forward_judged, Forward, forward_from, dust_forward, Candidate, BackwardSums, backward_start, noted, is_dropped, backward_judged, Backward, backward_from}
-use Rattle.scans.specs.Judged.{sum_over_of, float_score, second_score, Best, best_of, better, forward_over, Peaks, peaks_of, backward_over}
+use Rattle.scans.specs.Judged.{sum_over_of, float_score, second_score, Best, best_held, better, forward_over, Peaks, peaks_of, backward_over}
 use Rattle.scans.specs.Terms.Parts.{whole_forward}
 use Rattle.scans.proofs.Test.{by_test, by_test_both}
 
@@ -42,7 +42,7 @@ module _ (S : Setup) (limit : Float) (j : ℕ) (all : List Place) where
   x L = float_score S (take L all)
 
   forward_from_lem : (seen es : List Place) (l i : ℕ) (a : ForwardSums) (counts : List ℕ) → l ≡ length seen + 1 → i + 1 ≡ j + l → seen ++ es ≡ all → Read S (value S) seen a.s counts
-      → best_of (forward_from S limit es l i a counts).sums ≡ forward_over limit x j (length es) l (best_of a)
+      → best_held (forward_from S limit es l i a counts).sums ≡ forward_over limit x j (length es) l (best_held a)
   unfolding forward_from forward_over float_score
   forward_from_lem seen [] l i a counts ql qi qa r = refl
   forward_from_lem seen (e ∷ es) l i a counts ql qi qa r =
@@ -56,23 +56,23 @@ module _ (S : Setup) (limit : Float) (j : ℕ) (all : List Place) where
       let r' : Read S (value S) (seen ++ e ∷ []) a'.s counts' =
       by_test (λ (b : ForwardSums). Read S (value S) (seen ++ e ∷ []) b.s counts') (le a.best sl) (record { s = s; best = sl; found = i + 1 }) (record { s = s; best = a.best; found = a.found })
       (λ _. read_more S (value S) seen a.s counts e r) (λ _. read_more S (value S) seen a.s counts e r) in
-      let judged : best_of a' ≡ better (best_of a) sl (j + l) =
-      by_test_both (λ (b : ForwardSums) (c : Best). best_of b ≡ c) (le a.best sl) (record { s = s; best = sl; found = i + 1 }) (record { s = s; best = a.best; found = a.found })
-      (record { best = sl; found = j + l }) (best_of a)
+      let judged : best_held a' ≡ better (best_held a) sl (j + l) =
+      by_test_both (λ (b : ForwardSums) (c : Best). best_held b ≡ c) (le a.best sl) (record { s = s; best = sl; found = i + 1 }) (record { s = s; best = a.best; found = a.found })
+      (record { best = sl; found = j + l }) (best_held a)
       (λ _. ap (λ (n : ℕ). record { best = sl; found = n }) qi) (λ _. refl) in
-      let same : best_of later.sums ≡ over (best_of a') = forward_from_lem (seen ++ e ∷ []) es (l + 1) (i + 1) a' counts' (omega arith) (omega arith) (append_snoc seen e es ∙ qa) r' in
-      subst (λ (z : Float). best_of (cond (lt limit sl) (record { sums = a'; counts = counts' }) later).sums ≡ cond (lt limit z) (better (best_of a) z (j + l)) (over (better (best_of a) z (j + l))))
+      let same : best_held later.sums ≡ over (best_held a') = forward_from_lem (seen ++ e ∷ []) es (l + 1) (i + 1) a' counts' (omega arith) (omega arith) (append_snoc seen e es ∙ qa) r' in
+      subst (λ (z : Float). best_held (cond (lt limit sl) (record { sums = a'; counts = counts' }) later).sums ≡ cond (lt limit z) (better (best_held a) z (j + l)) (over (better (best_held a) z (j + l))))
       (read_score S (value S) seen a.s counts e r l es all ql qa)
-      (by_test_both (λ (f : Forward) (c : Best). best_of f.sums ≡ c) (lt limit sl) (record { sums = a'; counts = counts' }) later (better (best_of a) sl (j + l)) (over (better (best_of a) sl (j + l)))
+      (by_test_both (λ (f : Forward) (c : Best). best_held f.sums ≡ c) (lt limit sl) (record { sums = a'; counts = counts' }) later (better (best_held a) sl (j + l)) (over (better (best_held a) sl (j + l)))
       (λ _. judged) (λ _. same ∙ ap over judged))
 
 pub forward_judges : (S : Setup) (q : List Place) (j : ℕ) (m : Float)
-    → best_of (dust_forward S q j m).sums ≡ forward_over (m ⊕ slack) (λ (L : ℕ). float_score S (take L (drop j q))) j (length (drop j q)) 1 (best_of forward_start)
+    → best_held (dust_forward S q j m).sums ≡ forward_over (m ⊕ slack) (λ (L : ℕ). float_score S (take L (drop j q))) j (length (drop j q)) 1 (best_held forward_start)
 unfolding dust_forward
 forward_judges S q j m = forward_from_lem S (m ⊕ slack) j (drop j q) [] (drop j q) 1 j forward_start (cleared S) refl refl refl (read_none S (value S))
 
 -- The one that is never stopped.
-pub whole_judges : (S : Setup) (es : List Place) → best_of (whole_forward S es).sums ≡ forward_over (inf false) (λ (L : ℕ). float_score S (take L es)) 0 (length es) 1 (best_of forward_start)
+pub whole_judges : (S : Setup) (es : List Place) → best_held (whole_forward S es).sums ≡ forward_over (inf false) (λ (L : ℕ). float_score S (take L es)) 0 (length es) 1 (best_held forward_start)
 whole_judges S es = forward_from_lem S (inf false) 0 es [] es 1 0 forward_start (cleared S) refl refl refl (read_none S (value S))
 
 -- ---- The backward scan.

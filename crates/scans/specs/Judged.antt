@@ -31,8 +31,8 @@ pub record Best : Type 0 where
   pub best : Float
   pub found : ℕ
 
-abbrev pub best_of : ForwardSums → Best
-best_of a = record { best = a.best; found = a.found }
+abbrev pub best_held : ForwardSums → Best
+best_held a = record { best = a.best; found = a.found }
 
 abbrev pub better : Best → Float → ℕ → Best
 better b x found = cond (le b.best x) (record { best = x; found = found }) b

@@ -15,7 +15,7 @@ use Rattle.letters.specs.Place.{Place, plain, BelowAt, Below}
 use Rattle.scans.specs.Setup.{Setup, ln_at, kmers}
 use Rattle.scans.specs.Counts.{count}
 use Rattle.scans.specs.Terms.Units.{margin, distance, unevenness, gain, loss}
-use Rattle.search.specs.Terms.Certified.{strayed, Kept, LowUnits, Certifiable}
+use Rattle.search.specs.Terms.Certified.{strayed, KeptNumber, LowUnits, Certifiable}
 use Rattle.scans.proofs.Counting.{below_drop}
 use Rattle.scans.proofs.Exact.{added}
 use Rattle.scans.proofs.Gain.{InRange, gain_none, gain_snoc, gain_cons}
@@ -131,7 +131,7 @@ module _ (S : Setup) (R : InRange S) (C : Certifiable S) where
     loss_joined l some h = omega (arith, f_rises (usual_shape C.usual) l some (omega arith))
 
     module _ {s low_from near_from : ℕ} {h u : Float} (k : LowUnits S q s low_from near_from h u) (few : s < 65535)
-        (h' : Float) (h_kept : Kept (suc s) h') (h_grows : pos64 h + more near_from + neg64 h' ≤ pos64 h' + neg64 h + unevenness)
+        (h' : Float) (h_kept : KeptNumber (suc s) h') (h_grows : pos64 h + more near_from + neg64 h' ≤ pos64 h' + neg64 h + unevenness)
         (v : Float) (v_ranged : Ranged 16 v) (v_high : more low_from ≤ pos64 v)
         (c m : ℕ) (c_from : near_from ≤ c) (c_in : c ≤ n) (m_is : m + c ≡ n + 2) (fresh : more c ≡ 0)
         (short : near_from < c → pos64 h' + margin * 2 + strayed (suc s) ≤ m * pos64 t + neg64 h') where

@@ -10,7 +10,7 @@ use Rattle.floats.proofs.Compare.{lt_value, le_value}
 use Rattle.floats.proofs.Range.{ranged_16}
 use Rattle.floats.specs.Terms.Rounded.{Near, pos_part, neg_part, eps, pos64, neg64, Ranged}
 use Rattle.scans.specs.Terms.Units.{margin, distance, unevenness}
-use Rattle.search.specs.Terms.Certified.{strayed, Kept}
+use Rattle.search.specs.Terms.Certified.{strayed, KeptNumber}
 use Rattle.scans.proofs.Shape.{margin_eps, unevenness_eps}
 
 pub strayed_few : (s : ℕ) → s ≤ 65535 → strayed s * 2 ≤ margin
@@ -40,15 +40,15 @@ module _ {x : Float} (ok : Finite binary64 x) where
   pub far_above : T (le distance x) → neg64 x + margin * 4 ≤ pos64 x
   far_above t = omega (arith, (le_value distance_ranged.ok ok).0 t, distance_margin, distance_ranged.low)
 
-pub kept_on : {s : ℕ} {x : Float} → Kept s x → Kept (suc s) x
+pub kept_on : {s : ℕ} {x : Float} → KeptNumber s x → KeptNumber (suc s) x
 kept_on k = record { ok = k.ok; high = omega (arith, k.high); low = omega (arith, k.low) }
 
 -- One letter: y, of at most 16 in size, is added or taken off.
 pub record Changed (s : ℕ) (x : Float) (P N : ℕ) : Type 0 where
-  pub kept : Kept s x
+  pub kept : KeptNumber s x
   pub near : Near binary64 x P N unevenness
 
-module _ {s : ℕ} {x y : Float} {Q R : ℕ} (k : Kept s x) (l : s < 65535) (n : Near binary64 y Q R (32 * eps)) (high : Q ≤ R + 16 * one) (low : R ≤ Q + 16 * one) where
+module _ {s : ℕ} {x y : Float} {Q R : ℕ} (k : KeptNumber s x) (l : s < 65535) (n : Near binary64 y Q R (32 * eps)) (high : Q ≤ R + 16 * one) (low : R ≤ Q + 16 * one) where
   changes : {z : Float} {P N : ℕ} → P ≤ N + (2097152 + s * 17 + 16) * one → N ≤ P + (2097152 + s * 17 + 16) * one → Near binary64 z P N (0 + 32 * eps + 4194304 * eps) → Changed (suc s) z P N
   changes u v near =
       let oe = one_eps in
@@ -71,7 +71,7 @@ module _ {s : ℕ} {x y : Float} {Q R : ℕ} (k : Kept s x) (l : s < 65535) (n :
       let kl = k.low in
       changes (omega arith) (omega arith) (near_as (near_sub 22 (lit≤ tt) (near_self k.ok) n (omega arith) (omega arith)) (omega arith) (omega arith))
 
-module _ {s : ℕ} {x a : Float} (k : Kept s x) (l : s < 65535) (A : Ranged 16 a) where
+module _ {s : ℕ} {x a : Float} (k : KeptNumber s x) (l : s < 65535) (A : Ranged 16 a) where
   -- By an ln entry,
   pub raised : Changed (suc s) (x ⊕ a) (pos64 x + pos64 a) (neg64 x)
   raised =

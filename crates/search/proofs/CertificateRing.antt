@@ -22,7 +22,7 @@ use Rattle.search.specs.Terms.Carry.{Summed, CarriesOn}
 use Rattle.scans.proofs.Counting.{below_left, below_drop}
 use Rattle.scans.proofs.Values.{decode_below}
 use Rattle.scans.proofs.Windows.{count_in}
-use Rattle.scans.proofs.Walk.{windowed_queued, queued_below}
+use Rattle.scans.proofs.BackwardScan.{window_below_lem}
 use Rattle.scans.proofs.Exact.{added}
 use Rattle.search.proofs.CarriedScan.{carried_on, carried_next, carried_step}
 use Rattle.search.proofs.Newest.{before_long, newest_place, none_counted}
@@ -34,9 +34,6 @@ module _ (p : Params) (ring : List ℕ) (head len : ℕ) (wc : List ℕ) (ln : L
 
   W : Windowed p ring head len wc (length ln)
   W = J.windowed
-
-  pub below_window : Below (4 ^ p.kmer) q
-  below_window = queued_below (windowed_queued {m = 4 ^ p.kmer} W refl)
 
   module _ (entry : ℕ) (is : entry ≡ newest_in ring head len) where
     entry_below : entry / 2 < 4 ^ p.kmer
@@ -64,7 +61,7 @@ module _ (p : Params) (ring : List ℕ) (head len : ℕ) (wc : List ℕ) (ln : L
         let place = entry_place q₀ e joins in
         let entered : CountsEntry ln counts e v counts' = subst (λ (z : Place). CountsEntry ln counts z v counts') place k in
         let at : BelowAt (length counts) e = subst (λ (z : Place). BelowAt (length counts) z) place (decode_below (length counts) entry raised_asks.0) in
-        let all : Below (kmers S) (q₀ ++ e ∷ []) = subst (λ (z : List Place). Below (kmers S) z) joins below_window in
+        let all : Below (kmers S) (q₀ ++ e ∷ []) = subst (λ (z : List Place). Below (kmers S) z) joins (window_below_lem W) in
         let nth : len - start ≡ length es + 1 = omega (arith, length-drop start q₀) in
         let step = carried_step S (len - start) e c d counts counts' v entered at t test ∙ ap (λ (l : ℕ). carried_on S l counts e c d) nth in
         let r : Carry = record { on = c.on; s = c.s ⊕ (v ⊖ p.score_threshold); best = cond t (c.s ⊕ (v ⊖ p.score_threshold) ⊖ get_or f (len - start) nan) c.best; certificate = d } in
@@ -110,7 +107,7 @@ module _ (p : Params) (ring : List ℕ) (head len : ℕ) (wc : List ℕ) (ln : L
           S = setup_of p ln f
 
           all : Below (kmers S) (q₀ ++ e ∷ [])
-          all = subst (λ (z : List Place). Below (kmers S) z) joins below_window
+          all = subst (λ (z : List Place). Below (kmers S) z) joins (window_below_lem W)
 
           room : length q₀ < p.window_size
           room = omega (arith, before_long W J.some q₀ e joins, W.len_in)

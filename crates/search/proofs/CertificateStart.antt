@@ -6,7 +6,7 @@ use Rattle.floats.specs.Terms.Rounded.{pos64, neg64}
 use Rattle.letters.specs.Place.{Place, BelowAt, Below}
 use Rattle.scans.specs.Setup.{Setup, f_at, kmers}
 use Rattle.scans.specs.Terms.Units.{margin, unevenness, gain, loss}
-use Rattle.search.specs.Terms.Certified.{loss_ahead, strayed, Kept, LowUnits, StartUnits, Certifiable}
+use Rattle.search.specs.Terms.Certified.{loss_ahead, strayed, KeptNumber, LowUnits, StartUnits, Certifiable}
 use Rattle.scans.proofs.Exact.{added}
 use Rattle.scans.proofs.Gain.{InRange, added_ranged}
 use Rattle.scans.proofs.Shape.{usual_shape}
@@ -73,7 +73,7 @@ module _ (S : Setup) (R : InRange S) (C : Certifiable S) where
     later = more_later S R C q b room e be
 
     module _ {j r s low_from near_from : ℕ} {h u gap h' u' : Float} (k : StartUnits S q j (suc r) s low_from near_from h u gap) (low : LowUnits S q' (suc s) low_from near_from h' u')
-        (gap' : Float) (gap_kept : Kept (suc s) gap') (gap_falls : pos64 gap' + neg64 gap + more 0 ≤ neg64 gap' + pos64 gap + more j + unevenness) where
+        (gap' : Float) (gap_kept : KeptNumber (suc s) gap') (gap_falls : pos64 gap' + neg64 gap + more 0 ≤ neg64 gap' + pos64 gap + more j + unevenness) where
       low_in : low_from ≤ n
       low_in = omega (arith, k.low.order, k.low.within)
 

@@ -76,10 +76,10 @@ pub fn nth_sequence(m: usize, index: usize, letters: &mut [u8]) -> bool
     ensures sequence { IsTrue result → letters.new ≡ put (get_or (sequences_of m) index []) letters.old }
     ensures same { IsTrue (not result) → letters.new ≡ letters.old }
 {
-    if (m < 1) | (MOST_LETTERS < m) {
+    if (m < 1) | (MOST_LETTERS < m) | (letters.len() < m) {
         return false;
     }
-    if (count_sequences(m) <= index) | (letters.len() < m) {
+    if count_sequences(m) <= index {
         return false;
     }
     write_letters(index, &mut letters[..m]);

@@ -19,6 +19,7 @@ use Rattle.scans.proofs.Counting.{Counted, hit_self, count_le, raise_counted, lo
 use Rattle.scans.proofs.Rings.{ring_index_at, queue_length, queue_join, queue_leave, window_join, window_leave, window_length}
 use Rattle.scans.proofs.Values.{decode_below, decoded_below, entry_plain, count_raised, counts_entry}
 use Rattle.scans.proofs.Windows.{long}
+use Rattle.scans.proofs.BackwardScan.{window_below_lem}
 use Rattle.step.specs.Step.{sum_without, sum_with, last_q_without, without_oldest, leave, join}
 use Rattle.step.specs.declared.window.Window.{Window}
 use Rattle.step.specs.Terms.KnownCounts.{KnownCounts, ends, counts_less, carry_less}
@@ -67,9 +68,6 @@ module _ {p : Params} {ring : List ℕ} {head len : ℕ} {counts : List ℕ} {n 
   -- The places before the newest.
   pub older_long : length (window ring head (len - 1)) ≡ len - 1
   older_long = window_length ring head (len - 1) head_within (omega (arith, len_within))
-
-  pub window_below_lem : Below (4 ^ p.kmer) (window ring head len)
-  window_below_lem = decoded_below (4 ^ p.kmer) (queue ring head len) (λ j h. w.below j (omega (arith, queue_length ring head len head_within len_within)))
 
   -- The oldest entry of a full queue stands at the head.
   module _ (full : len ≡ p.window_size) where

@@ -8,6 +8,7 @@ use Rattle.intervals.specs.declared.Interval.{Interval}
 use Rattle.scans.specs.declared.Params.{Params}
 use Rattle.scans.specs.Setup.{Setup}
 use Rattle.scans.specs.Terms.Numbers.{setup_of}
+use Rattle.scans.proofs.BackwardScan.{window_below_lem}
 use Rattle.step.specs.Step.{is_at, whole, step, run}
 use Rattle.step.specs.declared.hand.Open.{Open}
 use Rattle.step.specs.declared.state.State.{State}
@@ -16,7 +17,6 @@ use Rattle.step.specs.Terms.Entering.{held, newest_of, Entered, Enters}
 use Rattle.step.specs.Terms.Searching.{is_searched}
 use Rattle.step.specs.Terms.Finding.{PassedOn}
 use Rattle.strand.specs.Terms.ReadingOn.{run_to, Read, Skims}
-use Rattle.step.proofs.Moving.{window_below_lem}
 use Rattle.step.proofs.Searching.{look_unsearched, seeks_passed}
 use Rattle.step.proofs.Like.{ended}
 use Rattle.step.proofs.Placing.{run_next}

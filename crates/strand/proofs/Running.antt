@@ -15,6 +15,7 @@ use Rattle.scans.specs.Counts.{cleared}
 use Rattle.scans.specs.Terms.Window.{queue, window}
 use Rattle.scans.proofs.Counting.{cleared_counted}
 use Rattle.scans.proofs.Windows.{long}
+use Rattle.scans.proofs.BackwardScan.{window_below_lem}
 use Rattle.step.specs.Step.{Run, begin, is_at, whole, save_from, look, run_from, run, intervals_of_places, intervals_of}
 use Rattle.step.specs.declared.hand.Open.{Open}
 use Rattle.step.specs.declared.state.State.{State}
@@ -31,7 +32,6 @@ use Rattle.step.proofs.Shape.{ShapedAt, shaped_more, saved_room, begin_shaped, s
 use Rattle.step.proofs.KnownCounts.{known_unread}
 use Rattle.step.proofs.Like.{ended, like_refl, like_window, like_start, like_end, like_saved}
 use Rattle.step.proofs.Placing.{window_newest, enters_newest}
-use Rattle.step.proofs.Moving.{window_below_lem}
 use Rattle.step.proofs.Searching.{passing, seeks_answered, looked_counts, seeks_passed, seeks_extended, seeks_scanned}
 use Rattle.step.proofs.Letter.{Settled, SeeksAt, found_within, settles, passed_find, stepped}
 use Rattle.strand.proofs.ReadingOn.{places_take, run_turn}

@@ -14,7 +14,7 @@ use Rattle.scans.specs.Judged.{sum_over_of}
 use Rattle.scans.specs.Terms.Counted.{Counted}
 use Rattle.scans.specs.Terms.Shape.{Usual}
 use Rattle.scans.specs.Terms.Units.{gain, loss}
-use Rattle.search.specs.Terms.Certified.{Kept}
+use Rattle.search.specs.Terms.Certified.{KeptNumber}
 use Rattle.certificates.specs.Terms.Made.{AtLeast}
 
 -- The starts of this many newest places are judged anew at each search.
@@ -29,7 +29,7 @@ low_starts_to reach score = cond (ltb near_starts reach) (Some (record { reach =
 -- The place at index a is the l-th from the newest where a + l is the window's length.
 pub record LowBounds (S : Setup) (q : List Place) (c : LowStarts) : Type 0 where
   pub usual : Usual S
-  pub kept : Kept 0 c.score
+  pub kept : KeptNumber 0 c.score
   pub reaches : near_starts < c.reach
   pub low : (a l : ℕ) → a + l ≡ length q → near_starts < l → l ≤ c.reach → AtLeast c.score (gain S (drop a q)) (loss S l)
   pub ends : (a : ℕ) → a + c.reach ≡ length q → AtLeast c.score (gain S q) (gain S (take a q) + loss S c.reach)

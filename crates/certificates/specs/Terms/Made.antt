@@ -21,7 +21,7 @@ use Rattle.scans.specs.Terms.Numbers.{setup_of}
 use Rattle.scans.specs.Terms.Counted.{Counted}
 use Rattle.scans.specs.Terms.Parts.{Ringed}
 use Rattle.scans.specs.Terms.Units.{margin, distance, unevenness, gain, loss}
-use Rattle.search.specs.Terms.Certified.{loss_ahead, strayed, Kept, LowUnits, Certifiable, Bounds}
+use Rattle.search.specs.Terms.Certified.{loss_ahead, strayed, KeptNumber, LowUnits, Certifiable, Bounds}
 
 abbrev pub larger : Float → Float → Float
 larger a b = cond (lt a b) b a
@@ -85,9 +85,9 @@ pub record Reads (S : Setup) (q : List Place) (a : Reading) : Type 0 where
   pub near_while : length q ≤ a.at + near_most → a.near ≡ a.at
   pub near_sum : Near binary64 a.sum (gain S (drop a.near q)) 0 (err (length q - a.near))
   pub high : (i l : ℕ) → i + l ≡ length q → a.at ≤ i → 0 < l → AtLeast a.high (gain S (drop i q)) (loss S l)
-  pub high_kept : Kept 0 a.high
+  pub high_kept : KeptNumber 0 a.high
   pub far : (i l : ℕ) → i + l ≡ length q → a.at ≤ i → i < a.near → AtLeast a.far (gain S (drop i q)) (loss S l)
-  pub far_kept : Kept 0 a.far
+  pub far_kept : KeptNumber 0 a.far
 
 abbrev pub no_middle : ℕ → Middle
 no_middle len = record { near = len; h = zero64; u = neg two_to20; peak = neg two_to20 }
@@ -104,7 +104,7 @@ pub record Steady (S : Setup) (q : List Place) (m from : ℕ) (b : Middle) : Typ
   pub from_low : from ≤ low_from
   pub low : LowUnits S q 0 low_from b.near b.h b.u
   pub peak : (i l : ℕ) → i + l ≡ length q → from ≤ i → i < low_from → AtLeast b.peak (gain S (drop i q)) (loss_ahead S m l)
-  pub peak_kept : Kept 0 b.peak
+  pub peak_kept : KeptNumber 0 b.peak
   pub steady : (i l : ℕ) → i + l ≡ length q → from ≤ i → (a k : ℕ) → a + k ≡ length q → i < a → a < low_from
       → gain S (drop a q) + loss_ahead S m l + margin * 2 + neg64 S.drop_limit ≤ gain S (drop i q) + loss_ahead S m k + pos64 S.drop_limit
 
@@ -128,7 +128,7 @@ pub record OlderUnits (S : Setup) (q : List Place) (j oldest : ℕ) (gap : Float
       ⊎ ((oldest < j)
       × ((l k : ℕ) → oldest + l ≡ length q → j + k ≡ length q
       → gain S (drop oldest q) + pos64 gap + pos64 S.drop_limit + loss S k ≤ gain S (drop j q) + neg64 gap + neg64 S.drop_limit + loss S l + strayed 0))
-  pub gap_kept : Kept 0 gap
+  pub gap_kept : KeptNumber 0 gap
 
 pub record ReadsOlder (S : Setup) (q : List Place) (start : ℕ) (r : Older) (counts : List ℕ) : Type 0 where
   pub counted : Counted (kmers S) counts (drop r.at q)

@@ -24,7 +24,7 @@ abbrev pub strayed : ℕ → ℕ
 strayed s = (s + 32768) * (2 * unevenness)
 
 -- A number that s letters have made of one of at most 2^21 in size.
-pub record Kept (s : ℕ) (x : Float) : Type 0 where
+pub record KeptNumber (s : ℕ) (x : Float) : Type 0 where
   pub ok : Finite binary64 x
   pub high : pos64 x ≤ neg64 x + (2097152 + s * 17) * one
   pub low : neg64 x ≤ pos64 x + (2097152 + s * 17) * one
@@ -37,8 +37,8 @@ pub record LowUnits (S : Setup) (q : List Place) (s low_from near_from : ℕ) (h
   pub near : (a l : ℕ) → a + l ≡ length q → 0 < l → near_from ≤ a → gain S (drop a q) + margin * 2 ≤ loss S l + strayed s
   pub sum : gain S (drop near_from q) + neg64 h ≤ pos64 h + strayed s
   pub far : (a l : ℕ) → a + l ≡ length q → low_from ≤ a → a < near_from → gain S (drop a q) + neg64 u ≤ pos64 u + loss S l + strayed s
-  pub h_kept : Kept s h
-  pub u_kept : Kept s u
+  pub h_kept : KeptNumber s h
+  pub u_kept : KeptNumber s u
 
 -- s letters have joined since the certificate was made, and r may still join. In the middle, scores with the f entries of r places more stay within the drop limit of all newer ones, and below that of j.
 -- gap is at most the score of j less that of each older start, down to `oldest`, where the scan is at its end or drops.
@@ -55,7 +55,7 @@ pub record StartUnits (S : Setup) (q : List Place) (j r s low_from near_from : �
       ⊎ ((oldest < j)
       × ((l k : ℕ) → oldest + l ≡ length q → j + k ≡ length q
       → gain S (drop oldest q) + pos64 gap + pos64 S.drop_limit + loss S k ≤ gain S (drop j q) + neg64 gap + neg64 S.drop_limit + loss S l + strayed s))
-  pub gap_kept : Kept s gap
+  pub gap_kept : KeptNumber s gap
 
 -- Setups for which certificates are kept: tables of the usual shape, ln entry 1 not above 0, T not below 2^-10, and a drop limit that is a number.
 pub record Certifiable (S : Setup) : Type 0 where
