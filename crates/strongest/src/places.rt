@@ -8,6 +8,9 @@ ghost use Rattle.strongest.specs.Terms.Reading.{cleared_at};
 use letters::Kmer;
 use scans::raise_entry;
 
+// All counts are set to 0 where they are at most so many for each place that is read.
+const FEW: usize = 8;
+
 /// The last `steps` places of a strand, read backward from its last letter.
 #[derive(Clone, Copy)]
 pub struct Places<'a> {
@@ -37,12 +40,16 @@ impl<'a> Places<'a> {
         last_entry(&self.letters[from..end], self.kmer)
     }
 
-    // Sets the counts of the places to 0, and no other.
+    // Sets the counts of the places to 0: all counts where they are few, else no other.
     #[tactic(auto, using(crate::proofs::Counting::clearing))]
     pub fn clear_counts(&self, counts: &mut [u16])
         requires { length counts.old ≡ 4 ^ self.now.kmer }
         ensures { Known self.now 0 counts.new }
     {
+        if counts.len() <= FEW * self.steps {
+            counts.fill(0);
+            return;
+        }
         for i in 0..self.steps {
             clear_entry(counts, self.entry_back(i));
         }
