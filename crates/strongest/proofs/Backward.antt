@@ -1,5 +1,5 @@
 -- The places of a part of a strand, and the places read backward from its last letter, as a stretch of the whole strand's places.
-use Rattle.std.proofs.Common.{◌≡◌, refl, sym, ap, ap₂, ◌∙◌, Bool, cond, ◌&&◌, List, [], ◌∷◌, map, ℕ, zero, suc, ◌+◌, ◌-◌, ◌*◌, ◌/◌, ◌^◌, ◌≤◌, ◌<◌, min, arith, ltb, length, get_or, take, drop, length-drop, get_or-take, get_or-drop, length-take-le}
+use Rattle.std.proofs.Common.{◌≡◌, refl, sym, ap, ap₂, ◌∙◌, Bool, cond, ◌&&◌, List, [], ◌∷◌, map, ℕ, zero, suc, ◌+◌, ◌-◌, ◌*◌, ◌/◌, ◌^◌, ◌≤◌, ◌<◌, min, arith, ltb, length, get_or, set, take, drop, length-set, get_or-set_same, get_or-set_other, length-drop, get_or-take, get_or-drop, length-take-le, ◌⊎◌, inl, inr, ⊎_elim, subst, eq-or-lt_of_le, true, false, true≢false, eqb, eqb-true, eq-eqb}
 use Rattle.letters.specs.Code.{code, codes}
 use Rattle.letters.specs.declared.Kmer.{Kmer}
 use Rattle.letters.specs.Terms.Entry.{decode}
@@ -9,6 +9,7 @@ use Rattle.letters.specs.Place.{Place, ambiguous, plain, packed, all_plain, plac
 use Rattle.letters.proofs.Places.{places_drop}
 use Rattle.scans.specs.Score.{stretch}
 use Rattle.strongest.specs.Terms.Reading.{back, back_to}
+use Rattle.letters.specs.Terms.Rolling.{no_letter, rolled_on}
 use Rattle.letters.proofs.Rolling.{kmer_none, kmer_next, run_few, value_small}
 
 -- ---- The m letters of s from letter a on.
@@ -104,6 +105,83 @@ module _ (k : ℕ) (cs : List ℕ) (i size : ℕ) (some : 0 < k) (h : i < length
 
   pub slice_place : place_at k (part cs (end - size) (end - (end - size))) (length (part cs (end - size) (end - (end - size))) - 1) ≡ back k cs i
   slice_place = rw same (back_part k cs i (end - size) size (omega arith) (omega arith) (λ p. omega arith))
+
+-- After y letters of those that are needed the state is q, and the entries of the places whose letters were read are written: m of them, place i, counted back, the first.
+pub record Written (k : ℕ) (cs : List ℕ) (i m : ℕ) (letters : List ℕ) (y : ℕ) (q : Kmer) (entries : List ℕ) : Type 0 where
+  pub long : length entries ≡ m
+  pub state_is : q ≡ kmer_after k letters y
+  pub place : (j : ℕ) → j < m → length letters ≤ j + y → decode (get_or entries j 0) ≡ back k cs (i + j)
+  pub below : (j : ℕ) → j < m → length letters ≤ j + y → get_or entries j 0 / 2 < 4 ^ k
+
+-- The letters needed: those of the m places, and k - 1 more at their old side or as many as there are.
+module _ (k : ℕ) (cs : List ℕ) (i m from : ℕ) (some : 0 < k) (fits : i + m ≤ length cs) (from_is : from ≡ length cs - i - m - min (k - 1) (length cs - i - m)) where
+  abbrev needed : List ℕ
+  needed = part cs from (length cs - i - from)
+
+  needed_long : length needed ≡ length cs - i - from
+  needed_long = part_length cs from (length cs - i - from) (omega arith)
+
+  needed_place : (y j : ℕ) (q : Kmer) → j < m → y + j + 1 ≡ length cs - i - from → q ≡ kmer_after k needed (y + 1)
+      → (decode (entry_of k q) ≡ back k cs (i + j)) × (entry_of k q / 2 < 4 ^ k)
+  needed_place y j q h e r = (
+    entry_place k needed y q r ∙ place_part cs from (length cs - i - from) k y (length cs - 1 - (i + j)) (omega arith) (omega arith) (λ p. omega arith),
+    entry_below k needed (y + 1) q r,
+  )
+
+  pub written_none : (q : Kmer) (entries : List ℕ) → length entries ≡ m → q ≡ no_letter → Written k cs i m needed 0 q entries
+  written_none q entries l e =
+      record {
+        long = l;
+        state_is = e ∙ kmer_none k needed;
+        place = λ j h n. absurd (let z : ⊥ = omega (arith, needed_long) in z);
+        below = λ j h n. absurd (let z : ⊥ = omega (arith, needed_long) in z);
+      }
+
+  module _ (y : ℕ) (q r : Kmer) (entries : List ℕ) (W : Written k cs i m needed y q entries) (h : y < length needed) (next : r ≡ rolled_on k q (get_or needed y 0)) where
+    abbrev at : ℕ
+    at = length needed - 1 - y
+
+    state_next : r ≡ kmer_after k needed (y + 1)
+    state_next = kmer_next k needed y q W.state_is r h next
+
+    pub written_one : at < m → Written k cs i m needed (y + 1) r (set entries at (entry_of k r))
+    written_one in_m =
+        let long = W.long in
+        let own = needed_place y at r in_m (omega (arith, needed_long)) state_next in
+        let here : get_or (set entries at (entry_of k r)) at 0 ≡ entry_of k r = get_or-set_same entries at (entry_of k r) 0 (omega arith) in
+        record {
+          long = length-set entries at (entry_of k r) ∙ W.long;
+          state_is = state_next;
+          place = λ j l n.
+              ⊎_elim
+              (λ (e : j ≡ at). subst (λ (x : ℕ). decode (get_or (set entries at (entry_of k r)) x 0) ≡ back k cs (i + x)) (sym e) (ap decode here ∙ own.0))
+              (λ (e : j ≡ at → ⊥). ap decode (get_or-set_other entries at j (entry_of k r) 0 e) ∙ W.place j l (let z : length needed ≤ j + y = apart_from j e n in z))
+              (same_or j at);
+          below = λ j l n.
+              ⊎_elim
+              (λ (e : j ≡ at). subst (λ (x : ℕ). get_or (set entries at (entry_of k r)) x 0 / 2 < 4 ^ k) (sym e) (subst (λ (x : ℕ). x / 2 < 4 ^ k) (sym here) own.1))
+              (λ (e : j ≡ at → ⊥). subst (λ (x : ℕ). x / 2 < 4 ^ k) (sym (get_or-set_other entries at j (entry_of k r) 0 e)) (W.below j l (apart_from j e n)))
+              (same_or j at);
+        }
+      where
+        same_or : (a b : ℕ) → (a ≡ b) ⊎ (a ≡ b → ⊥)
+        same_or a b = by (eqb a b) refl
+          where
+            by : (t : Bool) → eqb a b ≡ t → (a ≡ b) ⊎ (a ≡ b → ⊥)
+            by true e = inl (eqb-true a b e)
+            by false e = inr (λ p. true≢false (sym (eq-eqb a b p) ∙ e))
+
+        apart_from : (j : ℕ) → (j ≡ at → ⊥) → length needed ≤ j + (y + 1) → length needed ≤ j + y
+        apart_from j e n = ⊎_elim (λ (p : length needed ≡ suc (j + y)). absurd (e (omega arith))) (λ (p : length needed < suc (j + y)). omega arith) (eq-or-lt_of_le (let z : length needed ≤ suc (j + y) = omega arith in z))
+
+    pub written_other : m ≤ at → Written k cs i m needed (y + 1) r entries
+    written_other past =
+        record {
+          long = W.long;
+          state_is = state_next;
+          place = λ j l n. W.place j l (omega arith);
+          below = λ j l n. W.below j l (omega arith);
+        }
 
 -- The letters from `from` to place b hold the last `steps` places up to b.
 module _ (k : ℕ) (s : List ℕ) (b steps m from : ℕ) (inside : b < length s) (some : 0 < k) (few : steps ≤ b + 1) (m_is : m ≡ min (steps + k - 1) (b + 1)) (from_is : from ≡ b + 1 - m) where

@@ -1,5 +1,5 @@
 -- Scan counts of which only those of the places read are known: first all set to 0, then raised place by place.
-use Rattle.std.proofs.Common.{◌≡◌, refl, sym, ap, ◌∙◌, List, ⊎_elim, ℕ, suc, ◌+◌, ◌-◌, ◌/◌, ◌%◌, ◌^◌, ◌≤◌, ◌<◌, eq-or-lt_of_le, arith, length, get_or, set, length-set, get_or-set_same, get_or-set_other, ℤ, pos, ◌+ℤ◌, Option, None, Some}
+use Rattle.std.proofs.Common.{◌≡◌, refl, sym, ap, ◌∙◌, List, ⊎_elim, ℕ, suc, ◌+◌, ◌-◌, ◌/◌, ◌%◌, ◌^◌, ◌≤◌, ◌<◌, eq-or-lt_of_le, arith, length, get_or, set, replicate, length-set, get_or-set_same, get_or-set_other, ℤ, pos, ◌+ℤ◌, Option, None, Some}
 use Rattle.std.proofs.lemmas.List.{get_or_past}
 use Rattle.std.proofs.lemmas.Option.{none-some, same_Some}
 use Rattle.letters.specs.Place.{Place, ambiguous, plain, BelowAt}
@@ -9,7 +9,7 @@ use Rattle.letters.proofs.Entries.{decode_plain}
 use Rattle.scans.specs.Counts.{hit, count, raise}
 use Rattle.scans.specs.Score.{ln_sums}
 use Rattle.scans.specs.Terms.Window.{raised_count}
-use Rattle.scans.proofs.Counting.{count_le, raise_length, raise_hit}
+use Rattle.scans.proofs.Counting.{count_le, cleared_counted, raise_length, raise_hit}
 use Rattle.scans.proofs.Exact.{adds, sums_cons}
 use Rattle.strongest.specs.Strongest.{entry, largest}
 use Rattle.strongest.specs.declared.places.Places.{Places}
@@ -63,6 +63,13 @@ module _ (p : Places) where
   pub cleared_known : (i : ℕ) (counts : List ℕ) → Cleared i counts → p.steps ≤ i → Known p 0 counts
   unfolding back_to
   cleared_known i counts c h = record { long = c.long; known = λ j l x q. c.cleared j (omega arith) x q }
+
+  -- All counts were set to 0.
+  pub filled_known : (counts counts' : List ℕ) → length counts ≡ 4 ^ k → counts' ≡ replicate (length counts) 0 → Known p 0 counts'
+  unfolding back_to
+  filled_known counts counts' h e =
+      let C = cleared_counted (length counts) in
+      rw e (record { long = C.long ∙ h; known = λ j l x q. C.counted x })
 
   -- ---- One place more is counted.
   module _ (l : ℕ) (counts : List ℕ) (c : Known p l counts) (h : l < p.steps) where

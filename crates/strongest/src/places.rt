@@ -8,6 +8,9 @@ ghost use Rattle.strongest.specs.Terms.Reading.{cleared_at};
 use letters::Kmer;
 use scans::raise_entry;
 
+// All counts are set to 0 where they are at most so many for each place that is read.
+const FEW: usize = 8;
+
 /// The last `steps` places of a strand, read backward from its last letter.
 #[derive(Clone, Copy)]
 pub struct Places<'a> {
@@ -24,7 +27,7 @@ pub struct Places<'a> {
 
 impl<'a> Places<'a> {
     ghost use Rattle.strongest.specs.Terms.Reading.{back};
-    ghost use Rattle.strongest.specs.Terms.Places.{Known, Adds};
+    ghost use Rattle.strongest.specs.Terms.Places.{Known, EntriesBack, Adds};
 
     // Place i, counted back from the last letter, as a queue entry.
     #[tactic(auto, using(crate::proofs::Backward::slices))]
@@ -37,25 +40,51 @@ impl<'a> Places<'a> {
         last_entry(&self.letters[from..end], self.kmer)
     }
 
-    // Sets the counts of the places to 0, and no other.
+    // Sets the counts of the places to 0: all counts where they are few, else no other.
     #[tactic(auto, using(crate::proofs::Counting::clearing))]
     pub fn clear_counts(&self, counts: &mut [u16])
         requires { length counts.old ≡ 4 ^ self.now.kmer }
         ensures { Known self.now 0 counts.new }
     {
+        if counts.len() <= FEW * self.steps {
+            counts.fill(0);
+            return;
+        }
         for i in 0..self.steps {
             clear_entry(counts, self.entry_back(i));
         }
     }
 
+    // Places i, i + 1 .., counted back from the last letter, as queue entries.
+    #[tactic(auto, using(crate::proofs::Backward::rolling))]
+    pub fn entries_back(&self, i: usize, entries: &mut [u32])
+        requires { i + length entries.old ≤ self.now.steps }
+        ensures { EntriesBack self.now i entries.new }
+    {
+        let end = self.letters.len() - i;
+        let first = end - entries.len();
+        let needed = &self.letters[first - (self.kmer - 1).min(first)..end];
+        let n = needed.len();
+        let mut state = Kmer::new();
+        for y in 0..n {
+            state = state.next(needed[y], self.kmer);
+            if n - 1 - y < entries.len() {
+                entries[n - 1 - y] = state.entry(self.kmer);
+            }
+        }
+    }
+
     // Counts place i, those before it being counted, and answers the ln entry of its raised count, 0 if ambiguous.
     #[tactic(auto, using(crate::proofs::Counting::counting))]
-    pub fn count_back(&self, i: usize, ln: &[u64], counts: &mut [u16]) -> u64
-        requires i_lt_steps { (i < self.now.steps) × (self.now.steps < length ln.now) }
+    pub fn count_back(&self, i: usize, entry: u32, ln: &[u64], counts: &mut [u16]) -> u64
+        requires inside { i < self.now.steps }
+        requires long { self.now.steps < length ln.now }
         requires known { Known self.now i counts.old }
+        requires place { decode entry ≡ back self.now.kmer self.now.letters.now i }
+        requires below { entry / 2 < 4 ^ self.now.kmer }
         ensures { Adds self.now i ln.now counts.new result }
     {
-        match raise_entry(counts, self.entry_back(i)) {
+        match raise_entry(counts, entry) {
             Some(c) => ln[c as usize],
             None => 0,
         }

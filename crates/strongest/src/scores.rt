@@ -2,7 +2,7 @@
 
 ghost use Rattle.std.specs.Prelude.{◌≡◌, ◌+◌, ◌-◌, ◌*◌, ◌^◌, ◌≤◌, ◌<◌, pos, ◌-ℤ◌, length};
 ghost use Rattle.strongest.specs.Terms.Reading.{Narrow, nothing, judged, gap_of, Reads};
-ghost use Rattle.strongest.specs.Terms.Places.{Known};
+ghost use Rattle.strongest.specs.Terms.Places.{Known, EntriesBack};
 
 use crate::places::Places;
 
@@ -23,6 +23,9 @@ pub struct Scoring<'a> {
     pub ln: &'a [u64],
     pub f: &'a [u64],
 }
+
+// So many places are made into queue entries at a time.
+const BLOCK: usize = 64;
 
 // What was read: the ln entries that all places gain, and the best stretch so far.
 #[derive(Clone, Copy)]
@@ -65,7 +68,37 @@ impl Reading {
 }
 
 impl<'a> Places<'a> {
-    // Reads the places backward from the last letter; the counts of their k-mers are 0.
+    // Reads the places from `start` on, those before them being read.
+    #[tactic(auto, using(crate::proofs::Reading::reads))]
+    fn read_entries(
+        &self,
+        start: usize,
+        entries: &[u32],
+        before: Reading,
+        scoring: &Scoring,
+        counts: &mut [u16],
+    ) -> Reading
+        requires narrow { Narrow scoring.now.threshold scoring.now.ln.now scoring.now.f.now self.now.steps }
+        requires inside { start + length entries.now ≤ self.now.steps }
+        requires entries { EntriesBack self.now start entries.now }
+        requires known { Known self.now start counts.old }
+        requires reads { let s = scoring.now in
+            Reads self.now.kmer s.threshold s.ln.now s.f.now self.now.letters.now start before }
+        ensures known { Known self.now (start + length entries.now) counts.new }
+        ensures reads { let s = scoring.now in let end = start + length entries.now in
+            Reads self.now.kmer s.threshold s.ln.now s.f.now self.now.letters.now end result }
+    {
+        let mut reading = before;
+        for j in 0..entries.len() {
+            let value = self.count_back(start + j, entries[j], scoring.ln, counts);
+            let size = start + j + 1;
+            let loss = (size as u64) * scoring.threshold + scoring.f[size];
+            reading = reading.judged(size, value, loss);
+        }
+        reading
+    }
+
+    // Reads the places backward from the last letter, block by block; the counts of their k-mers are 0.
     #[tactic(auto, using(crate::proofs::Reading::reads))]
     fn read_back(&self, scoring: &Scoring, counts: &mut [u16]) -> Reading
         requires narrow { Narrow scoring.now.threshold scoring.now.ln.now scoring.now.f.now self.now.steps }
@@ -73,11 +106,14 @@ impl<'a> Places<'a> {
         ensures { Reads self.now.kmer scoring.now.threshold scoring.now.ln.now scoring.now.f.now self.now.letters.now self.now.steps result }
     {
         let mut reading = Reading::new();
-        for l in 0..self.steps {
-            let value = self.count_back(l, scoring.ln, counts);
-            let size = l + 1;
-            let loss = (size as u64) * scoring.threshold + scoring.f[size];
-            reading = reading.judged(size, value, loss);
+        let mut block = [0; BLOCK];
+        let mut start = 0;
+        'on: while start < self.steps {
+            let m = BLOCK.min(self.steps - start);
+            let entries = &mut block[..m];
+            self.entries_back(start, entries);
+            reading = self.read_entries(start, entries, reading, scoring, counts);
+            start += m;
         }
         reading
     }
