@@ -17,10 +17,6 @@ pub struct Masker {
     pub options: LongdustOptions,
     pub tables: KeptTables,
     pub work: Work,
-    /// The intervals of the last mask, at the front.
-    pub list: Vec<Interval>,
-    /// Their marks.
-    pub marks: Vec<u8>,
     ghost for_all: { TablesFor options tables.ln.items tables.f.items },
 }
 
@@ -34,15 +30,18 @@ impl Masker {
             options,
             tables,
             work: Work::new(alloc),
-            list: Vec::new(alloc),
-            marks: Vec::new(alloc),
         })
     }
 
     /// Masks the letters of a record: how many intervals its mask has, which stand at the front of the list, their marks beside them; or why it
     /// is refused, and then no buffer is made for it. Fails where there is no memory.
-    pub fn mask(&mut self, letters: &[u8]) -> Result<Result<usize, Refusal>, AllocError>
-        ensures masks { IfOk result (λ r. Masks self.old.options letters.now self.new.list.items self.new.marks.items r) }
+    pub fn mask(
+        &mut self,
+        letters: &[u8],
+        list: &mut Vec<Interval>,
+        marks: &mut Vec<u8>,
+    ) -> Result<Result<usize, Refusal>, AllocError>
+        ensures masks { IfOk result (λ r. Masks self.old.options letters.now list.new.items marks.new.items r) }
         ensures options { self.new.options ≡ self.old.options }
     {
         let options = self.options;
@@ -51,10 +50,10 @@ impl Masker {
         }
         let rows = most_rows(letters.len(), options.kmer);
         self.work.fit(options, letters.len(), rows)?;
-        self.list.resize(rows, Interval { start: 0, end: 0 })?;
-        self.marks.resize(rows, 0)?;
-        let list = self.list.as_mut_slice();
-        let marks = self.marks.as_mut_slice();
+        list.resize(rows, Interval { start: 0, end: 0 })?;
+        marks.resize(rows, 0)?;
+        let list = list.as_mut_slice();
+        let marks = marks.as_mut_slice();
         if serves_all(options) {
             let tables = Tables {
                 ln: self.tables.ln.as_slice(),

@@ -1,0 +1,64 @@
+-- Texts by numbers.
+use Rattle.std.proofs.Common.{◌≡◌, ℕ, zero, suc, ◌+◌, ◌-◌, ◌<◌, List, [], ◌++◌, refl, sym, ap, ◌∙◌, arith, append_assoc, append-nil, subst}
+use Rattle.std.specs.Prelude.{Option}
+use Rattle.std.specs.Io.KnownBytes.{Appends}
+use Rattle.std.proofs.KnownBytes.{Appends-trans, Appends-nil}
+use Rattle.entries.specs.Outcome.{Front}
+use Rattle.entries.proofs.Sending.{front_all, front_cut, front_then, front_as}
+use Rattle.report.specs.Ascii.{ascii}
+use Rattle.report.specs.Text.{decimal}
+use Rattle.forms.specs.Notes.{refused_note}
+use Rattle.forms.specs.Each.{each}
+
+module _ (f : ℕ → List ℕ) where
+  pub each_none : each f 0 ≡ []
+  unfolding each
+  each_none = refl
+
+  pub each_more : (n : ℕ) → each f (n + 1) ≡ each f n ++ f n
+  unfolding each
+  each_more n = ap (each f) (let e : n + 1 ≡ suc n = omega arith in e)
+
+  -- What follows the first n.
+  each_from : (n m : ℕ) → (rest : List ℕ) × (each f (n + m) ≡ each f n ++ rest)
+  unfolding each
+  each_from n zero = ([], ap (each f) (let e : n + 0 ≡ n = omega arith in e) ∙ sym (append-nil (each f n)))
+  each_from n (suc m) =
+      let (rest, q) = each_from n m in
+      (rest ++ f (n + m), ap (each f) (let e : n + suc m ≡ suc (n + m) = omega arith in e) ∙ ap (λ (l : List ℕ). l ++ f (n + m)) q ∙ append_assoc (each f n) rest (f (n + m)))
+
+  module _ (a b : Option (List ℕ)) where
+    pub sent_start : Appends a a (each f 0)
+    sent_start = subst (λ (l : List ℕ). Appends a a l) (sym each_none) (Appends-nil a)
+
+    pub sent_more : (n : ℕ) (c : Option (List ℕ)) (line : List ℕ) → Appends a b (each f n) → line ≡ f n → Appends b c line → Appends a c (each f (n + 1))
+    sent_more n c line p e q = subst (λ (l : List ℕ). Appends a c l) (ap (λ (l : List ℕ). each f n ++ l) e ∙ sym (each_more n)) (Appends-trans a b c (each f n) line p q)
+
+    -- A line failed.
+    pub cut_off : (n count : ℕ) (c : Option (List ℕ)) (line : List ℕ) → n < count → Appends a b (each f n) → line ≡ f n → Front b c line → Front a c (each f count)
+    cut_off n count c line h p e q =
+        let m : (m : ℕ) × (count ≡ n + 1 + m) = (count - (n + 1), omega arith) in
+        let (k, s) = m in
+        let (rest, r) = each_from (n + 1) k in
+        front_as a c _ _
+        (ap (λ (l : List ℕ). (each f n ++ l) ++ rest) e ∙ ap (λ (l : List ℕ). l ++ rest) (sym (each_more n)) ∙ sym r ∙ ap (each f) (sym s))
+        (front_cut a c (each f n ++ line) rest (front_then a b c (each f n) line p q))
+
+    -- Nothing of a line was written.
+    pub cut_before : (n count : ℕ) → n < count → Appends a b (each f n) → Front a b (each f count)
+    cut_before n count h p =
+        let m : (m : ℕ) × (count ≡ n + m) = (count - n, omega arith) in
+        let (k, s) = m in
+        let (rest, r) = each_from n k in
+        front_as a b _ _ (sym r ∙ ap (each f) (sym s)) (front_cut a b (each f n) rest (front_all a b (each f n) p))
+
+-- What was appended, and then more.
+pub more : (t a b x y : List ℕ) → a ≡ t ++ x → b ≡ a ++ y → b ≡ t ++ (x ++ y)
+more t a b x y p q = q ∙ ap (λ (l : List ℕ). l ++ y) p ∙ append_assoc t x y
+
+-- The line about a refused record.
+pub note_is : (t a b c d e name : List ℕ) (n : ℕ) → a ≡ t ++ ascii "cisternpea: " → b ≡ a ++ name → c ≡ b ++ ascii ": refused (" → d ≡ c ++ decimal n
+    → e ≡ d ++ ascii ")\n" → e ≡ t ++ refused_note name n
+unfolding refused_note
+note_is t a b c d e name n p q r s u =
+    more t a e (ascii "cisternpea: ") _ p (more a b e name _ q (more b c e (ascii ": refused (") _ r (more c d e (decimal n) (ascii ")\n") s u)))

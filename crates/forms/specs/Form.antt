@@ -1,0 +1,28 @@
+-- What is written for a record in each form, and what is said of one that is refused.
+use Rattle.std.specs.Prelude.{ℕ, zero, suc, true, false, List, []}
+use Rattle.intervals.specs.declared.Interval.{Interval}
+use Rattle.fasta.specs.Lines.{name_of}
+use Rattle.longdust.specs.declared.LongdustOptions.{LongdustOptions}
+use Rattle.entries.specs.Entries.{Entry, joined}
+use Rattle.entries.specs.Outcome.{Report}
+use Rattle.masker.specs.Run.{record_refusal, record_mask, record_marks}
+use Rattle.forms.specs.declared.form.Form.{Form}
+use Rattle.forms.specs.declared.form.Form.TheVariants.{Bed, Marks}
+use Rattle.forms.specs.Bed.{bed, marked_bed}
+use Rattle.forms.specs.Notes.{refused_note}
+
+-- An accepted entry with its mask and its marks.
+abbrev pub body : Form → Entry → List Interval → List ℕ → List ℕ
+body Bed e is marks = bed (name_of e.header) is
+body Marks e is marks = marked_bed (name_of e.header) is marks
+
+-- An entry that is accepted is written; one that is refused is said.
+abbrev pub report_by : ℕ → List ℕ → List ℕ → Report
+report_by zero name text = record { text = text; notes = []; good = true }
+report_by (suc n) name text = record { text = []; notes = refused_note name (suc n); good = false }
+
+-- The report of an entry, by the options of the masker.
+unfoldable pub report_of : Form → LongdustOptions → Entry → Report
+report_of form o e =
+    let s : List ℕ = joined e.lines in
+    report_by (record_refusal o s) (name_of e.header) (body form e (record_mask o s) (record_marks o s))

@@ -1,0 +1,4 @@
+pub mod Each
+pub mod Bed
+pub mod Notes
+pub mod Form

@@ -1,0 +1,117 @@
+// The forms, and the masker that writes one of them.
+
+ghost use Rattle.std.specs.Prelude.{◌≡◌, ◌≤◌, length, IfSome};
+ghost use Rattle.fasta.specs.Lines.{name_of};
+ghost use Rattle.entries.specs.Held.{entry_of};
+ghost use Rattle.entries.specs.Outcome.{Sent, Recorded, Outcome};
+ghost use Rattle.forms.specs.Form.{body, report_of};
+
+use crate::bed::{Bed, MarkedBed};
+use crate::each::write_each;
+use crate::notes::write_note;
+use entries::{Failed, HeldEntry, Recorder, put_records};
+use intervals::Interval;
+use longdust::LongdustOptions;
+use masker::Masker;
+use std::alloc::Global;
+use std::io::{BufRead, Result as IoResult, Write};
+
+/// What is written for each record.
+#[derive(Clone, Copy)]
+pub enum Form {
+    /// A line for each interval: name, start, end; from 0, the end not included.
+    Bed,
+    /// The same with three columns more: the strands that saw the interval in words, 0, and + or - or . for both.
+    Marks,
+}
+
+// Writes an accepted entry. The buffer is for a line.
+fn write_body<W: Write>(
+    form: Form,
+    entry: &HeldEntry,
+    list: &[Interval],
+    marks: &[u8],
+    text: &mut Vec<u8>,
+    out: &mut W,
+) -> IoResult<()>
+    ensures { Sent (W.contents out.old) (W.contents out.new) (body form (entry_of entry.now) list.now marks.now) result }
+{
+    let name = entry.name();
+    match form {
+        Form::Bed => write_each(&Bed { name, list }, text, out),
+        Form::Marks => write_each(&MarkedBed { name, list, marks }, text, out),
+    }
+}
+
+/// Masks each record alone, and writes it in one form. A record that is refused is not written: a line is said of it.
+#[derive(Drop)]
+pub struct FormRecorder {
+    /// What is written.
+    pub form: Form,
+    /// The masker, with its options.
+    pub masker: Masker,
+    /// Room for a mask.
+    pub list: Vec<Interval>,
+    /// Room for its marks.
+    pub marks: Vec<u8>,
+    /// Room for a line.
+    pub text: Vec<u8>,
+}
+
+impl Recorder for FormRecorder {
+    ghost report = { λ r. report_of r.form r.masker.options };
+
+    fn put<W: Write, N: Write>(
+        &mut self,
+        entry: &HeldEntry,
+        out: &mut W,
+        notes: &mut N,
+    ) -> Result<bool, Failed> {
+        let letters = entry.letters.as_slice();
+        match self.masker.mask(letters, &mut self.list, &mut self.marks) {
+            Ok(Ok(count)) => {
+                let list = &self.list.as_slice()[..count];
+                let marks = &self.marks.as_slice()[..count];
+                match write_body(self.form, entry, list, marks, &mut self.text, out) {
+                    Ok(()) => Ok(true),
+                    Err(e) => Err(Failed::Writing(e)),
+                }
+            }
+            Ok(Err(refusal)) => {
+                match write_note(&mut self.text, entry.name(), refusal.number(), notes) {
+                    Ok(()) => Ok(false),
+                    Err(e) => Err(Failed::Saying(e)),
+                }
+            }
+            Err(_) => Err(Failed::NoMemory),
+        }
+    }
+}
+
+/// Masks each record of the file that the reader gives, alone, and writes it in the form; what is said of refused records goes to `notes`.
+/// Where `cr` is true, a byte 13 at a line's end is not of the line. Answers whether every record was accepted.
+pub fn put_file<R: BufRead, W: Write, N: Write>(
+    alloc: Global,
+    reader: &mut R,
+    cr: bool,
+    form: Form,
+    options: LongdustOptions,
+    out: &mut W,
+    notes: &mut N,
+) -> Result<bool, Failed>
+    ensures { IfSome (R.remaining reader.old) (λ file. Outcome cr (report_of form options) file
+        (W.contents out.old) (W.contents out.new) (N.contents notes.old) (N.contents notes.new) result) }
+{
+    let masker = match Masker::new(alloc, options) {
+        Ok(masker) => masker,
+        Err(_) => return Err(Failed::NoMemory),
+    };
+    let mut recorder = FormRecorder {
+        form,
+        masker,
+        list: Vec::new(alloc),
+        marks: Vec::new(alloc),
+        text: Vec::new(alloc),
+    };
+    put_records(alloc, reader, cr, &mut recorder, out, notes)
+}

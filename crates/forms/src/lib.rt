@@ -1,0 +1,11 @@
+// What is written for a record: one of several forms, and the line about a record that is refused.
+
+#![tactic(auto)]
+
+mod bed;
+mod each;
+mod form;
+mod notes;
+mod text;
+
+pub use form::{Form, FormRecorder, put_file};
