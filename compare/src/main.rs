@@ -59,6 +59,7 @@ compare tracks held FOLDER SEED COUNT  the port on these pairs against what bedt
 compare strands SEED COUNT one strand alone, both joined and the tables alone against the original, on random requests
 compare strongest SEED COUNT  the strongest stretch at a letter, the port's against a plain search
 compare strongest-list SEED COUNT  the strongest stretches of a contig, the port's against a plain search
+compare strongest-list pieces FILE COUNT  the same on pieces of a FASTA file, 20,000 letters each
 compare short              the table of all short sequences, by the original: crates/short_sequences_table/stdout
 compare short port         the port's call for it, on every size and past the bounds
 compare small SEED COUNT   the small profile against the original and the filling call, on random requests
@@ -109,9 +110,10 @@ fn main() {
         }
         ["strands", seed, count] => strands::command(strands_port(), number(seed), number(count)),
         ["strongest", seed, count] => strongest::command(strongest_port(), number(seed), number(count)),
-        ["strongest-list", seed, count] => {
-            strongest_list::command(strongest_list_port(), number(seed), number(count))
+        ["strongest-list", "pieces", file, count] => {
+            strongest_list::pieces(strongest_list_port(), &bytes(file), number(count) as usize)
         }
+        ["strongest-list", seed, count] => strongest_list::command(strongest_list_port(), number(seed), number(count)),
         ["small", "bench"] => return small::bench(small_port(), port()),
         ["small", seed, count] => small::command(small_port(), port(), number(seed), number(count)),
         ["cases"] => sets::cases(port()),

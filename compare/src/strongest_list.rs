@@ -1,6 +1,9 @@
 //! The strongest stretches of a contig: the port against a plain search in numbers of 128 bits, on random requests.
 
 use crate::generate::{letters, tandem, Rng};
+use crate::original;
+use crate::port::Buffers;
+use crate::request;
 use std::collections::HashMap;
 
 /// Entries that stand behind each lent buffer and are no part of it.
@@ -145,9 +148,8 @@ fn refusal(request: &Request, slip: Slip) -> i64 {
     let bad = |&[start, end]: &[u32; 2]| {
         start >= end && slip != Slip::EmptyRegionTaken || end as usize > n && slip != Slip::RegionPastTaken
     };
-    let wide = || {
-        *threshold >= 1 << 36 || ln[1..=*w].iter().any(|&x| x >= 1 << 36) || f[1..=*w].iter().any(|&x| x >= 1 << 52)
-    };
+    let wide =
+        || *threshold >= 1 << 36 || ln[1..=*w].iter().any(|&x| x >= 1 << 36) || f[1..=*w].iter().any(|&x| x >= 1 << 52);
     match () {
         _ if !(1..=12).contains(k) => 1,
         _ if sequence.iter().any(|&byte| byte >= 128) => 2,
@@ -238,15 +240,15 @@ fn found(request: &Request, slip: Slip) -> Vec<Stretch> {
     let most = if slip == Slip::LongerList { lent.max(other) } else { lent.min(other) };
     let all = stretches(request, slip);
     let floor = request.floor as i128;
-    let high = |s: &&Stretch| match slip {
-        Slip::FloorReached => s.score >= floor,
-        Slip::NoFloor => true,
+    let high = |s: &&Stretch| match () {
+        _ if slip == Slip::FloorReached => s.score >= floor,
+        _ if slip == Slip::NoFloor => true,
         _ => s.score > floor,
     };
-    let apart = |s: &Stretch, t: &Stretch| match slip {
-        Slip::TouchingTaken => s.to <= t.from || t.to <= s.from,
-        Slip::TwoBetween => s.to + 1 < t.from || t.to + 1 < s.from,
-        Slip::SharingOne => s.to <= t.from + 1 || t.to <= s.from + 1,
+    let apart = |s: &Stretch, t: &Stretch| match () {
+        _ if slip == Slip::TouchingTaken => s.to <= t.from || t.to <= s.from,
+        _ if slip == Slip::TwoBetween => s.to + 1 < t.from || t.to + 1 < s.from,
+        _ if slip == Slip::SharingOne => s.to <= t.from + 1 || t.to <= s.from + 1,
         _ => s.to < t.from || t.to < s.from,
     };
     let mut entries: Vec<Stretch> = vec![];
@@ -264,6 +266,69 @@ fn found(request: &Request, slip: Slip) -> Vec<Stretch> {
         entries.push(*best);
         if slip == Slip::TwoEntries && entries.len() > 1 {
             break;
+        }
+    }
+    entries
+}
+
+/// The best stretch that ends at place b without a letter that is not free, scores above the floor and has at most w places.
+fn best_ending(
+    request: &Request,
+    places: &[Option<usize>],
+    free: &[bool],
+    counts: &mut [u32],
+    b: usize,
+) -> Option<Stretch> {
+    let Request { kmer: k, threshold, ln, f, .. } = request;
+    let (mut gain, mut best, mut from): (i128, Option<Stretch>, usize) = (0, None, b + 1);
+    counts.fill(0);
+    for size in 1..=request.window_size.min(b + 1) {
+        let first = b + 1 - size;
+        let low = (first + 1).saturating_sub(*k);
+        if !free[low..from].iter().all(|&free| free) {
+            break;
+        }
+        from = low;
+        if let Some(kmer) = places[first] {
+            counts[kmer] += 1;
+            gain += ln[counts[kmer] as usize] as i128;
+        }
+        let score = gain - size as i128 * *threshold as i128 - f[size] as i128;
+        if score > request.floor as i128 && best.map_or(true, |old| score >= old.score) {
+            best = Some(Stretch { first, size, from: low, to: b + 1, score });
+        }
+    }
+    best
+}
+
+/// The same list for long sequences: the best of each end is kept, and found again where letters that it may hold are no longer free.
+fn found_by_ends(request: &Request, most: usize) -> Vec<Stretch> {
+    let n = request.sequence.len();
+    let lies = |x: usize| request.regions.iter().any(|r| (r[0] as usize..r[1] as usize).contains(&x));
+    let mut free: Vec<bool> = (0..n).map(lies).collect();
+    let mut number: HashMap<Vec<u8>, usize> = HashMap::new();
+    let mut numbered = |place| {
+        kmer_at(request, place).map(|kmer| {
+            let next = number.len();
+            *number.entry(kmer).or_insert(next)
+        })
+    };
+    let places: Vec<Option<usize>> = (0..n).map(&mut numbered).collect();
+    let counts = &mut vec![0; number.len()];
+    let mut ends: Vec<_> = (0..n).map(|b| best_ending(request, &places, &free, counts, b)).collect();
+    let mut entries: Vec<Stretch> = vec![];
+    while entries.len() < most {
+        let order = |s: &&Stretch| (s.score, s.size, usize::MAX - s.first);
+        let Some(best) = ends.iter().flatten().max_by_key(order).copied() else {
+            break;
+        };
+        entries.push(best);
+        let (low, high) = (best.from.saturating_sub(1), (best.to + 1).min(n));
+        free[low..high].fill(false);
+        for b in low..n.min(high + request.window_size + request.kmer) {
+            if ends[b].is_some_and(|s| s.from < high && low < s.to) {
+                ends[b] = best_ending(request, &places, &free, counts, b);
+            }
         }
     }
     entries
@@ -349,7 +414,7 @@ fn regions(rng: &mut Rng, n: usize) -> Vec<[u32; 2]> {
 }
 
 /// The request of this number in the list of a seed.
-fn request(seed: u64, number: u64) -> Request {
+fn random(seed: u64, number: u64) -> Request {
     let rng = &mut Rng::new(seed, number);
     // More letters than a tile has ends.
     let long = rng.one_in(1000);
@@ -472,7 +537,7 @@ fn alike(right: &Request, left: &Request, accepted: bool) -> bool {
 pub fn command(port: Port, seed: u64, count: u64) -> (u64, u64) {
     let (mut entries, mut ties, mut cut, mut none, mut refused, mut failed) = (0, 0, 0, 0, [0; 21], 0);
     for number in 0..count {
-        let mut right = request(seed, number);
+        let mut right = random(seed, number);
         let mut ours = right.clone();
         let (said, wanted) = (port(&mut ours), plain(&mut right, Slip::None));
         match wanted {
@@ -498,9 +563,80 @@ pub fn command(port: Port, seed: u64, count: u64) -> (u64, u64) {
     (count - failed, failed)
 }
 
+/// Letters of a piece, and entries of its list at most.
+const PIECE: usize = 20_000;
+const ENTRIES: usize = 10;
+
+/// A request for a piece: k, w, T and the tables as usual, the tables and T times 2^32, and the original's mask as regions.
+fn piece(letters: &[u8]) -> Request {
+    let usual = request::Request { sequence: letters.to_vec(), ..Default::default() };
+    let masked = match original::reference(&usual, &Buffers::new(&usual)).answer {
+        request::Answer::Accepted { intervals, .. } => intervals,
+        request::Answer::Refused(number) => panic!("a piece is refused with {number}"),
+    };
+    let (ln, f) = original::formulas::tables(&usual);
+    let whole = |bits: &[u64]| original::floats(bits).iter().map(|x| (x * 4_294_967_296.0).round() as u64).collect();
+    Request {
+        sequence: letters.to_vec(),
+        kmer: usual.kmer,
+        window_size: usual.window_size,
+        threshold: (usual.score_threshold * 4_294_967_296.0).round() as u64,
+        ln: whole(&ln),
+        f: whole(&f),
+        regions: masked.iter().map(|&(start, end)| [start as u32, end as u32]).collect(),
+        floor: 0,
+        codes: vec![7; PIECE + GUARD],
+        scan_counts: vec![7; (1 << (2 * usual.kmer)) + GUARD],
+        tiles: vec![
+            Tile { first: 7, size: 7, gain: 7, loss: 7, stale: 1 };
+            PIECE / (usual.window_size + SPAN) + 1 + GUARD
+        ],
+        list: vec![[7, 7]; ENTRIES + GUARD],
+        scores: vec![7; ENTRIES + GUARD],
+    }
+}
+
+/// The `strongest-list pieces` command: pieces of real letters, spread over a file.
+pub fn pieces(port: Port, text: &[u8], count: usize) -> (u64, u64) {
+    let lines = text.split(|&byte| byte == b'\n').filter(|line| line.first() != Some(&b'>'));
+    let letters: Vec<u8> = lines.flatten().copied().filter(|&byte| byte != b'\r').collect();
+    let (mut entries, mut failed) = (0, 0);
+    for i in 0..count {
+        let at = (letters.len() - PIECE) / count * i;
+        let mut right = piece(&letters[at..at + PIECE]);
+        let mut ours = right.clone();
+        let wanted = found_by_ends(&right, ENTRIES);
+        for (i, s) in wanted.iter().enumerate() {
+            right.list[i] = [s.from as u32, s.to as u32];
+            right.scores[i] = s.score as i64;
+        }
+        entries += wanted.len();
+        let said = port(&mut ours);
+        if said != wanted.len() as i64 || !alike(&right, &ours, true) {
+            failed += 1;
+            println!("the piece at letter {at}: said {said}, not {}", wanted.len());
+        }
+    }
+    println!("pieces {count}, entries {entries}");
+    (count as u64 - failed, failed)
+}
+
 #[cfg(test)]
 mod tests {
     use super::*;
+
+    #[test]
+    fn both_plain_searches_agree() {
+        for number in 0..2000 {
+            let request = random(2, number);
+            if refusal(&request, Slip::None) == 0 {
+                let most = request.list.len().min(request.scores.len()) - GUARD;
+                let told = |s: &Stretch| (s.first, s.size, s.score);
+                let by_ends: Vec<_> = found_by_ends(&request, most).iter().map(told).collect();
+                assert_eq!(by_ends, found(&request, Slip::None).iter().map(told).collect::<Vec<_>>(), "{number}");
+            }
+        }
+    }
 
     const WRONG: &[(&str, Port)] = &[
         ("equal scores to the shorter", |request| plain(request, Slip::Shorter)),
