@@ -14,6 +14,21 @@
 #define LONG_RECORD 1000000
 #endif
 
+static struct longdust_options masker_options(const struct options *o) {
+    return (struct longdust_options){
+        .kmer = o->kmer,
+        .window_size = o->window_size,
+        .score_threshold = o->score_threshold,
+        .gc_kind = o->gc_kind,
+        .gc_value = o->gc_value,
+        .xdrop_set = o->xdrop_set,
+        .xdrop_length = o->xdrop_length,
+        .min_start_cnt = o->min_start_cnt,
+        .approx = o->approx,
+        .forward_only = o->forward_only,
+    };
+}
+
 /* R of longdust.h. */
 static size_t rows(const struct options *o, uint64_t letters) { return (size_t)((letters + 1) / (o->kmer + 1)); }
 static size_t kmers(const struct options *o) { return (size_t)1 << (2 * o->kmer); }
@@ -96,45 +111,67 @@ static void take_back(struct lent *lent) {
     *lent = (struct lent){0};
 }
 
-/* What the masking calls are told: the options up to `approx`, the tables, and a thread's work space. */
-#define OPTIONS                                                                                                       \
-    o->kmer, o->window_size, o->score_threshold, o->gc_kind, o->gc_value, o->xdrop_set, o->xdrop_length,              \
-        o->min_start_cnt, o->approx
-#define BENCH                                                                                                         \
-    bench->ln, o->window_size + 1, bench->f, o->window_size + 2, bench->queue, o->window_size, bench->window_counts,  \
-        kmers(o), bench->scan_counts, kmers(o), bench->candidates, o->window_size
-#define BOTH                                                                                                          \
-    letters, n, OPTIONS, o->forward_only, BENCH, lent->codes, n, lent->reverse_codes, n, lent->lists + r, r,          \
-        lent->lists + 2 * r, r, lent->lists, r, lent->marks, r, &in_range
+/* A thread's work space and tables, and what it is lent for a record of n letters, if anything. */
+static struct longdust_buffers buffers_of(const struct bench *bench, const struct lent *lent, size_t n) {
+    const struct options *o = bench->masker->options;
+    size_t w = o->window_size, k = kmers(o), r = rows(o, n);
+    struct longdust_buffers buffers = {
+        .ln = bench->ln,
+        .f = bench->f,
+        .queue = bench->queue,
+        .window_counts = bench->window_counts,
+        .scan_counts = bench->scan_counts,
+        .candidates = bench->candidates,
+        .ln_len = w + 1,
+        .f_len = w + 2,
+        .queue_len = w,
+        .window_counts_len = k,
+        .scan_counts_len = k,
+        .candidates_len = w,
+    };
+    if (lent == NULL) return buffers;
+    buffers.codes = lent->codes;
+    buffers.codes_len = n;
+    buffers.list = lent->lists;
+    buffers.list_len = r;
+    if (lent->reverse_codes == NULL) return buffers;
+    buffers.reverse_codes = lent->reverse_codes;
+    buffers.forward_list = lent->lists + r;
+    buffers.reverse_list = lent->lists + 2 * r;
+    buffers.marks = lent->marks;
+    buffers.reverse_codes_len = n;
+    buffers.forward_list_len = buffers.reverse_list_len = buffers.marks_len = r;
+    return buffers;
+}
 
 /* Both strands, or the forward one alone if the options say so; the call fills the tables, or reads those that are
  * there. */
-static int64_t mask_both(struct bench *bench, const uint8_t *letters, size_t n, struct lent *lent) {
-    const struct options *o = bench->masker->options;
-    size_t r = rows(o, n);
+static int64_t mask_both(const struct bench *bench, const uint8_t *letters, size_t n, const struct lent *lent) {
+    const struct longdust_options o = masker_options(bench->masker->options);
+    struct longdust_buffers buffers = buffers_of(bench, lent, n);
     uint32_t in_range;
-    return o->gc_kind == GC_AUTO ? longdust_process(BOTH) : longdust_process_tables(BOTH);
-}
-
-static int64_t fill_tables(const struct options *o, const uint8_t *letters, size_t n, double *ln, double *f, uint8_t *codes) {
-    uint32_t in_range;
-    return longdust_fill_tables(letters, n, o->kmer, o->window_size, o->score_threshold, o->gc_kind, o->gc_value, ln,
-                                o->window_size + 1, f, o->window_size + 2, codes, n, &in_range);
+    return o.gc_kind == GC_AUTO ? longdust_fill_and_mask(&o, letters, n, &buffers, &in_range)
+                                : longdust_mask(&o, letters, n, &buffers, &in_range);
 }
 
 /* One strand. */
-static int64_t mask_strand(struct bench *bench, const uint8_t *letters, size_t n, struct lent *lent, uint32_t reverse) {
-    const struct options *o = bench->masker->options;
+static int64_t mask_strand(const struct bench *bench, const uint8_t *letters, size_t n, const struct lent *lent,
+                           uint32_t reverse) {
+    const struct longdust_options o = masker_options(bench->masker->options);
+    struct longdust_buffers buffers = buffers_of(bench, lent, n);
     uint32_t in_range;
-    int64_t filled = o->gc_kind == GC_AUTO ? fill_tables(o, letters, n, bench->ln, bench->f, lent->codes) : 0;
-    if (filled < 0) return filled;
-    return longdust_strand(letters, n, OPTIONS, reverse, BENCH, lent->codes, n, lent->lists, rows(o, n), &in_range);
+    int64_t filled = o.gc_kind == GC_AUTO ? longdust_fill(&o, letters, n, &buffers, &in_range) : 0;
+    return filled < 0 ? filled : longdust_mask_strand(&o, letters, n, reverse, &buffers, &in_range);
 }
 
 /* The tables depend on the letters only if GC is the record's own; then each call has its own. */
-struct masker make_masker(const struct options *o) {
-    struct masker masker = {.options = o, .ln = new_ln(o), .f = new_f(o)};
-    int64_t result = fill_tables(o, NULL, 0, masker.ln, masker.f, NULL);
+struct masker make_masker(const struct options *options) {
+    const struct longdust_options o = masker_options(options);
+    struct masker masker = {.options = options, .ln = new_ln(options), .f = new_f(options)};
+    struct bench bench = {.masker = &masker, .ln = masker.ln, .f = masker.f};
+    struct longdust_buffers buffers = buffers_of(&bench, NULL, 0);
+    uint32_t in_range;
+    int64_t result = longdust_fill(&o, NULL, 0, &buffers, &in_range);
     if (result < 0) fail("the masker refuses the options with %d", (int)-result);
     return masker;
 }

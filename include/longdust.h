@@ -1,9 +1,10 @@
 /* Low-complexity masking of a nucleotide sequence: two calls, which differ in who fills the tables. Below, each with
- * its own slices and checks: longdust_fill_tables, which fills them alone, longdust_strand and longdust_merge_strands,
- * which mask one strand alone and join the lists of both, longdust_masked_copy, which shows a mask in the letters, longdust_questions, which
- * answers questions about a list of intervals, longdust_join_tracks, which joins a list with another,
- * longdust_strongest_stretch, which finds the best-scoring stretch at a letter, longdust_small, which masks short
- * sequences in work space of its own, and longdust_short_sequences, which masks every short sequence.
+ * its own slices and checks: longdust_fill_tables, which fills them alone, longdust_strand and
+ * longdust_merge_strands, which mask one strand alone and join the lists of both, longdust_masked_copy, which shows a
+ * mask in the letters, longdust_questions, which answers questions about a list of intervals, longdust_join_tracks,
+ * which joins a list with another, longdust_strongest_stretch, which finds the best-scoring stretch at a letter,
+ * longdust_small, which masks short sequences in work space of its own, and longdust_short_sequences, which masks
+ * every short sequence.
  *
  * Link crates/longdust_c/out/liblongdust_c.a, which `rt lib` in crates/longdust_c makes for x86-64. No
  * call allocates, keeps state or reads anything but its arguments, so threads may call at once, each
@@ -165,8 +166,8 @@ int64_t longdust_fill_tables(
     uint32_t *in_range);
 
 /* Masks one strand of the sequence, the reverse complement if `reverse` is not 0, with filled tables: two threads mask
- * a long sequence, each with a strand, and longdust_merge_strands makes its mask from both lists. Options and slices are
- * those of longdust_process_tables, without those that are not here; list has R entries at least, and codes n.
+ * a long sequence, each with a strand, and longdust_merge_strands makes its mask from both lists. Options and slices
+ * are those of longdust_process_tables, without those that are not here; list has R entries at least, and codes n.
  *
  * The result is the number of the strand's intervals, which stand in the front of list, in the strand's own positions:
  * of the reverse complement, letter 0 is the complement of the sequence's last. Further entries up to R are left with
@@ -190,8 +191,8 @@ int64_t longdust_strand(
 /* Joins the lists of both strands of a sequence of n letters, each in its own positions, into the mask and its marks:
  * what longdust_process_tables writes for the same request; with no entry in reverse, what it writes for a forward-only
  * one.
- *   forward, reverse  of the usual kind: each entry has a letter or more, ends at n or before, and begins past the end of
- *                     the entry before it, with a letter or more between
+ *   forward, reverse  of the usual kind: each entry has a letter or more, ends at n or before, and begins past the
+ *                     end of the entry before it, with a letter or more between
  *   list              as many entries as both together at least
  *   marks             as many bytes at least
  * Entries past the intervals written do not change.
@@ -208,6 +209,75 @@ int64_t longdust_merge_strands(
     const uint32_t (*reverse)[2], size_t reverse_len,
     uint32_t (*list)[2], size_t list_len,
     uint8_t *marks, size_t marks_len);
+
+/* The same calls with their arguments in two structs, named as above: options, and slices with their lengths. */
+struct longdust_options {
+    size_t kmer, window_size;
+    double score_threshold;
+    uint32_t gc_kind;
+    double gc_value;
+    uint32_t xdrop_set, xdrop_length;
+    uint16_t min_start_cnt;
+    uint32_t approx, forward_only;
+};
+
+struct longdust_buffers {
+    double *ln, *f;
+    uint32_t *queue;
+    uint16_t *window_counts, *scan_counts;
+    struct longdust_forward_position *candidates;
+    uint8_t *codes, *reverse_codes;
+    uint32_t (*forward_list)[2], (*reverse_list)[2], (*list)[2];
+    uint8_t *marks;
+    size_t ln_len, f_len, queue_len, window_counts_len, scan_counts_len, candidates_len, codes_len, reverse_codes_len;
+    size_t forward_list_len, reverse_list_len, list_len, marks_len;
+};
+
+/* longdust_process_tables. */
+static inline int64_t longdust_mask(
+    const struct longdust_options *o, const uint8_t *sequence, size_t sequence_len, const struct longdust_buffers *b,
+    uint32_t *in_range) {
+    return longdust_process_tables(
+        sequence, sequence_len, o->kmer, o->window_size, o->score_threshold, o->gc_kind, o->gc_value, o->xdrop_set,
+        o->xdrop_length, o->min_start_cnt, o->approx, o->forward_only, b->ln, b->ln_len, b->f, b->f_len, b->queue,
+        b->queue_len, b->window_counts, b->window_counts_len, b->scan_counts, b->scan_counts_len, b->candidates,
+        b->candidates_len, b->codes, b->codes_len, b->reverse_codes, b->reverse_codes_len, b->forward_list,
+        b->forward_list_len, b->reverse_list, b->reverse_list_len, b->list, b->list_len, b->marks, b->marks_len,
+        in_range);
+}
+
+/* longdust_process: it fills the tables. */
+static inline int64_t longdust_fill_and_mask(
+    const struct longdust_options *o, const uint8_t *sequence, size_t sequence_len, const struct longdust_buffers *b,
+    uint32_t *in_range) {
+    return longdust_process(
+        sequence, sequence_len, o->kmer, o->window_size, o->score_threshold, o->gc_kind, o->gc_value, o->xdrop_set,
+        o->xdrop_length, o->min_start_cnt, o->approx, o->forward_only, b->ln, b->ln_len, b->f, b->f_len, b->queue,
+        b->queue_len, b->window_counts, b->window_counts_len, b->scan_counts, b->scan_counts_len, b->candidates,
+        b->candidates_len, b->codes, b->codes_len, b->reverse_codes, b->reverse_codes_len, b->forward_list,
+        b->forward_list_len, b->reverse_list, b->reverse_list_len, b->list, b->list_len, b->marks, b->marks_len,
+        in_range);
+}
+
+/* longdust_fill_tables. */
+static inline int64_t longdust_fill(
+    const struct longdust_options *o, const uint8_t *sequence, size_t sequence_len, const struct longdust_buffers *b,
+    uint32_t *in_range) {
+    return longdust_fill_tables(
+        sequence, sequence_len, o->kmer, o->window_size, o->score_threshold, o->gc_kind, o->gc_value, b->ln, b->ln_len,
+        b->f, b->f_len, b->codes, b->codes_len, in_range);
+}
+
+/* longdust_strand: its list goes to `list`; forward_only is not read. */
+static inline int64_t longdust_mask_strand(
+    const struct longdust_options *o, const uint8_t *sequence, size_t sequence_len, uint32_t reverse,
+    const struct longdust_buffers *b, uint32_t *in_range) {
+    return longdust_strand(
+        sequence, sequence_len, o->kmer, o->window_size, o->score_threshold, o->gc_kind, o->gc_value, o->xdrop_set,
+        o->xdrop_length, o->min_start_cnt, o->approx, reverse, b->ln, b->ln_len, b->f, b->f_len, b->queue,
+        b->queue_len, b->window_counts, b->window_counts_len, b->scan_counts, b->scan_counts_len, b->candidates,
+        b->candidates_len, b->codes, b->codes_len, b->list, b->list_len, in_range);
+}
 
 /* Copies the sequence to the front of copy, its masked letters in lower case or replaced. Letter x is
  * masked if any entry of list holds it, list[i][0] <= x < list[i][1], so a list in any order will do.

@@ -4,7 +4,7 @@
 
 ghost use Rattle.std.specs.Prelude.{◌≡◌, [], ◌∷◌, map, ◌≤◌, min, length, OnOk, OnErr, IfOk};
 ghost use Rattle.buffers.specs.Fill.{put};
-ghost use Rattle.checks.specs.Refusal.{number_of};
+ghost use Rattle.checks.specs.Refusal.{number_of, count_of, count_unless};
 ghost use Rattle.masked_copy.specs.Copy.{shown, copy_of, replacement_bad, refusal};
 
 use checks::Refusal;
@@ -93,6 +93,7 @@ pub fn masked_copy(
 ) -> Result<usize, Refusal>
     ensures ok { OnOk result (copy.new ≡ put (copy_of masking list.now sequence.now) copy.old) }
     ensures count { IfOk result (λ n. n ≡ length sequence.now) }
+    ensures values { count_of result ≡ count_unless (refusal masking sequence.now copy.old) (length sequence.now) }
     ensures refusal { number_of result ≡ refusal masking sequence.now copy.old }
     ensures err { OnErr result (copy.new ≡ copy.old) }
 {

@@ -8,7 +8,7 @@ ghost use Rattle.buffers.specs.Fill.{put, tabulate};
 ghost use Rattle.intervals.specs.Interval.{interval, covered_in, usual};
 ghost use Rattle.questions.specs.Answers.{none, nearest, all_that, within, inside, partly, share, answer_to};
 ghost use Rattle.questions.specs.Batch.{blocks, block, summary_of, results_of, bad_question, any_bad, refusal, list_refusal};
-ghost use Rattle.checks.specs.Refusal.{number_of};
+ghost use Rattle.checks.specs.Refusal.{number_of, count_of, count_unless};
 ghost use Rattle.questions.specs.Terms.Walked.{Walks};
 ghost use Rattle.questions.specs.Terms.Found.{IsFirstPast, first_from, Summed, Askable, AllAskable};
 
@@ -337,6 +337,8 @@ pub fn answer_questions(
     results: &mut [Answer],
 ) -> Result<usize, Refusal>
     ensures count { IfOk result (λ count. count ≡ length questions.now) }
+    ensures values { count_of result
+        ≡ count_unless (refusal n list.now questions.now (length summary.old) (length results.old)) (length questions.now) }
     ensures summary { OnOk result (summary.new ≡ put (summary_of n list.now) summary.old) }
     ensures results { OnOk result (results.new ≡ put (results_of list.now questions.now) results.old) }
     ensures refusal { number_of result ≡ refusal n list.now questions.now (length summary.old) (length results.old) }

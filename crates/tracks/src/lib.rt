@@ -5,7 +5,7 @@
 ghost use Rattle.std.specs.Prelude.{◌≡◌, true, cond, map, ◌+◌, ◌%◌, ◌≤◌, ◌<◌, length, drop, get_or, OnOk, OnErr, IfOk};
 ghost use Rattle.buffers.specs.Fill.{put};
 ghost use Rattle.intervals.specs.Out.{SameOut};
-ghost use Rattle.checks.specs.Refusal.{number_of};
+ghost use Rattle.checks.specs.Refusal.{number_of, count_of, count_unless};
 ghost use Rattle.tracks.specs.Tracks.{wanted, joined, joined_marks, too_short_of, refusal};
 ghost use Rattle.tracks.specs.Terms.Sweep.{side_of, ended_first, piece_at, Ready};
 
@@ -215,6 +215,9 @@ pub fn join_tracks(
     out: &mut MarksOut,
 ) -> Result<usize, Refusal>
     ensures count { IfOk result (λ count. count ≡ length (joined kind n ours.now.list.now theirs.now)) }
+    ensures values { count_of result
+        ≡ count_unless (refusal n ours.now.list.now ours.now.marks.now theirs.now (length out.old.list.now) (length out.old.marks.now))
+        (length (joined kind n ours.now.list.now theirs.now)) }
     ensures room { IfOk result (λ count. count ≤ length out.old.list.now) }
     ensures list { OnOk result (out.new.list.now ≡ put (joined kind n ours.now.list.now theirs.now) out.old.list.now) }
     ensures marks { OnOk result
