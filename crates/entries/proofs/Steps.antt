@@ -111,7 +111,7 @@ unfolding is_zero
 none_byte [] e = refl
 none_byte (y ∷ ys) e = absurd (let z : ⊥ = omega (arith, ap (λ (o : Option ℕ). is_zero o) e) in z)
 
-opens_long : (ys : List ℕ) → opens ys ≡ true → 0 < length ys
+pub opens_long : (ys : List ℕ) → opens ys ≡ true → 0 < length ys
 opens_long [] e = absurd (let z : ◌≡◌ {A = ℕ} 0 1 = ap (λ (t : Bool). cond t 1 0) e in (let y : ⊥ = omega arith in y))
 opens_long (y ∷ ys) e = omega arith
 

@@ -1,7 +1,7 @@
 -- What a file holds: its records as they came, up to its end or its first fault.
 use Rattle.std.specs.Prelude.{ℕ, Bool, true, false, cond, ◌||◌, List, [], ◌∷◌, ◌++◌}
 use Rattle.fasta.specs.Lines.{is_empty, opens, name_of}
-use Rattle.fasta.specs.Contents.{Record}
+use Rattle.fasta.specs.Contents.{Record, Contents, ends as no_more, fails as fault, holds as one}
 use Rattle.entries.specs.Lines.{file_lines}
 
 -- A record as it came: the line that opens it, from its `>` on, and the lines below it up to the next that opens one.
@@ -58,3 +58,15 @@ abbrev pub fault_of : Entries → ℕ
 fault_of ends = 0
 fault_of (fails n) = n
 fault_of (holds e rest) = fault_of rest
+
+-- The same as the records of crate `fasta`, which have lost the header and how their letters stood in lines.
+abbrev pub plain : Entries → Contents
+plain ends = no_more
+plain (fails n) = fault n
+plain (holds e rest) = one (record_of e) (plain rest)
+
+-- What one file holds and then what another holds, if the first has no fault.
+abbrev pub followed : Entries → Entries → Entries
+followed ends next = next
+followed (fails n) next = fails n
+followed (holds e rest) next = holds e (followed rest next)

@@ -25,7 +25,7 @@ onto_append b [] ms s = absurd s
 onto_append b (l ∷ ls) ms s = refl
 
 -- Byte 10 ends a line.
-lines_cut : (a c : List ℕ) → lines (a ++ (10 ∷ c)) ≡ lines (a ++ (10 ∷ [])) ++ lines c
+pub lines_cut : (a c : List ℕ) → lines (a ++ (10 ∷ c)) ≡ lines (a ++ (10 ∷ [])) ++ lines c
 unfolding lines
 lines_cut [] c = refl
 lines_cut (b ∷ a) c = go (lines_cut a c) (eqb b 10)

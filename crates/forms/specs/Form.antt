@@ -1,20 +1,26 @@
 -- What is written for a record in each form, and what is said of one that is refused.
 use Rattle.std.specs.Prelude.{ℕ, zero, suc, true, false, List, []}
+use Prim.Native.Char.{code}
 use Rattle.intervals.specs.declared.Interval.{Interval}
+use Rattle.masked_copy.specs.declared.Masking.TheVariants.{LowerCase, Replace}
 use Rattle.fasta.specs.Lines.{name_of}
 use Rattle.longdust.specs.declared.LongdustOptions.{LongdustOptions}
 use Rattle.entries.specs.Entries.{Entry, joined}
 use Rattle.entries.specs.Outcome.{Report}
 use Rattle.masker.specs.Run.{record_refusal, record_mask, record_marks}
 use Rattle.forms.specs.declared.form.Form.{Form}
-use Rattle.forms.specs.declared.form.Form.TheVariants.{Bed, Marks}
+use Rattle.forms.specs.declared.form.Form.TheVariants.{Bed, Marks, Soft, HardN, HardX}
 use Rattle.forms.specs.Bed.{bed, marked_bed}
+use Rattle.forms.specs.Fasta.{masked_fasta}
 use Rattle.forms.specs.Notes.{refused_note}
 
 -- An accepted entry with its mask and its marks.
 abbrev pub body : Form → Entry → List Interval → List ℕ → List ℕ
 body Bed e is marks = bed (name_of e.header) is
 body Marks e is marks = marked_bed (name_of e.header) is marks
+body Soft e is marks = masked_fasta LowerCase e is
+body HardN e is marks = masked_fasta (Replace (code "N")) e is
+body HardX e is marks = masked_fasta (Replace (code "X")) e is
 
 -- An entry that is accepted is written; one that is refused is said.
 abbrev pub report_by : ℕ → List ℕ → List ℕ → Report

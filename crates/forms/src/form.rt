@@ -8,10 +8,12 @@ ghost use Rattle.forms.specs.Form.{body, report_of};
 
 use crate::bed::{Bed, MarkedBed};
 use crate::each::write_each;
+use crate::fasta_text::write_fasta;
 use crate::notes::write_note;
 use entries::{Failed, HeldEntry, Recorder, put_records};
 use intervals::Interval;
 use longdust::LongdustOptions;
+use masked_copy::Masking;
 use masker::Masker;
 use std::alloc::Global;
 use std::io::{BufRead, Result as IoResult, Write};
@@ -23,9 +25,15 @@ pub enum Form {
     Bed,
     /// The same with three columns more: the strands that saw the interval in words, 0, and + or - or . for both.
     Marks,
+    /// FASTA, masked letters in lower case, the others as they came; lines as long as they came.
+    Soft,
+    /// FASTA, N for each masked letter.
+    HardN,
+    /// FASTA, X for each masked letter.
+    HardX,
 }
 
-// Writes an accepted entry. The buffer is for a line.
+// Writes an accepted entry. The buffer is for a line, or for the masked letters.
 fn write_body<W: Write>(
     form: Form,
     entry: &HeldEntry,
@@ -40,6 +48,9 @@ fn write_body<W: Write>(
     match form {
         Form::Bed => write_each(&Bed { name, list }, text, out),
         Form::Marks => write_each(&MarkedBed { name, list, marks }, text, out),
+        Form::Soft => write_fasta(entry, list, Masking::LowerCase, text, out),
+        Form::HardN => write_fasta(entry, list, Masking::Replace(b'N'), text, out),
+        Form::HardX => write_fasta(entry, list, Masking::Replace(b'X'), text, out),
     }
 }
 
@@ -54,7 +65,7 @@ pub struct FormRecorder {
     pub list: Vec<Interval>,
     /// Room for its marks.
     pub marks: Vec<u8>,
-    /// Room for a line.
+    /// Room for a line, or for masked letters.
     pub text: Vec<u8>,
 }
 

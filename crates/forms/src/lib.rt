@@ -4,6 +4,7 @@
 
 mod bed;
 mod each;
+mod fasta_text;
 mod form;
 mod notes;
 mod text;

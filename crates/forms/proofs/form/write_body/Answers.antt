@@ -21,3 +21,18 @@ returns-in-Marks g c =
     (ap (λ (n : List ℕ). marked_bed n c.args.list.now c.args.marks.now) c.name-name.ensures
     ∙ ap (λ (f : Form). body f (entry_of c.args.entry.now) c.args.list.now c.args.marks.now) (sym c.in-Marks.is))
     c.write_each-in-Marks.ensures
+
+pub returns-in-Soft : goal.returns-in-Soft
+returns-in-Soft g c =
+    sent_as _ _ _ _ c.write_fasta.result (ap (λ (f : Form). body f (entry_of c.args.entry.now) c.args.list.now c.args.marks.now) (sym c.in-Soft.is))
+    c.write_fasta.ensures
+
+pub returns-in-HardN : goal.returns-in-HardN
+returns-in-HardN g c =
+    sent_as _ _ _ _ c.write_fasta-in-HardN.result (ap (λ (f : Form). body f (entry_of c.args.entry.now) c.args.list.now c.args.marks.now) (sym c.in-HardN.is))
+    c.write_fasta-in-HardN.ensures
+
+pub returns-in-HardX : goal.returns-in-HardX
+returns-in-HardX g c =
+    sent_as _ _ _ _ c.write_fasta-in-HardX.result (ap (λ (f : Form). body f (entry_of c.args.entry.now) c.args.list.now c.args.marks.now) (sym c.in-HardX.is))
+    c.write_fasta-in-HardX.ensures
