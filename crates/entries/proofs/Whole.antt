@@ -3,7 +3,7 @@ use Rattle.std.proofs.Common.{◌≡◌, ℕ, Bool, true, false, ◌&&◌, List,
 use Rattle.std.specs.Prelude.{Option, Result}
 use Rattle.std.specs.Io.KnownBytes.{Appends}
 use Rattle.std.proofs.KnownBytes.{Appends-trans, Appends-nil}
-use Rattle.fasta.specs.Steps.{number}
+use Rattle.fasta.specs.Steps.{fault_number}
 use Rattle.entries.specs.declared.failed.Failed.{Failed}
 use Rattle.entries.specs.declared.failed.Failed.TheVariants.{Faulty, Reading, Writing, Saying, NoMemory}
 use Rattle.entries.specs.Entries.{Entry, Entries, ends, fails, holds, list_of, fault_of, entries_of}
@@ -144,9 +144,9 @@ module _ (f : Entry → Report) where
 
       fails_by : (x : Failed) → (xs : List ℕ) (d : Option (List ℕ)) (e : Entry) → Going xs b w' v' t → IfSome b (λ ys. EntryRead cr ys d e (Err x)) → Outcome cr f xs w w' v v' (Err x)
       fails_by (Faulty x) xs d e (done, ys, q, c, p, n, k) read =
-          let h : entries_of cr xs ≡ after done (fails (number x)) = c ∙ ap (after done) (if_some (λ m. EntryRead cr m d e (Err (Faulty x))) q read) in
-          let es : records cr xs ≡ done = whole xs done (fails (number x)) refl h in (
-            ap fault_of h ∙ fault_after done (fails (number x)),
+          let h : entries_of cr xs ≡ after done (fails (fault_number x)) = c ∙ ap (after done) (if_some (λ m. EntryRead cr m d e (Err (Faulty x))) q read) in
+          let es : records cr xs ≡ done = whole xs done (fails (fault_number x)) refl h in (
+            ap fault_of h ∙ fault_after done (fails (fault_number x)),
             subst (λ (l : List Entry). Appends w w' (texts f l)) (sym es) p,
             subst (λ (l : List Entry). Appends v v' (notes_on f l)) (sym es) n,
           )

@@ -1,7 +1,7 @@
 -- What reaches the two writers, whatever a call answers.
 use Rattle.std.specs.Prelude.{ℕ, ◌≤◌, ◌≡◌, Bool, true, ◌&&◌, List, [], ◌∷◌, ◌++◌, length, take, Option, Result, Ok, Err}
 use Rattle.std.specs.Io.KnownBytes.{Appends}
-use Rattle.fasta.specs.Steps.{number}
+use Rattle.fasta.specs.Steps.{fault_number}
 use Rattle.entries.specs.declared.failed.Failed.{Failed}
 use Rattle.entries.specs.declared.failed.Failed.TheVariants.{Faulty, Reading, Writing, Saying, NoMemory}
 use Rattle.entries.specs.Entries.{Entry, entries_of, list_of, fault_of}
@@ -68,7 +68,7 @@ Outcome cr report file out out' notes notes' (Ok good) =
     × Appends notes notes' (notes_of cr report file)
     × (good ≡ all_good report (records cr file))
 Outcome cr report file out out' notes notes' (Err (Faulty f)) =
-    (fault_of (entries_of cr file) ≡ number f)
+    (fault_of (entries_of cr file) ≡ fault_number f)
     × Appends out out' (text_of cr report file)
     × Appends notes notes' (notes_of cr report file)
 Outcome cr report file out out' notes notes' (Err (Reading e)) = WholeRecords (records cr file) report out out' notes notes'

@@ -1,7 +1,7 @@
 -- What the steps of the reader do, where the bytes that are left are known.
 use Rattle.std.specs.Prelude.{ℕ, Bool, true, false, not, ◌||◌, eqb, ◌≡◌, List, [], ◌∷◌, ◌++◌, Option, None, Some, ⊤, Result, Ok, Err}
 use Rattle.fasta.specs.Lines.{opens}
-use Rattle.fasta.specs.Steps.{number}
+use Rattle.fasta.specs.Steps.{fault_number}
 use Rattle.entries.specs.declared.failed.Failed.{Failed}
 use Rattle.entries.specs.declared.failed.Failed.TheVariants.{Faulty, Reading, Writing, Saying, NoMemory}
 use Rattle.entries.specs.declared.held.LineRun.{LineRun}
@@ -32,7 +32,7 @@ abbrev pub HeaderRead : Bool → List ℕ → Option (List ℕ) → List ℕ →
 HeaderRead cr xs rest line (Ok true) =
     (ys : List ℕ) × (rest ≡ Some ys) × (entries_of cr xs ≡ opened line (lines_below (file_lines cr ys)) (entries true (file_lines cr ys)))
 HeaderRead cr xs rest line (Ok false) = entries_of cr xs ≡ ends
-HeaderRead cr xs rest line (Err (Faulty f)) = entries_of cr xs ≡ fails (number f)
+HeaderRead cr xs rest line (Err (Faulty f)) = entries_of cr xs ≡ fails (fault_number f)
 HeaderRead cr xs rest line (Err (Reading e)) = ⊤
 HeaderRead cr xs rest line (Err (Writing e)) = ⊥
 HeaderRead cr xs rest line (Err (Saying e)) = ⊥
@@ -42,7 +42,7 @@ HeaderRead cr xs rest line (Err NoMemory) = ⊥
 abbrev pub EntryRead : Bool → List ℕ → Option (List ℕ) → Entry → Result Bool Failed → Type 0
 EntryRead cr xs rest e (Ok true) = (ys : List ℕ) × (rest ≡ Some ys) × (entries_of cr xs ≡ holds e (entries_of cr ys))
 EntryRead cr xs rest e (Ok false) = entries_of cr xs ≡ ends
-EntryRead cr xs rest e (Err (Faulty f)) = entries_of cr xs ≡ fails (number f)
+EntryRead cr xs rest e (Err (Faulty f)) = entries_of cr xs ≡ fails (fault_number f)
 EntryRead cr xs rest e (Err (Reading x)) = ⊤
 EntryRead cr xs rest e (Err (Writing x)) = ⊥
 EntryRead cr xs rest e (Err (Saying x)) = ⊥
