@@ -66,7 +66,7 @@ check: ## tests the program, the C examples and the documents
 prove: ## the whole gate: the check, every proof and wrong edit, the archive made again, the comparison (Rattle kit)
 	.ci/run
 
-compare: $(VARIANTS) target/bin/contigs ## runs the masker and the original Rust side by side (cargo, the original's source, the kit)
+compare: $(VARIANTS) target/bin/contigs target/bin/track ## runs the masker and the original Rust side by side (cargo, the original's source, the kit)
 	LONGDUST_ARCHIVE=$(abspath $(dir $(ARCHIVE))) compare/run $(WHAT)
 
 bench: target/host/cisternpea target/alone ## measures the speed, on made letters or on a FASTA file: FILE=genome.fa

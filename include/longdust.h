@@ -373,7 +373,9 @@ int64_t longdust_join_tracks(
  * there are places: w, or place + 1 if that is less. Among the stretches that end at `place` and begin at a
  * place read it finds the one that scores highest, of equal ones the longest. The result is the number of
  * steps; *start is the first place of that stretch, *score its score, which may be below 0. *gap is 0 if all
- * places were read; else no stretch that begins at a place left unread scores more than *score + *gap.
+ * places were read. With r places left unread it is what the score of all places read, without its f entry, plus r
+ * times the part above 0 of (largest ln entry 1..w minus threshold) exceeds *score by, or 0; no stretch that begins at
+ * a place left unread scores more than *score + *gap.
  *
  * Slices and how long they must be at least: sequence n letters, ln w + 1, f w + 2, codes n,
  * scan_counts 4^k. codes and scan_counts may hold anything before and are left with any content up to
@@ -463,7 +465,7 @@ int64_t longdust_small(
 
 /* Runs every sequence of m letters over A C G T N, first letter slowest, with k = 1, w = 8, two strands and
  * the other options as usual, and counts: tallies[c] is how many have c masked letters, and *refused how many
- * are too short for a run (all of one letter).
+ * the masking calls refuse with 3 for fewer than k + 1 letters: all five sequences of m = 1, none of a larger m.
  *   m        1 to 8
  *   tallies  m + 1 at least; entries past the first m + 1 do not change
  *   refused  points to a number, which is always set
