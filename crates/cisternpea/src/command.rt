@@ -5,7 +5,7 @@ use std::alloc::{AllocError, Global};
 
 const ABOUT: &str = "Masks low-complexity letters of FASTA files.";
 
-const FORMS: &str = "What is written, one of";
+const FORMS: &str = "What is written in place of BED, one of";
 
 const MASKER: &str = "The masker, by its own names and defaults";
 
@@ -91,16 +91,36 @@ fn masker<'a>(alloc: Global, command: Command<'a>) -> Result<Command<'a>, AllocE
         .arg(flag(alloc, "forward-only", "leave out the reverse complement"))
 }
 
-// The forms.
-fn forms<'a>(alloc: Global, command: Command<'a>) -> Result<Command<'a>, AllocError> {
-    let marks = Arg::new(alloc, "marks")
-        .long("marks")
+// A form without a value.
+fn form<'a>(alloc: Global, name: &'a str, help: &'a str) -> Arg<'a> {
+    Arg::new(alloc, name)
+        .long(name)
         .action(ArgAction::SetTrue)
-        .help(
-            "BED with three columns more: the strands that saw the interval in words, 0, and + or - or . for both",
-        )
+        .help(help)
+        .help_heading(FORMS)
+}
+
+// The forms, of which one may be given.
+fn forms<'a>(alloc: Global, command: Command<'a>) -> Result<Command<'a>, AllocError> {
+    let marks = form(
+        alloc,
+        "marks",
+        "BED with three columns more: the strands that saw the interval in words, 0, and + or - or . for both",
+    );
+    let soft = form(
+        alloc,
+        "soft",
+        "FASTA, masked letters in lower case, the others as they came",
+    );
+    let hard = Arg::new(alloc, "hard")
+        .long("hard")
+        .value_name("N|X")
+        .help("FASTA, N or X for each masked letter")
         .help_heading(FORMS);
-    command.arg(marks)
+    command
+        .arg(marks.conflicts_with("soft")?.conflicts_with("hard")?)?
+        .arg(soft.conflicts_with("hard")?)?
+        .arg(hard)
 }
 
 // The whole.

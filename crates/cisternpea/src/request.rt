@@ -99,17 +99,28 @@ fn options(rt: &HostRuntime, matches: &ArgMatches) -> Option<LongdustOptions> {
     })
 }
 
-fn form(matches: &ArgMatches) -> Form {
+fn form(rt: &HostRuntime, matches: &ArgMatches) -> Option<Form> {
     if matches.get_flag("marks") {
-        return Form::Marks;
+        return Some(Form::Marks);
     }
-    Form::Bed
+    if matches.get_flag("soft") {
+        return Some(Form::Soft);
+    }
+    match matches.get_str("hard") {
+        None => Some(Form::Bed),
+        Some("N") => Some(Form::HardN),
+        Some("X") => Some(Form::HardX),
+        Some(text) => {
+            wrong(rt, "hard", text, "N or X");
+            None
+        }
+    }
 }
 
 // None where a line on standard error says what is wrong.
 pub fn read_request(rt: &HostRuntime, matches: &ArgMatches) -> Option<Request> {
     Some(Request {
-        form: form(matches),
+        form: form(rt, matches)?,
         options: options(rt, matches)?,
     })
 }
