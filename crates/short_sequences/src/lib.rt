@@ -7,7 +7,8 @@ ghost use Rattle.intervals.specs.Interval.{Canonical, Wrote, covered_in};
 ghost use Rattle.short_sequences.specs.Sequences.{sequences_of, has_sequence};
 ghost use Rattle.short_sequences.specs.Tallies.{short_options, refusal_of, mask_of, tallies_over, tallies_of, refused_of, refusal};
 ghost use Rattle.buffers.specs.Fill.{put};
-ghost use Rattle.checks.specs.Refusal.{number_of};
+ghost use Rattle.checks.specs.Refusal.{number_of, count_by, count_unless};
+ghost use Rattle.short_sequences.specs.declared.Tallied.{Tallied};
 ghost use Rattle.short_sequences.specs.Terms.Outcome.{letter_at, Filled, Short, outcome_of, counted, one_if_refused};
 
 use checks::{Refusal, below_sum};
@@ -212,6 +213,8 @@ fn check(m: usize, tallies: &[u32]) -> Result<(), Refusal>
 /// Fills the front of `tallies`: entry c is how many sequences of m letters over A C G T N lead to c masked letters.
 pub fn short_sequences(m: usize, tallies: &mut [u32]) -> Result<Tallied, Refusal>
     ensures tallied { IfOk result (λ tallied. (tallied.sequences ≡ 5 ^ m) × (tallied.refused ≡ refused_of m)) }
+    ensures sequences { count_by (λ (t : Tallied). t.sequences) result ≡ count_unless (refusal m tallies.old) (5 ^ m) }
+    ensures refused { count_by (λ (t : Tallied). t.refused) result ≡ count_unless (refusal m tallies.old) (refused_of m) }
     ensures few { IfOk result (λ tallied. tallied.sequences ≤ 390625) }
     ensures tallies { OnOk result (tallies.new ≡ put (tallies_of m) tallies.old) }
     ensures refusal { number_of result ≡ refusal m tallies.old }

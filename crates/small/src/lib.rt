@@ -7,7 +7,7 @@ ghost use Rattle.buffers.specs.Fill.{put};
 ghost use Rattle.checks.specs.Tests.{most_intervals};
 ghost use Rattle.small.specs.Profile.{not_uniform, outside, refusal};
 ghost use Rattle.small.specs.Bytes.{bytes_of, pair_bytes};
-ghost use Rattle.checks.specs.Refusal.{number_of};
+ghost use Rattle.checks.specs.Refusal.{number_of, count_of, count_unless};
 ghost use Rattle.small.specs.Call.{filled_mask};
 ghost use Rattle.small.specs.Terms.Run.{Asked, Serve, Ran};
 
@@ -144,6 +144,8 @@ pub fn write_mask(
     out: &mut [u8],
 ) -> Result<usize, Refusal>
     ensures count { IfOk result (λ count. count ≡ length (filled_mask options sequence.now)) }
+    ensures values { count_of result
+        ≡ count_unless (refusal options sequence.now (length out.old)) (length (filled_mask options sequence.now)) }
     ensures few { IfOk result (λ count. count ≤ 2048) }
     ensures bytes { OnOk result (out.new ≡ put (bytes_of (filled_mask options sequence.now)) out.old) }
     ensures refusal { number_of result ≡ refusal options sequence.now (length out.old) }

@@ -7,7 +7,9 @@ mod refusals;
 mod scores;
 
 ghost use Rattle.std.specs.Prelude.{◌≡◌, ◌^◌, ◌≤◌, ◌<◌, length, IfOk, OnErr};
-ghost use Rattle.checks.specs.Refusal.{number_of};
+ghost use Rattle.checks.specs.Refusal.{number_of, count_by, count_unless};
+ghost use Rattle.strongest.specs.Strongest.{steps};
+ghost use Rattle.strongest.specs.declared.Strongest.{Strongest};
 ghost use Rattle.strongest.specs.Call.{asked_of, Found};
 ghost use Rattle.strongest.specs.Checks.{refusal};
 ghost use Rattle.strongest.specs.Terms.Reading.{Narrow, ReadsPlaces};
@@ -76,6 +78,8 @@ pub fn strongest_stretch(
 ) -> Result<Strongest, Refusal>
     ensures found { IfOk result (Found (asked_of request.now) codes.old codes.new scan_counts.old scan_counts.new) }
     ensures refusal { number_of result ≡ refusal (asked_of request.now) (length codes.old) (length scan_counts.old) }
+    ensures values { count_by (λ (s : Strongest). s.steps) result
+        ≡ count_unless (refusal (asked_of request.now) (length codes.old) (length scan_counts.old)) (steps (asked_of request.now)) }
     ensures err { OnErr result ((codes.new ≡ codes.old) × (scan_counts.new ≡ scan_counts.old)) }
 {
     check(request, codes.len(), scan_counts.len())?;

@@ -1,7 +1,7 @@
 // The call on filled tables with work buffers of its own.
 
 ghost use Rattle.std.specs.Prelude.{◌≡◌, ◌≤◌, length, IfOk, OnOk, OnErr};
-ghost use Rattle.checks.specs.Refusal.{number_of};
+ghost use Rattle.checks.specs.Refusal.{number_of, count_of, count_unless};
 ghost use Rattle.intervals.specs.Interval.{Canonical, Wrote};
 ghost use Rattle.longdust.specs.Buffers.{lent_sizes};
 ghost use Rattle.longdust.specs.Checks.{refusal};
@@ -25,6 +25,9 @@ pub fn process_in<const W: usize, const K: usize, const N: usize, const R: usize
     requires { (W ≤ 65535) × (K ≤ 16777216) × (N ≤ 2147483647) × (R ≤ 1073741824) }
     ensures refusal { number_of result ≡ refusal options letters.now
         (lent_sizes W K N R (length tables.now.ln.now) (length tables.now.f.now) (length list.old)) }
+    ensures values { count_of result ≡ count_unless (refusal options letters.now
+        (lent_sizes W K N R (length tables.now.ln.now) (length tables.now.f.now) (length list.old)))
+        (length (mask_by options letters.now tables.now.ln.now tables.now.f.now)) }
     ensures list { IfOk result (Wrote (mask_by options letters.now tables.now.ln.now tables.now.f.now) list.old list.new) }
     ensures shape { OnOk result (Canonical (length letters.now) options.kmer (mask_by options letters.now tables.now.ln.now tables.now.f.now)) }
     ensures err { OnErr result (list.new ≡ list.old) }
