@@ -56,7 +56,7 @@ target/mask target/small target/api target/address/mask target/address/small: $(
 	@mkdir -p $(@D); $(NEEDS)
 	$(EXAMPLE)
 
-target/bin/track target/bin/contigs: $(SOURCES)
+target/bin/track target/bin/contigs target/bin/cisternpea: $(SOURCES)
 	@tools/program $(@F)
 
 check: ## tests the program, the C examples and the documents

@@ -3,11 +3,11 @@
  * longdust_merge_strands, which mask one strand alone and join the lists of both, longdust_masked_copy, which shows a
  * mask in the letters, longdust_questions, which answers questions about a list of intervals, longdust_join_tracks,
  * which joins a list with another, longdust_strongest_stretch, which finds the best-scoring stretch at a letter,
- * longdust_small, which masks short sequences in work space of its own, and longdust_short_sequences, which masks
- * every short sequence.
+ * longdust_strongest_stretches, which lists those of a contig, longdust_small, which masks short sequences in work
+ * space of its own, and longdust_short_sequences, which masks every short sequence.
  *
- * Link crates/longdust_c/out/liblongdust_c.a, which `rt lib` in crates/longdust_c makes for x86-64. No
- * call allocates, keeps state or reads anything but its arguments, so threads may call at once, each
+ * Link dist/x86_64/liblongdust_c.a, or lib/liblongdust_c.a where it is installed (x86-64-v2; dist/aarch64 has the
+ * calls for that processor). No call allocates, keeps state or reads anything but its arguments, so threads may call at once, each
  * with its own buffers. A call takes less than 16 KB of stack, longdust_small 230 KB.
  *
  * Write n for sequence_len, k for kmer, w for window_size, and R for (n + 1) / (k + 1) rounded down.
