@@ -1,12 +1,12 @@
 -- A floor raised to just below what was found: the best above it is the best of all.
-use Rattle.std.proofs.Common.{◌≡◌, ℕ, ◌+◌, ◌-◌, ◌<◌, ◌≤◌, max, Bool, true, false, cond, ltb, leb, ◌&&◌, ◌||◌, List, Option, None, Some, option_map, ℤ, pos, refl, sym, ap, ◌∙◌, subst, arith, ltb-true, ltb-false, lt-ltb}
+use Rattle.std.proofs.Common.{◌≡◌, ℕ, ◌+◌, ◌≤◌, Bool, true, false, cond, ltb, leb, ◌&&◌, ◌||◌, List, Option, None, Some, ℤ, pos, refl, sym, ◌∙◌, subst, arith, ltb-true, ltb-false, lt-ltb}
 use lib.Signed.{lt_z}
 use Rattle.floats.proofs.Whole.{Is}
 use Rattle.strongest.proofs.Order.{up, down, parts, is_pos, difference_is, lt_is}
 use Rattle.strongest_list.specs.declared.Request.{Request}
 use Rattle.strongest_list.specs.declared.search.Candidate.{Candidate}
 use Rattle.strongest_list.specs.Stretches.{Stretch, beats}
-use Rattle.strongest_list.specs.Terms.Best.{Chosen, Eligible, Exact, Picks, score_of_codes, stretch_of, better_of}
+use Rattle.strongest_list.specs.Terms.Best.{Picks, score_of_codes, stretch_of, better_of}
 use Rattle.strongest_list.specs.Terms.Tiles.{EndsIn}
 use Rattle.strongest_list.specs.Terms.Sampling.{Sampled, floor_below, raised}
 use Rattle.strongest_list.proofs.Ranking.{not_beats}

@@ -1,5 +1,5 @@
 -- Terms of contracts: a stretch that was found at some of the ends, and the floor that it raises.
-use Rattle.std.specs.Prelude.{◌≡◌, ℕ, ◌-◌, max, List, Option, None, Some}
+use Rattle.std.specs.Prelude.{ℕ, ◌-◌, max, List, Option, None, Some}
 use Rattle.strongest_list.specs.declared.Request.{Request}
 use Rattle.strongest_list.specs.declared.search.Candidate.{Candidate}
 use Rattle.strongest_list.specs.Terms.Best.{score_of_codes, Exact, stretch_of}

@@ -1,5 +1,5 @@
 -- The best above the raised floor is the best of all.
-use Rattle.std.proofs.Common.{ℕ, ap, subst}
+use Rattle.std.proofs.Common.{ℕ, subst}
 use Rattle.strongest_list.specs.Terms.Best.{score_of_codes, Picks}
 use Rattle.strongest_list.specs.Terms.Tiles.{EndsIn}
 use Rattle.strongest_list.specs.Terms.Sampling.{raised}
