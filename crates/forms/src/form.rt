@@ -89,7 +89,7 @@ impl Recorder for FormRecorder {
                 }
             }
             Ok(Err(refusal)) => {
-                match write_note(&mut self.text, entry.name(), refusal.number(), notes) {
+                match write_note(&mut self.text, entry.name(), refusal, notes) {
                     Ok(()) => Ok(false),
                     Err(e) => Err(Failed::Saying(e)),
                 }
