@@ -13,12 +13,7 @@ use intervals::Interval;
 use std::io::{Error, Result as IoResult, Write};
 
 // Appends the line of a record with so many letters.
-fn add_summary(
-    text: &mut Vec<u8>,
-    name: &[u8],
-    list: &[Interval],
-    letters: usize,
-) -> IoResult<()>
+fn add_summary(text: &mut Vec<u8>, name: &[u8], list: &[Interval], letters: usize) -> IoResult<()>
     ensures { OnOk result (text.new.items ≡ text.old.items ++ summary name.now list.now letters) }
 {
     if 2147483647 < letters {
