@@ -1,12 +1,12 @@
 -- A floor raised to just below what was found: the best above it is the best of all.
-use Rattle.std.proofs.Common.{◌≡◌, ℕ, ◌+◌, ◌≤◌, Bool, true, false, cond, ltb, leb, ◌&&◌, ◌||◌, List, Option, None, Some, ℤ, pos, refl, sym, ◌∙◌, subst, arith, ltb-true, ltb-false, lt-ltb}
+use Rattle.std.proofs.Common.{◌≡◌, ℕ, ◌+◌, ◌≤◌, Bool, true, false, List, Option, None, Some, ℤ, pos, refl, sym, ◌∙◌, subst, arith, ltb-true, ltb-false, lt-ltb}
 use lib.Signed.{lt_z}
 use Rattle.floats.proofs.Whole.{Is}
 use Rattle.strongest.proofs.Order.{up, down, parts, is_pos, difference_is, lt_is}
 use Rattle.strongest_list.specs.declared.Request.{Request}
 use Rattle.strongest_list.specs.declared.search.Candidate.{Candidate}
 use Rattle.strongest_list.specs.Stretches.{Stretch, beats}
-use Rattle.strongest_list.specs.Terms.Best.{Picks, score_of_codes, stretch_of, better_of}
+use Rattle.strongest_list.specs.Terms.Best.{Picks, score_of_codes, stretch_of}
 use Rattle.strongest_list.specs.Terms.Tiles.{EndsIn}
 use Rattle.strongest_list.specs.Terms.Sampling.{Sampled, floor_below, raised}
 use Rattle.strongest_list.proofs.Ranking.{not_beats}
@@ -14,22 +14,6 @@ use Rattle.strongest_list.proofs.Ranking.{not_beats}
 module _ (q : Request) (cs : List ℕ) where
   abbrev f : Stretch → ℤ
   f = score_of_codes q cs
-
-  -- ---- What was found at the ends lo .. hi - 1.
-  pub sampled_at : (a b lo hi : ℕ) (o : Option Candidate) → lo ≤ a → b ≤ hi → Picks f (EndsIn q cs a b) o → Sampled q cs lo hi o
-  sampled_at a b lo hi None h k P = tt
-  sampled_at a b lo hi (Some c) h k P =
-      let e = P.chosen.0 in
-      (record { eligible = e.eligible; from = omega (arith, e.from); to = omega (arith, e.to) }, P.exact)
-
-  pub sampled_better : (lo hi : ℕ) (o n : Option Candidate) → Sampled q cs lo hi o → Sampled q cs lo hi n → Sampled q cs lo hi (better_of o n)
-  sampled_better lo hi o None h k = h
-  sampled_better lo hi None (Some n) h k = k
-  sampled_better lo hi (Some o) (Some n) h k = by (ltb (o.gain + n.loss) (n.gain + o.loss) || (leb (o.gain + n.loss) (n.gain + o.loss) && ltb o.size n.size))
-    where
-      by : (t : Bool) → Sampled q cs lo hi (cond t (Some n) (Some o))
-      by true = k
-      by false = h
 
   -- ---- The floor.
   lowered : (floor lo hi : ℕ) (s : Stretch) → q.floor ≤ floor → EndsIn (raised q floor) cs lo hi s → EndsIn q cs lo hi s

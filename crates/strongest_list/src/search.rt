@@ -3,7 +3,7 @@
 ghost use Rattle.std.specs.Prelude.{◌≡◌, ◌+◌, ◌≤◌, ◌<◌, length, IfSome};
 ghost use Rattle.strongest.specs.Strongest.{largest};
 ghost use Rattle.strongest.specs.Terms.Reading.{Narrow};
-ghost use Rattle.strongest_list.specs.Terms.Codes.{run_to};
+ghost use Rattle.strongest_list.specs.Terms.Codes.{run_to, AllBarred};
 ghost use Rattle.strongest_list.specs.Terms.Tiles.{EndsIn};
 ghost use Rattle.strongest_list.specs.Terms.Best.{score_of_codes, Small, AllExact, Picks, steps_of, ReadsEnd, best_ending, better_of, Searchable};
 ghost use Rattle.strongest_list.specs.Terms.Sampling.{Sampled, floor_below};
@@ -126,6 +126,24 @@ fn free_back(codes: &[u8], end: usize, limit: usize) -> usize
     most
 }
 
+// The first of the letters in a row before letter `end` that are barred, `low` at least.
+fn barred_back(codes: &[u8], low: usize, end: usize) -> usize
+    requires order { low ≤ end }
+    requires inside { end ≤ length codes.now }
+    ensures low { low ≤ result }
+    ensures high { result ≤ end }
+    ensures barred { AllBarred codes.now result end }
+{
+    let mut from = end;
+    'down: while low < from {
+        if codes[from - 1] < BARRED {
+            return from;
+        }
+        from -= 1;
+    }
+    from
+}
+
 // By how much the f entries 1..w rise at most from one to the next.
 fn largest_step(f: &[u64], w: usize) -> u64
     requires some { 0 < w }
@@ -233,7 +251,7 @@ impl Reached {
         if steps == 0 {
             return Self {
                 best: self.best,
-                from: b,
+                from: barred_back(codes, lo, b),
             };
         }
         let read = read_end(request, codes, scan_counts, b, steps);
