@@ -112,7 +112,9 @@ fn tables<'a>(alloc: Global, command: Command<'a>) -> Result<Command<'a>, AllocE
         .value_name("SIZE")
         .help("the masked share of each block of SIZE letters")
         .help_heading(FORMS);
-    command.arg(summary.conflicts_with("bedgraph")?)?.arg(bedgraph)
+    command
+        .arg(summary.conflicts_with("bedgraph")?)?
+        .arg(bedgraph)
 }
 
 // The forms, of which one may be given.
