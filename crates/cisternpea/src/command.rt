@@ -100,6 +100,23 @@ fn form<'a>(alloc: Global, name: &'a str, help: &'a str) -> Arg<'a> {
         .help_heading(FORMS)
 }
 
+// The forms that are tables of shares.
+fn tables<'a>(alloc: Global, command: Command<'a>) -> Result<Command<'a>, AllocError> {
+    let summary = form(
+        alloc,
+        "summary",
+        "a table: name, letters, intervals, masked letters, masked share",
+    );
+    let bedgraph = Arg::new(alloc, "bedgraph")
+        .long("bedgraph")
+        .value_name("SIZE")
+        .help("the masked share of each block of SIZE letters")
+        .help_heading(FORMS);
+    command
+        .arg(summary.conflicts_with("bedgraph")?)?
+        .arg(bedgraph)
+}
+
 // The forms, of which one may be given.
 fn forms<'a>(alloc: Global, command: Command<'a>) -> Result<Command<'a>, AllocError> {
     let marks = form(
@@ -117,10 +134,17 @@ fn forms<'a>(alloc: Global, command: Command<'a>) -> Result<Command<'a>, AllocEr
         .value_name("N|X")
         .help("FASTA, N or X for each masked letter")
         .help_heading(FORMS);
-    command
-        .arg(marks.conflicts_with("soft")?.conflicts_with("hard")?)?
-        .arg(soft.conflicts_with("hard")?)?
-        .arg(hard)
+    let marks = marks
+        .conflicts_with("soft")?
+        .conflicts_with("hard")?
+        .conflicts_with("summary")?
+        .conflicts_with("bedgraph")?;
+    let soft = soft
+        .conflicts_with("hard")?
+        .conflicts_with("summary")?
+        .conflicts_with("bedgraph")?;
+    let hard = hard.conflicts_with("summary")?.conflicts_with("bedgraph")?;
+    tables(alloc, command.arg(marks)?.arg(soft)?.arg(hard)?)
 }
 
 // The whole.

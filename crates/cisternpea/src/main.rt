@@ -108,6 +108,10 @@ fn run(rt: &HostRuntime) -> anyhow::Result<u8> {
         None => return Ok(STATUS_USAGE),
     };
     let mut out = BufWriter::with_capacity(alloc, ROOM, rt.stdout())?;
+    if let Err(e) = forms::put_head(request.form, &mut out) {
+        saying::say_error(rt, "cannot write", e);
+        return Ok(STATUS_FAILED);
+    }
     let names = matches.get_raw("FILE").unwrap_or(&["-"]);
     let status = mask_files(rt, names, &request, &mut out)?;
     if let Err(e) = out.flush() {

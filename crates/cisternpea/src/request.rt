@@ -99,6 +99,18 @@ fn options(rt: &HostRuntime, matches: &ArgMatches) -> Option<LongdustOptions> {
     })
 }
 
+// N or X in place of each masked letter.
+fn hard(rt: &HostRuntime, text: &str) -> Option<Form> {
+    match text {
+        "N" => Some(Form::HardN),
+        "X" => Some(Form::HardX),
+        _ => {
+            wrong(rt, "hard", text, "N or X");
+            None
+        }
+    }
+}
+
 fn form(rt: &HostRuntime, matches: &ArgMatches) -> Option<Form> {
     if matches.get_flag("marks") {
         return Some(Form::Marks);
@@ -106,15 +118,17 @@ fn form(rt: &HostRuntime, matches: &ArgMatches) -> Option<Form> {
     if matches.get_flag("soft") {
         return Some(Form::Soft);
     }
-    match matches.get_str("hard") {
-        None => Some(Form::Bed),
-        Some("N") => Some(Form::HardN),
-        Some("X") => Some(Form::HardX),
-        Some(text) => {
-            wrong(rt, "hard", text, "N or X");
-            None
-        }
+    if matches.get_flag("summary") {
+        return Some(Form::Summary);
     }
+    if let Some(text) = matches.get_str("hard") {
+        return hard(rt, text);
+    }
+    if matches.get_str("bedgraph").is_some() {
+        let size = number(rt, matches, "bedgraph", 1, 2147483647)?;
+        return Some(Form::Bedgraph(size.min(2147483647) as u32));
+    }
+    Some(Form::Bed)
 }
 
 // None where a line on standard error says what is wrong.

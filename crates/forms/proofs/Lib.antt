@@ -1,3 +1,4 @@
 pub mod Numbered
 pub mod Reports
 pub mod Runs
+pub mod Blocks

@@ -7,7 +7,10 @@ use Rattle.entries.specs.Outcome.{Front}
 use Rattle.entries.proofs.Sending.{front_all, front_cut, front_then, front_as}
 use Rattle.report.specs.Ascii.{ascii}
 use Rattle.report.specs.Text.{decimal}
-use Rattle.forms.specs.Notes.{refused_note}
+use Rattle.checks.specs.declared.refusal.Refusal.{Refusal}
+use Rattle.checks.specs.declared.refusal.Refusal.TheVariants.{KmerOutside, HighByte, TooFewLetters, WindowBelow, WindowAbove, BadThreshold, BadGc, MinStartBelow, BadXdrop, TooManyLetters, ShortSlice, BadReplacement, OtherByte, UnusualList, BadQuestion, NoBudget, PlaceOutside, HighTable, OutsideProfile, BadLength}
+use Rattle.checks.specs.Refusal.{number, text}
+use Rattle.forms.specs.Notes.{text_numbered, refused_note}
 use Rattle.forms.specs.Each.{each}
 
 module _ (f : ℕ → List ℕ) where
@@ -56,9 +59,35 @@ module _ (f : ℕ → List ℕ) where
 pub more : (t a b x y : List ℕ) → a ≡ t ++ x → b ≡ a ++ y → b ≡ t ++ (x ++ y)
 more t a b x y p q = q ∙ ap (λ (l : List ℕ). l ++ y) p ∙ append_assoc t x y
 
+-- A refusal's text stands at its number.
+text_is : (r : Refusal) → text r ≡ text_numbered (number r)
+unfolding text_numbered
+text_is KmerOutside = refl
+text_is HighByte = refl
+text_is TooFewLetters = refl
+text_is WindowBelow = refl
+text_is WindowAbove = refl
+text_is BadThreshold = refl
+text_is BadGc = refl
+text_is MinStartBelow = refl
+text_is BadXdrop = refl
+text_is TooManyLetters = refl
+text_is ShortSlice = refl
+text_is BadReplacement = refl
+text_is OtherByte = refl
+text_is UnusualList = refl
+text_is BadQuestion = refl
+text_is NoBudget = refl
+text_is PlaceOutside = refl
+text_is HighTable = refl
+text_is OutsideProfile = refl
+text_is BadLength = refl
+
 -- The line about a refused record.
-pub note_is : (t a b c d e name : List ℕ) (n : ℕ) → a ≡ t ++ ascii "cisternpea: " → b ≡ a ++ name → c ≡ b ++ ascii ": refused (" → d ≡ c ++ decimal n
-    → e ≡ d ++ ascii ")\n" → e ≡ t ++ refused_note name n
-unfolding refused_note
-note_is t a b c d e name n p q r s u =
-    more t a e (ascii "cisternpea: ") _ p (more a b e name _ q (more b c e (ascii ": refused (") _ r (more c d e (decimal n) (ascii ")\n") s u)))
+module _ (t a b c d e f g name : List ℕ) (r : Refusal) (n : ℕ) (words : List ℕ) (number_is : n ≡ number r) (words_are : words ≡ text r) where
+  pub note_is : a ≡ t ++ ascii "cisternpea: " → b ≡ a ++ name → c ≡ b ++ ascii ": refused (" → d ≡ c ++ decimal n
+      → e ≡ d ++ ascii "): " → f ≡ e ++ words → g ≡ f ++ ascii "\n" → g ≡ t ++ refused_note name (number r)
+  unfolding refused_note
+  note_is p q s u v w x =
+      more t a g (ascii "cisternpea: ") _ p (more a b g name _ q (more b c g (ascii ": refused (") _ s
+      (more c d g (decimal (number r)) _ (u ∙ ap (λ (m : ℕ). c ++ decimal m) number_is) (more d e g (ascii "): ") _ v (more e f g (text_numbered (number r)) (ascii "\n") (w ∙ ap (λ (l : List ℕ). e ++ l) (words_are ∙ text_is r)) x)))))

@@ -1,5 +1,5 @@
 -- What is written for a record in each form, and what is said of one that is refused.
-use Rattle.std.specs.Prelude.{ℕ, zero, suc, true, false, List, []}
+use Rattle.std.specs.Prelude.{ℕ, zero, suc, max, true, false, List, [], length}
 use Prim.Native.Char.{code}
 use Rattle.intervals.specs.declared.Interval.{Interval}
 use Rattle.masked_copy.specs.declared.Masking.TheVariants.{LowerCase, Replace}
@@ -9,9 +9,11 @@ use Rattle.entries.specs.Entries.{Entry, joined}
 use Rattle.entries.specs.Outcome.{Report}
 use Rattle.masker.specs.Run.{record_refusal, record_mask, record_marks}
 use Rattle.forms.specs.declared.form.Form.{Form}
-use Rattle.forms.specs.declared.form.Form.TheVariants.{Bed, Marks, Soft, HardN, HardX}
+use Rattle.forms.specs.declared.form.Form.TheVariants.{Bed, Marks, Soft, HardN, HardX, Summary, Bedgraph}
 use Rattle.forms.specs.Bed.{bed, marked_bed}
 use Rattle.forms.specs.Fasta.{masked_fasta}
+use Rattle.forms.specs.Summary.{summary_head, summary}
+use Rattle.forms.specs.Bedgraph.{bedgraph}
 use Rattle.forms.specs.Notes.{refused_note}
 
 -- An accepted entry with its mask and its marks.
@@ -21,6 +23,18 @@ body Marks e is marks = marked_bed (name_of e.header) is marks
 body Soft e is marks = masked_fasta LowerCase e is
 body HardN e is marks = masked_fasta (Replace (code "N")) e is
 body HardX e is marks = masked_fasta (Replace (code "X")) e is
+body Summary e is marks = summary (name_of e.header) is (length (joined e.lines))
+body (Bedgraph size) e is marks = bedgraph (name_of e.header) is (length (joined e.lines)) (max size 1)
+
+-- What stands above all records.
+abbrev pub head_of : Form → List ℕ
+head_of Bed = []
+head_of Marks = []
+head_of Soft = []
+head_of HardN = []
+head_of HardX = []
+head_of Summary = summary_head
+head_of (Bedgraph size) = []
 
 -- An entry that is accepted is written; one that is refused is said.
 abbrev pub report_by : ℕ → List ℕ → List ℕ → Report

@@ -1,5 +1,8 @@
 pub mod Each
 pub mod Bed
+pub mod Share
+pub mod Summary
+pub mod Bedgraph
 pub mod Fasta
 pub mod Notes
 pub mod Form

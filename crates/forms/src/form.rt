@@ -4,13 +4,15 @@ ghost use Rattle.std.specs.Prelude.{◌≡◌, ◌≤◌, length, IfSome};
 ghost use Rattle.fasta.specs.Lines.{name_of};
 ghost use Rattle.entries.specs.Held.{entry_of};
 ghost use Rattle.entries.specs.Outcome.{Sent, Recorded, Outcome};
-ghost use Rattle.forms.specs.Form.{body, report_of};
+ghost use Rattle.forms.specs.Form.{body, head_of, report_of};
 
 use crate::bed::{Bed, MarkedBed};
+use crate::bedgraph::write_bedgraph;
 use crate::each::write_each;
 use crate::fasta_text::write_fasta;
 use crate::notes::write_note;
-use entries::{Failed, HeldEntry, Recorder, put_records};
+use crate::summary::write_summary;
+use entries::{Failed, HeldEntry, Recorder, put_records, write_whole};
 use intervals::Interval;
 use longdust::LongdustOptions;
 use masked_copy::Masking;
@@ -31,6 +33,10 @@ pub enum Form {
     HardN,
     /// FASTA, X for each masked letter.
     HardX,
+    /// A line for each record: name, letters, intervals, masked letters, their share to six decimals, rounded half to even.
+    Summary,
+    /// A line for each block of so many letters: name, start, end, the masked share as above. A block of 0 letters has 1.
+    Bedgraph(u32),
 }
 
 // Writes an accepted entry. The buffer is for a line, or for the masked letters.
@@ -51,6 +57,18 @@ fn write_body<W: Write>(
         Form::Soft => write_fasta(entry, list, Masking::LowerCase, text, out),
         Form::HardN => write_fasta(entry, list, Masking::Replace(b'N'), text, out),
         Form::HardX => write_fasta(entry, list, Masking::Replace(b'X'), text, out),
+        Form::Summary => write_summary(entry, list, text, out),
+        Form::Bedgraph(size) => write_bedgraph(entry, list, size, text, out),
+    }
+}
+
+/// Writes what stands above all records in a form: the head of a summary.
+pub fn put_head<W: Write>(form: Form, out: &mut W) -> IoResult<()>
+    ensures { Sent (W.contents out.old) (W.contents out.new) (head_of form) result }
+{
+    match form {
+        Form::Summary => write_whole(out, b"#name\tletters\tintervals\tmasked\tshare\n"),
+        _ => Ok(()),
     }
 }
 
@@ -89,7 +107,7 @@ impl Recorder for FormRecorder {
                 }
             }
             Ok(Err(refusal)) => {
-                match write_note(&mut self.text, entry.name(), refusal.number(), notes) {
+                match write_note(&mut self.text, entry.name(), refusal, notes) {
                     Ok(()) => Ok(false),
                     Err(e) => Err(Failed::Saying(e)),
                 }

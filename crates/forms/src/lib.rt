@@ -3,10 +3,14 @@
 #![tactic(auto)]
 
 mod bed;
+mod bedgraph;
 mod each;
 mod fasta_text;
 mod form;
+mod masked;
 mod notes;
+mod share;
+mod summary;
 mod text;
 
-pub use form::{Form, FormRecorder, put_file};
+pub use form::{Form, FormRecorder, put_file, put_head};

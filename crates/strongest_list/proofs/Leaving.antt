@@ -19,7 +19,7 @@ use Rattle.strongest_list.specs.declared.search.Candidate.{Candidate}
 use Rattle.strongest_list.specs.declared.search.EndReading.{EndReading}
 use Rattle.strongest_list.specs.declared.search.Slope.{Slope}
 use Rattle.strongest_list.specs.Stretches.{Stretch, ending, beats}
-use Rattle.strongest_list.specs.Terms.Codes.{run_to}
+use Rattle.strongest_list.specs.Terms.Codes.{run_to, AllBarred}
 use Rattle.strongest_list.specs.Terms.Best.{Chosen, Eligible, score_of_codes, Exact, AllExact, Picks, stretch_of, steps_of, ReadsEnd}
 use Rattle.strongest_list.specs.Terms.Tiles.{EndsIn}
 use Rattle.strongest_list.specs.Terms.Leaving.{Steps, SlopeOf, bar_of, rises_below, left_out}
@@ -128,6 +128,17 @@ module _ (q : Request) (cs : List ℕ) where
       by : (o : Option Candidate) → ((s : Stretch) → EndsIn q cs a b s → Behind f o s) → Chosen f (EndsIn q cs b hi) (option_map stretch_of o) → Chosen f (EndsIn q cs a hi) (option_map stretch_of o)
       by None h c = λ s p. ⊎_elim (λ i. c s i) (λ i. h s i) (split s p)
       by (Some x) h c = (record { eligible = c.0.eligible; from = omega (arith, c.0.from); to = c.0.to }, λ s p. ⊎_elim (λ i. c.1 s i) (λ i. h s i) (split s p))
+
+  -- No stretch ends at a barred letter.
+  pub barred_out : (a b : ℕ) (o : Option Candidate) (s : Stretch) → 0 < q.kmer → AllBarred cs a b → EndsIn q cs a b s → Behind f o s
+  barred_out a b o s some B e =
+      let some' = e.eligible.some in
+      let from = e.from in
+      let to = e.to in
+      let x : ℕ = s.first + s.size - 1 in
+      let free = e.eligible.free x (omega arith) (omega arith) in
+      let barred = B.at x (omega arith) (omega arith) in
+      absurd (let z : ⊥ = omega arith in z)
 
 -- ---- By what was read of end b, the stretches that end d places before it, with no barred letter between.
 module _ (q : Request) (cs : List ℕ) (b m : ℕ) (some : 0 < q.kmer) (inside : b < length cs) (made : 0 < m)

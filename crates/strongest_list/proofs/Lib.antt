@@ -5,6 +5,7 @@ pub mod Steps
 pub mod Orders
 pub mod Turning
 pub mod Leaving
+pub mod Sampling
 pub mod Shown
 pub mod Same
 pub mod Taking

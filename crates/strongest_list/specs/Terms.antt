@@ -2,4 +2,5 @@ pub mod Codes
 pub mod Best
 pub mod Tiles
 pub mod Leaving
+pub mod Sampling
 pub mod Listed

@@ -3,14 +3,18 @@
 ghost use Rattle.std.specs.Prelude.{◌≡◌, ◌+◌, ◌≤◌, ◌<◌, length, IfSome};
 ghost use Rattle.strongest.specs.Strongest.{largest};
 ghost use Rattle.strongest.specs.Terms.Reading.{Narrow};
-ghost use Rattle.strongest_list.specs.Terms.Codes.{run_to};
+ghost use Rattle.strongest_list.specs.Terms.Codes.{run_to, AllBarred};
 ghost use Rattle.strongest_list.specs.Terms.Tiles.{EndsIn};
 ghost use Rattle.strongest_list.specs.Terms.Best.{score_of_codes, Small, AllExact, Picks, steps_of, ReadsEnd, best_ending, better_of, Searchable};
+ghost use Rattle.strongest_list.specs.Terms.Sampling.{Sampled, floor_below};
 ghost use Rattle.strongest_list.specs.Terms.Leaving.{Steps, SlopeOf, SmallReading, bar_of, rises_below, left_out, Lowers};
 
 use crate::Request;
 use crate::barring::BARRED;
 use strongest::{Places, Scored};
+
+// How many ends the search goes down from one that is sampled to the next.
+const SAMPLED: usize = 256;
 
 // A stretch: its first place, its number of places, what it gains and what it loses.
 #[derive(Clone, Copy)]
@@ -122,6 +126,24 @@ fn free_back(codes: &[u8], end: usize, limit: usize) -> usize
     most
 }
 
+// The first of the letters in a row before letter `end` that are barred, `low` at least.
+fn barred_back(codes: &[u8], low: usize, end: usize) -> usize
+    requires order { low ≤ end }
+    requires inside { end ≤ length codes.now }
+    ensures low { low ≤ result }
+    ensures high { result ≤ end }
+    ensures barred { AllBarred codes.now result end }
+{
+    let mut from = end;
+    'down: while low < from {
+        if codes[from - 1] < BARRED {
+            return from;
+        }
+        from -= 1;
+    }
+    from
+}
+
 // By how much the f entries 1..w rise at most from one to the next.
 fn largest_step(f: &[u64], w: usize) -> u64
     requires some { 0 < w }
@@ -229,7 +251,7 @@ impl Reached {
         if steps == 0 {
             return Self {
                 best: self.best,
-                from: b,
+                from: barred_back(codes, lo, b),
             };
         }
         let read = read_end(request, codes, scan_counts, b, steps);
@@ -243,7 +265,73 @@ impl Reached {
     }
 }
 
+// Of every 256th of the ends lo .. hi - 1, the last one first, a stretch that scores as high as any.
+fn sampled(
+    request: &Request,
+    codes: &[u8],
+    scan_counts: &mut [u16],
+    slope: Slope,
+    lo: usize,
+    hi: usize,
+) -> Option<Candidate>
+    requires searchable { Searchable request.now (length scan_counts.old) }
+    requires slope { SlopeOf request.now slope }
+    requires order { lo ≤ hi }
+    requires inside { hi ≤ length codes.now }
+    ensures { Sampled request.now codes.now lo hi result }
+{
+    let mut found = None;
+    let mut end = hi;
+    'down: while lo < end {
+        let reached = Reached {
+            best: None,
+            from: end,
+        };
+        let read = reached.next(request, codes, scan_counts, slope, end - 1);
+        found = better(read.best, found);
+        end = lo + (end - lo).saturating_sub(SAMPLED);
+    }
+    found
+}
+
+// The floor just below what was found, which still scores more.
+fn floor_below(request: &Request, found: Option<Candidate>) -> u64
+    ensures { result ≡ floor_below request.now found }
+{
+    match found {
+        None => request.floor,
+        Some(c) => request
+            .floor
+            .max(c.gain.saturating_sub(c.loss).saturating_sub(1)),
+    }
+}
+
 // The best of those that end at places lo .. hi - 1, the last end first.
+fn search_down(
+    request: &Request,
+    codes: &[u8],
+    scan_counts: &mut [u16],
+    slope: Slope,
+    lo: usize,
+    hi: usize,
+) -> Option<Candidate>
+    requires searchable { Searchable request.now (length scan_counts.old) }
+    requires slope { SlopeOf request.now slope }
+    requires order { lo ≤ hi }
+    requires inside { hi ≤ length codes.now }
+    ensures { Picks (score_of_codes request.now codes.now) (EndsIn request.now codes.now lo hi) result }
+{
+    let mut reached = Reached {
+        best: None,
+        from: hi,
+    };
+    'down: while lo < reached.from {
+        reached = reached.next(request, codes, scan_counts, slope, lo);
+    }
+    reached.best
+}
+
+// The best of those that end at places lo .. hi - 1. What some of the ends hold tells how much it scores at least.
 pub fn best_between(
     request: &Request,
     codes: &[u8],
@@ -261,12 +349,10 @@ pub fn best_between(
         step: largest_step(scoring.f, request.window_size),
         most: scoring.largest_ln(request.window_size),
     };
-    let mut reached = Reached {
-        best: None,
-        from: hi,
+    let found = sampled(request, codes, scan_counts, slope, lo, hi);
+    let raised = Request {
+        floor: floor_below(request, found),
+        ..*request
     };
-    'down: while lo < reached.from {
-        reached = reached.next(request, codes, scan_counts, slope, lo);
-    }
-    reached.best
+    search_down(&raised, codes, scan_counts, slope, lo, hi)
 }

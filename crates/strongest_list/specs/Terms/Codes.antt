@@ -1,5 +1,5 @@
 -- Terms of contracts: a buffer of codes in which the letters that no entry may hold are barred by a code 5.
-use Rattle.std.specs.Prelude.{◌≡◌, ℕ, zero, suc, ◌+◌, ◌<◌, Bool, true, not, ◌&&◌, cond, List, [], ◌∷◌, ltb, leb, length, get_or}
+use Rattle.std.specs.Prelude.{◌≡◌, ℕ, zero, suc, ◌+◌, ◌≤◌, ◌<◌, Bool, true, not, ◌&&◌, cond, List, [], ◌∷◌, ltb, leb, length, get_or}
 use Rattle.letters.specs.Code.{codes}
 use Rattle.intervals.specs.declared.Interval.{Interval}
 use Rattle.intervals.specs.Interval.{covered}
@@ -34,3 +34,7 @@ pub record Opens (s : List ℕ) (i : Interval) (cs cs' : List ℕ) : Type 0 wher
 unfoldable pub run_to : List ℕ → ℕ → ℕ
 run_to cs zero = 0
 run_to cs (suc e) = cond (ltb (get_or cs e 5) 5) (suc (run_to cs e)) 0
+
+-- Letters from .. to - 1 are barred.
+pub record AllBarred (cs : List ℕ) (from to : ℕ) : Type 0 where
+  pub at : (x : ℕ) → from ≤ x → x < to → 5 ≤ get_or cs x 5

@@ -1,9 +1,14 @@
-use Rattle.std.proofs.Common.{ℕ, List, ap, sym, ◌∙◌}
+use Rattle.std.proofs.Common.{ℕ, List, length, max, ap, sym, ◌∙◌}
 use Rattle.entries.specs.Held.{entry_of}
 use Rattle.entries.proofs.Sending.{sent_as}
 use Rattle.forms.specs.declared.form.Form.{Form}
 use Rattle.forms.specs.Bed.{bed, marked_bed}
 use Rattle.forms.specs.Form.{body}
+use Rattle.forms.specs.Summary.{summary}
+use Rattle.forms.specs.Bedgraph.{bedgraph}
+use Rattle.entries.specs.Held.{lengths_of}
+use Rattle.entries.proofs.Kept.{joined_cut}
+use Rattle.fasta.specs.Lines.{name_of}
 use Rattle.forms.proofs.form.write_body.Goals as goal
 
 pub returns-in-Bed : goal.returns-in-Bed
@@ -36,3 +41,19 @@ pub returns-in-HardX : goal.returns-in-HardX
 returns-in-HardX g c =
     sent_as _ _ _ _ c.write_fasta-in-HardX.result (ap (λ (f : Form). body f (entry_of c.args.entry.now) c.args.list.now c.args.marks.now) (sym c.in-HardX.is))
     c.write_fasta-in-HardX.ensures
+
+pub returns-in-Summary : goal.returns-in-Summary
+returns-in-Summary g c =
+    let e = c.args.entry.now in
+    sent_as _ _ _ _ c.write_summary.result
+    (ap (λ (l : List ℕ). summary (name_of e.header.items) c.args.list.now (length l)) (sym (joined_cut (lengths_of e.runs.items) e.letters.items))
+    ∙ ap (λ (f : Form). body f (entry_of e) c.args.list.now c.args.marks.now) (sym c.in-Summary.is))
+    c.write_summary.ensures
+
+pub returns-in-Bedgraph : goal.returns-in-Bedgraph
+returns-in-Bedgraph g c =
+    let e = c.args.entry.now in
+    sent_as _ _ _ _ c.write_bedgraph.result
+    (ap (λ (l : List ℕ). bedgraph (name_of e.header.items) c.args.list.now (length l) (max c.in-Bedgraph.size 1)) (sym (joined_cut (lengths_of e.runs.items) e.letters.items))
+    ∙ ap (λ (f : Form). body f (entry_of e) c.args.list.now c.args.marks.now) (sym c.in-Bedgraph.is))
+    c.write_bedgraph.ensures

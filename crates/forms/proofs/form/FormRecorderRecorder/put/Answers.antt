@@ -1,3 +1,4 @@
+use Rattle.std.proofs.Common.{refl}
 use Rattle.forms.proofs.Reports.{wrote_all, wrote_front, said_all, said_front}
 use Rattle.forms.proofs.form.FormRecorderRecorder.put.Goals as goal
 
@@ -18,10 +19,10 @@ pub returns-in-Ok-write_note-clause-recorded : goal.returns-in-Ok-write_note-cla
 returns-in-Ok-write_note-clause-recorded g c =
     said_all c.args.self.now.form c.args.self.now.masker.options c.args.entry.now _ c.as_slice-letters.ensures.value
     c.mask.new.list.items c.mask.new.marks.items c.in-Ok-Err.refusal (rw c.in-Ok-Err.field-0-is at c.in-Ok-Err.ensures.masks) _ _ _
-    _ _ c.name.ensures c.number.ensures c.in-Ok-write_note.ensures
+    _ _ c.name.ensures refl c.in-Ok-write_note.ensures
 
 pub returns-in-Err-write_note-clause-recorded : goal.returns-in-Err-write_note-clause-recorded
 returns-in-Err-write_note-clause-recorded g c =
     said_front c.args.self.now.form c.args.self.now.masker.options c.args.entry.now _ c.as_slice-letters.ensures.value
     c.mask.new.list.items c.mask.new.marks.items c.in-Ok-Err.refusal (rw c.in-Ok-Err.field-0-is at c.in-Ok-Err.ensures.masks) _ _ _
-    _ _ c.in-Err-write_note.e c.name.ensures c.number.ensures c.in-Err-write_note.ensures
+    _ _ c.in-Err-write_note.e c.name.ensures refl c.in-Err-write_note.ensures

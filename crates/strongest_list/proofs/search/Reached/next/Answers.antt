@@ -8,7 +8,7 @@ use Rattle.strongest_list.specs.Terms.Tiles.{EndsIn}
 use Rattle.strongest_list.specs.Terms.Leaving.{bar_of, left_out}
 use Rattle.strongest_list.proofs.Ends.{RunOf, run_low, run_some, steps_in, steps_same, size_in, none_there, ends_here}
 use Rattle.strongest_list.proofs.Steps.{end_joins, better_none}
-use Rattle.strongest_list.proofs.Leaving.{lower_ends, left_behind}
+use Rattle.strongest_list.proofs.Leaving.{lower_ends, barred_out, left_behind}
 use Rattle.strongest_list.proofs.search.Reached.next.Goals as goal
 use Rattle.strongest_list.proofs.search.Reached.next.Goals.{After-free_back-run, After-steps_of-steps, After-better-best}
 
@@ -49,8 +49,10 @@ returns-then-steps-eq0-clause-picks c =
     (steps_are r c.steps_of-steps.result c.steps_of-steps.ensures) c.if-steps-eq0.true in
     record {
       picks = λ hi h P.
-          subst (λ (o : Option Candidate). Picks (score_of_codes q cs) (EndsIn q cs b hi) o) (better_none a.self.best)
-          (end_joins q cs b a.self.from hi a.self.best _ (end_is r) (omega (arith, c.requires.order)) P none);
+          lower_ends q cs c.barred_back.result b hi a.self.best c.barred_back.ensures.high
+          (λ s e. barred_out q cs c.barred_back.result b a.self.best s (omega (arith, c.requires.searchable.kmer_low)) c.barred_back.ensures.barred e)
+          (subst (λ (o : Option Candidate). Picks (score_of_codes q cs) (EndsIn q cs b hi) o) (better_none a.self.best)
+          (end_joins q cs b a.self.from hi a.self.best _ (end_is r) (omega (arith, c.requires.order)) P none));
     }
 
 pub read_end-read-requires-clause-most : goal.read_end-read-requires-clause-most

@@ -2,7 +2,7 @@
 use Rattle.std.proofs.Common.{◌≤◌}
 use Rattle.strongest_list.specs.Terms.Best.{score_of_codes, Picks}
 use Rattle.strongest_list.specs.Terms.Tiles.{EndsIn}
-use Rattle.strongest_list.proofs.search.best_between.Given as goal
+use Rattle.strongest_list.proofs.search.search_down.Given as goal
 
 abbrev pub invariant-down : goal.invariant-down
 invariant-down l =
