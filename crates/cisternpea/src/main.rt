@@ -31,16 +31,16 @@ fn mask_reader<R: BufRead, W: Write>(
     name: &str,
     reader: &mut R,
     request: &Request,
-    out: &mut W,
+    outs: &mut [W],
 ) -> u8 {
     let mut notes = Notes { inner: rt.stderr() };
     match forms::put_file(
         rt.alloc(),
         reader,
         true,
-        request.form,
+        &[request.form],
         request.options,
-        out,
+        outs,
         &mut notes,
     ) {
         Ok(true) => STATUS_DONE,
@@ -57,16 +57,16 @@ fn mask_file<W: Write>(
     rt: &HostRuntime,
     name: &str,
     request: &Request,
-    out: &mut W,
+    outs: &mut [W],
 ) -> std::io::Result<u8> {
     if name == "-" {
         let mut reader = BufReader::with_capacity(rt.alloc(), ROOM, rt.stdin())?;
-        return Ok(mask_reader(rt, "standard input", &mut reader, request, out));
+        return Ok(mask_reader(rt, "standard input", &mut reader, request, outs));
     }
     match File::open(rt, name) {
         Ok(file) => {
             let mut reader = BufReader::with_capacity(rt.alloc(), ROOM, file)?;
-            Ok(mask_reader(rt, name, &mut reader, request, out))
+            Ok(mask_reader(rt, name, &mut reader, request, outs))
         }
         Err(e) => {
             saying::say_error(rt, name, e);
@@ -80,11 +80,11 @@ fn mask_files<W: Write>(
     rt: &HostRuntime,
     names: &[&str],
     request: &Request,
-    out: &mut W,
+    outs: &mut [W],
 ) -> std::io::Result<u8> {
     let mut status = STATUS_DONE;
     for name in names {
-        status = status.max(mask_file(rt, name, request, out)?);
+        status = status.max(mask_file(rt, name, request, outs)?);
         if status == STATUS_FAILED {
             break;
         }
@@ -107,14 +107,14 @@ fn run(rt: &HostRuntime) -> anyhow::Result<u8> {
         Some(request) => request,
         None => return Ok(STATUS_USAGE),
     };
-    let mut out = BufWriter::with_capacity(alloc, ROOM, rt.stdout())?;
-    if let Err(e) = forms::put_head(request.form, &mut out) {
+    let mut outs = [BufWriter::with_capacity(alloc, ROOM, rt.stdout())?];
+    if let Err(e) = forms::put_heads(&[request.form], &mut outs) {
         saying::say_error(rt, "cannot write", e);
         return Ok(STATUS_FAILED);
     }
     let names = matches.get_raw("FILE").unwrap_or(&["-"]);
-    let status = mask_files(rt, names, &request, &mut out)?;
-    if let Err(e) = out.flush() {
+    let status = mask_files(rt, names, &request, &mut outs)?;
+    if let Err(e) = outs[0].flush() {
         saying::say_error(rt, "cannot write", e);
         return Ok(STATUS_FAILED);
     }

@@ -5,10 +5,10 @@ use Rattle.fasta.specs.Lines.{lines, is_empty, opens, name_of}
 use Rattle.fasta.proofs.Joined.{lines_cut}
 use Rattle.entries.specs.Lines.{chomped, file_lines}
 use Rattle.entries.specs.Entries.{Entry, Entries, ends, fails, holds, lines_below, unless_nameless, opened, entries, entries_of, list_of, fault_of, followed}
-use Rattle.entries.specs.Outcome.{Report, texts, notes_on, records, text_of, notes_of}
+use Rattle.entries.specs.Outcome.{Report, text_on, notes_on, records, text_of, notes_of}
 use Rattle.entries.proofs.Steps.{opens_long}
 use Rattle.entries.proofs.Lines.{first_line, file_first, opens_first}
-use Rattle.entries.proofs.Whole.{text_append, notes_append}
+use Rattle.entries.proofs.Whole.{texts_append}
 use Rattle.std.specs.Io.BufRead.{drop_through}
 
 -- The lines ms begin with one that opens a record.
@@ -102,8 +102,10 @@ module _ (cr : Bool) (a rest : List ℕ) (op : opens rest ≡ true) (none : faul
       ap fault_of (file_followed cr a rest op) ∙ second_fault (entries_of cr (a ++ 10 ∷ [])) (entries_of cr rest) (faultless false (file_lines cr (a ++ 10 ∷ [])) none)
 
   module _ (report : Entry → Report) where
-    pub text_follows : text_of cr report ((a ++ 10 ∷ []) ++ rest) ≡ text_of cr report (a ++ 10 ∷ []) ++ text_of cr report rest
-    text_follows = ap (λ (es : List Entry). texts report es) records_follow ∙ text_append report (records cr (a ++ 10 ∷ [])) (records cr rest)
+    pub text_follows : (i : ℕ) → text_of cr report ((a ++ 10 ∷ []) ++ rest) i ≡ text_of cr report (a ++ 10 ∷ []) i ++ text_of cr report rest i
+    text_follows i =
+        ap (λ (es : List Entry). text_on report es i) records_follow ∙ texts_append (λ e. (report e).text i) (records cr (a ++ 10 ∷ [])) (records cr rest)
 
     pub notes_follow : notes_of cr report ((a ++ 10 ∷ []) ++ rest) ≡ notes_of cr report (a ++ 10 ∷ []) ++ notes_of cr report rest
-    notes_follow = ap (λ (es : List Entry). notes_on report es) records_follow ∙ notes_append report (records cr (a ++ 10 ∷ [])) (records cr rest)
+    notes_follow =
+        ap (λ (es : List Entry). notes_on report es) records_follow ∙ texts_append (λ e. (report e).notes) (records cr (a ++ 10 ∷ [])) (records cr rest)

@@ -4,7 +4,7 @@ use Rattle.std.specs.Prelude.{Option, Result}
 use Rattle.std.specs.Io.KnownBytes.{Appends}
 use Rattle.std.proofs.KnownBytes.{Appends-trans}
 use lib.Seq.{take-append-le}
-use Rattle.entries.specs.Outcome.{Front, Sent}
+use Rattle.entries.specs.Outcome.{Front, FrontAfter, Sent}
 
 pub take_past : (xs ys : List ℕ) (k : ℕ) → take (length xs + k) (xs ++ ys) ≡ xs ++ take k ys
 take_past [] ys k = ap (λ (n : ℕ). take n ys) (let e : 0 + k ≡ k = omega arith in e)
@@ -20,6 +20,10 @@ front_cut a b xs ys (k, l, q) = (k, omega (arith, length-append xs ys), subst (�
 pub front_then : (a b c : Option (List ℕ)) (xs ys : List ℕ) → Appends a b xs → Front b c ys → Front a c (xs ++ ys)
 front_then a b c xs ys p (k, l, q) =
     (length xs + k, omega (arith, length-append xs ys), subst (λ (zs : List ℕ). Appends a c zs) (sym (take_past xs ys k)) (Appends-trans a b c xs (take k ys) p q))
+
+-- The same, told apart.
+pub after_front : (a b c : Option (List ℕ)) (xs ys : List ℕ) → Appends a b xs → FrontAfter b c [] ys → FrontAfter a c xs ys
+after_front a b c xs ys p (k, l, q) = (k, l, Appends-trans a b c xs (take k ys) p q)
 
 pub front_as : (a b : Option (List ℕ)) (xs ys : List ℕ) → xs ≡ ys → Front a b xs → Front a b ys
 front_as a b xs ys e h = subst (λ (l : List ℕ). Front a b l) e h

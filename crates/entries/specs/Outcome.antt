@@ -1,45 +1,74 @@
--- What reaches the two writers, whatever a call answers.
-use Rattle.std.specs.Prelude.{ℕ, ◌≤◌, ◌≡◌, Bool, true, ◌&&◌, List, [], ◌∷◌, ◌++◌, length, take, Option, Result, Ok, Err}
+-- What reaches the writers of text and the writer of notes, whatever a call answers.
+use Rattle.std.specs.Prelude.{ℕ, ◌<◌, ◌≤◌, ◌≡◌, Bool, true, ◌&&◌, List, [], ◌∷◌, ◌++◌, length, take, get_or, Option, None, Result, Ok, Err}
 use Rattle.std.specs.Io.KnownBytes.{Appends}
 use Rattle.fasta.specs.Steps.{fault_number}
 use Rattle.entries.specs.declared.failed.Failed.{Failed}
 use Rattle.entries.specs.declared.failed.Failed.TheVariants.{Faulty, Reading, Writing, Saying, NoMemory}
 use Rattle.entries.specs.Entries.{Entry, entries_of, list_of, fault_of}
 
+-- ---- One writer.
 -- A front of xs, at any byte.
 abbrev pub Front : Option (List ℕ) → Option (List ℕ) → List ℕ → Type 0
 Front old new xs = (k : ℕ) × (k ≤ length xs) × Appends old new (take k xs)
+
+-- All of xs, and then a front of ys.
+abbrev pub FrontAfter : Option (List ℕ) → Option (List ℕ) → List ℕ → List ℕ → Type 0
+FrontAfter old new xs ys = (k : ℕ) × (k ≤ length ys) × Appends old new (xs ++ take k ys)
 
 -- All of xs, or a front of it where it failed.
 abbrev pub Sent : {A E : Type 0} → Option (List ℕ) → Option (List ℕ) → List ℕ → Result A E → Type 0
 Sent old new xs (Ok x) = Appends old new xs
 Sent old new xs (Err e) = Front old new xs
 
+-- ---- Writers in a list, each by its number.
+-- What writer i holds; nothing is known past the list.
+abbrev pub held : List (Option (List ℕ)) → ℕ → Option (List ℕ)
+held writers i = get_or writers i None
+
+-- Each got what f says.
+abbrev pub AllAppend : (old new : List (Option (List ℕ))) → (ℕ → List ℕ) → Type 0
+AllAppend old new f = (i : ℕ) → Appends (held old i) (held new i) (f i)
+
+-- Each got what f says; and then those before writer n what g says, and writer n a front of that.
+pub record StopsAt (n : ℕ) (old new : List (Option (List ℕ))) (f g : ℕ → List ℕ) : Type 0 where
+  pub before : (i : ℕ) → i < n → Appends (held old i) (held new i) (f i ++ g i)
+  pub stopped : FrontAfter (held old n) (held new n) (f n) (g n)
+  pub after : (i : ℕ) → n < i → Appends (held old i) (held new i) (f i)
+
+-- What f says, or up to a front of it where one failed.
+abbrev pub AllSent : {A E : Type 0} → (old new : List (Option (List ℕ))) → (ℕ → List ℕ) → Result A E → Type 0
+AllSent old new f (Ok x) = AllAppend old new f
+AllSent old new f (Err e) = (n : ℕ) × StopsAt n old new (λ i. []) f
+
 -- ---- A record.
--- What is written for it, what is said of it, and whether it is good.
+-- What is written for it to each writer, by the writer's number; what is said of it; and whether it is good.
 pub record Report : Type 0 where
-  pub text : List ℕ
+  pub text : ℕ → List ℕ
   pub notes : List ℕ
   pub good : Bool
 
--- What a writer of text and one of notes got of a report: all, nothing where there is no memory for the record, or a front where a write failed.
-abbrev pub Recorded : Report → (out out' notes notes' : Option (List ℕ)) → Result Bool Failed → Type 0
-Recorded r out out' notes notes' (Ok good) = Appends out out' r.text × Appends notes notes' r.notes × (good ≡ r.good)
-Recorded r out out' notes notes' (Err NoMemory) = Appends out out' [] × Appends notes notes' []
-Recorded r out out' notes notes' (Err (Writing e)) = Front out out' r.text × Front notes notes' r.notes
-Recorded r out out' notes notes' (Err (Saying e)) = Front out out' r.text × Front notes notes' r.notes
-Recorded r out out' notes notes' (Err (Reading e)) = ⊥
-Recorded r out out' notes notes' (Err (Faulty f)) = ⊥
+-- What the writers of text and the one of notes got of a report: all; nothing where there is no memory for the record; a front where a write
+-- failed, the notes after the text.
+abbrev pub Recorded : Report → (outs outs' : List (Option (List ℕ))) → (notes notes' : Option (List ℕ)) → Result Bool Failed → Type 0
+Recorded r outs outs' notes notes' (Ok good) = AllAppend outs outs' r.text × Appends notes notes' r.notes × (good ≡ r.good)
+Recorded r outs outs' notes notes' (Err NoMemory) = AllAppend outs outs' (λ i. []) × Appends notes notes' []
+Recorded r outs outs' notes notes' (Err (Writing e)) = ((n : ℕ) × StopsAt n outs outs' (λ i. []) r.text) × Appends notes notes' []
+Recorded r outs outs' notes notes' (Err (Saying e)) = AllAppend outs outs' r.text × Front notes notes' r.notes
+Recorded r outs outs' notes notes' (Err (Reading e)) = ⊥
+Recorded r outs outs' notes notes' (Err (Faulty f)) = ⊥
 
 -- ---- A file.
--- The texts of records, one after the other; what is said of them; whether all are good.
-unfoldable pub texts : (Entry → Report) → List Entry → List ℕ
-texts report [] = []
-texts report (e ∷ es) = (report e).text ++ texts report es
+-- Texts of records, one after the other.
+unfoldable pub texts : (Entry → List ℕ) → List Entry → List ℕ
+texts text [] = []
+texts text (e ∷ es) = text e ++ texts text es
 
-unfoldable pub notes_on : (Entry → Report) → List Entry → List ℕ
-notes_on report [] = []
-notes_on report (e ∷ es) = (report e).notes ++ notes_on report es
+-- What records give to writer i; what is said of them; whether all are good.
+abbrev pub text_on : (Entry → Report) → List Entry → ℕ → List ℕ
+text_on report es i = texts (λ e. (report e).text i) es
+
+abbrev pub notes_on : (Entry → Report) → List Entry → List ℕ
+notes_on report es = texts (λ e. (report e).notes) es
 
 unfoldable pub all_good : (Entry → Report) → List Entry → Bool
 all_good report [] = true
@@ -49,29 +78,43 @@ all_good report (e ∷ es) = (report e).good && all_good report es
 abbrev pub records : Bool → List ℕ → List Entry
 records cr file = list_of (entries_of cr file)
 
-abbrev pub text_of : Bool → (Entry → Report) → List ℕ → List ℕ
-text_of cr report file = texts report (records cr file)
+abbrev pub text_of : Bool → (Entry → Report) → List ℕ → ℕ → List ℕ
+text_of cr report file = text_on report (records cr file)
 
 abbrev pub notes_of : Bool → (Entry → Report) → List ℕ → List ℕ
 notes_of cr report file = notes_on report (records cr file)
 
--- What the two writers got is that of some of the first records, whole.
-abbrev pub WholeRecords : List Entry → (Entry → Report) → (out out' notes notes' : Option (List ℕ)) → Type 0
-WholeRecords es report out out' notes notes' =
-    (j : ℕ) × Appends out out' (texts report (take j es)) × Appends notes notes' (notes_on report (take j es))
+-- The first records, whole, for every writer.
+abbrev pub WholeRecords : List Entry → (Entry → Report) → (outs outs' : List (Option (List ℕ))) → (notes notes' : Option (List ℕ)) → Type 0
+WholeRecords es report outs outs' notes notes' =
+    (done : List Entry) × (rest : List Entry) × (es ≡ done ++ rest)
+    × AllAppend outs outs' (text_on report done) × Appends notes notes' (notes_on report done)
 
--- All of the file; all up to its fault; whole records where it cannot be read, or there is no memory; fronts where a write failed.
-abbrev pub Outcome : Bool → (Entry → Report) → List ℕ → (out out' notes notes' : Option (List ℕ)) → Result Bool Failed → Type 0
-Outcome cr report file out out' notes notes' (Ok good) =
+-- The first records, whole, and then a record whose text stopped at one of the writers; nothing is said of it.
+abbrev pub TextStopped : List Entry → (Entry → Report) → (outs outs' : List (Option (List ℕ))) → (notes notes' : Option (List ℕ)) → Type 0
+TextStopped es report outs outs' notes notes' =
+    (done : List Entry) × (e : Entry) × (rest : List Entry) × (es ≡ done ++ e ∷ rest)
+    × ((n : ℕ) × StopsAt n outs outs' (text_on report done) (report e).text) × Appends notes notes' (notes_on report done)
+
+-- The first records, whole, the last of which is said in part.
+abbrev pub NotesStopped : List Entry → (Entry → Report) → (outs outs' : List (Option (List ℕ))) → (notes notes' : Option (List ℕ)) → Type 0
+NotesStopped es report outs outs' notes notes' =
+    (done : List Entry) × (e : Entry) × (rest : List Entry) × (es ≡ done ++ e ∷ rest)
+    × AllAppend outs outs' (λ i. text_on report done i ++ (report e).text i) × FrontAfter notes notes' (notes_on report done) (report e).notes
+
+-- All of the file; all up to its fault; whole records where it cannot be read, or there is no memory; and where a write failed, up to a front of
+-- one record's.
+abbrev pub Outcome : Bool → (Entry → Report) → List ℕ → (outs outs' : List (Option (List ℕ))) → (notes notes' : Option (List ℕ)) → Result Bool Failed → Type 0
+Outcome cr report file outs outs' notes notes' (Ok good) =
     (fault_of (entries_of cr file) ≡ 0)
-    × Appends out out' (text_of cr report file)
+    × AllAppend outs outs' (text_of cr report file)
     × Appends notes notes' (notes_of cr report file)
     × (good ≡ all_good report (records cr file))
-Outcome cr report file out out' notes notes' (Err (Faulty f)) =
+Outcome cr report file outs outs' notes notes' (Err (Faulty f)) =
     (fault_of (entries_of cr file) ≡ fault_number f)
-    × Appends out out' (text_of cr report file)
+    × AllAppend outs outs' (text_of cr report file)
     × Appends notes notes' (notes_of cr report file)
-Outcome cr report file out out' notes notes' (Err (Reading e)) = WholeRecords (records cr file) report out out' notes notes'
-Outcome cr report file out out' notes notes' (Err NoMemory) = WholeRecords (records cr file) report out out' notes notes'
-Outcome cr report file out out' notes notes' (Err (Writing e)) = Front out out' (text_of cr report file) × Front notes notes' (notes_of cr report file)
-Outcome cr report file out out' notes notes' (Err (Saying e)) = Front out out' (text_of cr report file) × Front notes notes' (notes_of cr report file)
+Outcome cr report file outs outs' notes notes' (Err (Reading e)) = WholeRecords (records cr file) report outs outs' notes notes'
+Outcome cr report file outs outs' notes notes' (Err NoMemory) = WholeRecords (records cr file) report outs outs' notes notes'
+Outcome cr report file outs outs' notes notes' (Err (Writing e)) = TextStopped (records cr file) report outs outs' notes notes'
+Outcome cr report file outs outs' notes notes' (Err (Saying e)) = NotesStopped (records cr file) report outs outs' notes notes'

@@ -1,6 +1,6 @@
 // The records of a file, read one after the other, each with what is written for it.
 
-ghost use Rattle.std.specs.Prelude.{◌≡◌, IfSome};
+ghost use Rattle.std.specs.Prelude.{◌≡◌, map, IfSome};
 ghost use Rattle.entries.specs.Entries.{Entry};
 ghost use Rattle.entries.specs.Held.{entry_of};
 ghost use Rattle.entries.specs.Outcome.{Report, Recorded, Outcome};
@@ -11,32 +11,33 @@ use std::io::{BufRead, Error, Write};
 
 /// What is written for a record.
 pub trait Recorder {
-    /// What is written for an entry, what is said of it, and whether it is good.
+    /// What is written for an entry to each writer, what is said of it, and whether it is good.
     ghost report: { Self → Entry → Report };
 
-    /// Writes the entry's text to `out` and what is said of it to `notes`; answers whether it is good.
+    /// Writes the entry's text to each of `outs`, and then what is said of it to `notes`; answers whether it is good.
     fn put<W: Write, N: Write>(
         &mut self,
         entry: &HeldEntry,
-        out: &mut W,
+        outs: &mut [W],
         notes: &mut N,
     ) -> Result<bool, Failed>
-        ensures recorded { Recorded (report self.old (entry_of entry.now))
-            (W.contents out.old) (W.contents out.new) (N.contents notes.old) (N.contents notes.new) result }
+        ensures recorded { Recorded (report self.old (entry_of entry.now)) (map (λ w. W.contents w) outs.old)
+            (map (λ w. W.contents w) outs.new) (N.contents notes.old) (N.contents notes.new) result }
         ensures report { report self.new ≡ report self.old };
 }
 
-/// Writes for each record of the file that the reader gives, in the file's order. Answers whether every record is good.
+/// Writes for each record of the file that the reader gives, in the file's order, to each of `outs` and to `notes`. Answers whether every record is
+/// good.
 pub fn put_records<R: BufRead, T: Recorder, W: Write, N: Write>(
     alloc: Global,
     reader: &mut R,
     cr: bool,
     recorder: &mut T,
-    out: &mut W,
+    outs: &mut [W],
     notes: &mut N,
 ) -> Result<bool, Failed>
-    ensures outcome { IfSome (R.remaining reader.old) (λ file. Outcome cr (T.report recorder.old) file
-        (W.contents out.old) (W.contents out.new) (N.contents notes.old) (N.contents notes.new) result) }
+    ensures outcome { IfSome (R.remaining reader.old) (λ file. Outcome cr (T.report recorder.old) file (map (λ w. W.contents w) outs.old)
+        (map (λ w. W.contents w) outs.new) (N.contents notes.old) (N.contents notes.new) result) }
     ensures report { T.report recorder.new ≡ T.report recorder.old }
 {
     let mut entry = HeldEntry::new(alloc);
@@ -47,7 +48,7 @@ pub fn put_records<R: BufRead, T: Recorder, W: Write, N: Write>(
             Ok(false) => return Ok(all),
             Err(e) => return Err(e),
         }
-        match recorder.put(&entry, out, notes) {
+        match recorder.put(&entry, outs, notes) {
             Ok(good) => all = all & good,
             Err(e) => return Err(e),
         }

@@ -1,5 +1,5 @@
 -- What is written for a record in each form, and what is said of one that is refused.
-use Rattle.std.specs.Prelude.{ℕ, zero, suc, max, true, false, List, [], length}
+use Rattle.std.specs.Prelude.{ℕ, zero, suc, max, true, false, List, [], ◌∷◌, length}
 use Prim.Native.Char.{code}
 use Rattle.intervals.specs.declared.Interval.{Interval}
 use Rattle.masked_copy.specs.declared.Masking.TheVariants.{LowerCase, Replace}
@@ -36,13 +36,19 @@ head_of HardX = []
 head_of Summary = summary_head
 head_of (Bedgraph size) = []
 
--- An entry that is accepted is written; one that is refused is said.
-abbrev pub report_by : ℕ → List ℕ → List ℕ → Report
-report_by zero name text = record { text = text; notes = []; good = true }
-report_by (suc n) name text = record { text = []; notes = refused_note name (suc n); good = false }
+-- What the writer with a number gets, by its form; one without a form gets nothing.
+unfoldable pub by_form : (Form → List ℕ) → List Form → ℕ → List ℕ
+by_form text [] i = []
+by_form text (f ∷ fs) zero = text f
+by_form text (f ∷ fs) (suc i) = by_form text fs i
 
--- The report of an entry, by the options of the masker.
-unfoldable pub report_of : Form → LongdustOptions → Entry → Report
-report_of form o e =
+-- An entry that is accepted is written; one that is refused is said.
+abbrev pub report_by : ℕ → List ℕ → (ℕ → List ℕ) → Report
+report_by zero name text = record { text = text; notes = []; good = true }
+report_by (suc n) name text = record { text = λ i. []; notes = refused_note name (suc n); good = false }
+
+-- The report of an entry to writers of these forms, by the options of the masker.
+unfoldable pub report_of : List Form → LongdustOptions → Entry → Report
+report_of forms o e =
     let s : List ℕ = joined e.lines in
-    report_by (record_refusal o s) (name_of e.header) (body form e (record_mask o s) (record_marks o s))
+    report_by (record_refusal o s) (name_of e.header) (by_form (λ f. body f e (record_mask o s) (record_marks o s)) forms)

@@ -1,10 +1,10 @@
-// The forms, and the masker that writes one of them.
+// The forms, and the masker that writes some of them.
 
-ghost use Rattle.std.specs.Prelude.{◌≡◌, ◌≤◌, length, IfSome};
+ghost use Rattle.std.specs.Prelude.{◌≡◌, ◌≤◌, map, length, IfSome};
 ghost use Rattle.fasta.specs.Lines.{name_of};
 ghost use Rattle.entries.specs.Held.{entry_of};
-ghost use Rattle.entries.specs.Outcome.{Sent, Recorded, Outcome};
-ghost use Rattle.forms.specs.Form.{body, head_of, report_of};
+ghost use Rattle.entries.specs.Outcome.{Sent, AllSent, Recorded, Outcome};
+ghost use Rattle.forms.specs.Form.{body, head_of, by_form, report_of};
 
 use crate::bed::{Bed, MarkedBed};
 use crate::bedgraph::write_bedgraph;
@@ -72,11 +72,45 @@ pub fn put_head<W: Write>(form: Form, out: &mut W) -> IoResult<()>
     }
 }
 
-/// Masks each record alone, and writes it in one form. A record that is refused is not written: a line is said of it.
+// Writes an accepted entry to each writer in its form.
+fn write_bodies<W: Write>(
+    forms: &[Form],
+    entry: &HeldEntry,
+    list: &[Interval],
+    marks: &[u8],
+    text: &mut Vec<u8>,
+    outs: &mut [W],
+) -> IoResult<()>
+    ensures { AllSent (map (λ w. W.contents w) outs.old) (map (λ w. W.contents w) outs.new)
+        (by_form (λ f. body f (entry_of entry.now) list.now marks.now) forms.now) result }
+{
+    for i in 0..forms.len().min(outs.len()) {
+        let out = &mut outs[i];
+        if let Err(e) = write_body(forms[i], entry, list, marks, text, out) {
+            return Err(e);
+        }
+    }
+    Ok(())
+}
+
+/// Writes to each writer what stands above all records in its form.
+pub fn put_heads<W: Write>(forms: &[Form], outs: &mut [W]) -> IoResult<()>
+    ensures { AllSent (map (λ w. W.contents w) outs.old) (map (λ w. W.contents w) outs.new) (by_form head_of forms.now) result }
+{
+    for i in 0..forms.len().min(outs.len()) {
+        let out = &mut outs[i];
+        if let Err(e) = put_head(forms[i], out) {
+            return Err(e);
+        }
+    }
+    Ok(())
+}
+
+/// Masks each record alone, and writes it to each writer in its form. A record that is refused is not written: a line is said of it.
 #[derive(Drop)]
-pub struct FormRecorder {
-    /// What is written.
-    pub form: Form,
+pub struct FormRecorder<'a> {
+    /// What is written, a form a writer.
+    pub forms: &'a [Form],
     /// The masker, with its options.
     pub masker: Masker,
     /// Room for a mask.
@@ -87,13 +121,13 @@ pub struct FormRecorder {
     pub text: Vec<u8>,
 }
 
-impl Recorder for FormRecorder {
-    ghost report = { λ r. report_of r.form r.masker.options };
+impl<'a> Recorder for FormRecorder<'a> {
+    ghost report = { λ r. report_of r.forms.now r.masker.options };
 
     fn put<W: Write, N: Write>(
         &mut self,
         entry: &HeldEntry,
-        out: &mut W,
+        outs: &mut [W],
         notes: &mut N,
     ) -> Result<bool, Failed> {
         let letters = entry.letters.as_slice();
@@ -101,7 +135,7 @@ impl Recorder for FormRecorder {
             Ok(Ok(count)) => {
                 let list = &self.list.as_slice()[..count];
                 let marks = &self.marks.as_slice()[..count];
-                match write_body(self.form, entry, list, marks, &mut self.text, out) {
+                match write_bodies(self.forms, entry, list, marks, &mut self.text, outs) {
                     Ok(()) => Ok(true),
                     Err(e) => Err(Failed::Writing(e)),
                 }
@@ -117,30 +151,31 @@ impl Recorder for FormRecorder {
     }
 }
 
-/// Masks each record of the file that the reader gives, alone, and writes it in the form; what is said of refused records goes to `notes`.
-/// Where `cr` is true, a byte 13 at a line's end is not of the line. Answers whether every record was accepted.
+/// Masks each record of the file that the reader gives, alone, once, and writes it to each of `outs` in the form that stands at its place in
+/// `forms`; what is said of refused records goes to `notes`. A writer without a form gets nothing. Where `cr` is true, a byte 13 at a line's end is
+/// not of the line. Answers whether every record was accepted.
 pub fn put_file<R: BufRead, W: Write, N: Write>(
     alloc: Global,
     reader: &mut R,
     cr: bool,
-    form: Form,
+    forms: &[Form],
     options: LongdustOptions,
-    out: &mut W,
+    outs: &mut [W],
     notes: &mut N,
 ) -> Result<bool, Failed>
-    ensures { IfSome (R.remaining reader.old) (λ file. Outcome cr (report_of form options) file
-        (W.contents out.old) (W.contents out.new) (N.contents notes.old) (N.contents notes.new) result) }
+    ensures { IfSome (R.remaining reader.old) (λ file. Outcome cr (report_of forms.now options) file (map (λ w. W.contents w) outs.old)
+        (map (λ w. W.contents w) outs.new) (N.contents notes.old) (N.contents notes.new) result) }
 {
     let masker = match Masker::new(alloc, options) {
         Ok(masker) => masker,
         Err(_) => return Err(Failed::NoMemory),
     };
     let mut recorder = FormRecorder {
-        form,
+        forms,
         masker,
         list: Vec::new(alloc),
         marks: Vec::new(alloc),
         text: Vec::new(alloc),
     };
-    put_records(alloc, reader, cr, &mut recorder, out, notes)
+    put_records(alloc, reader, cr, &mut recorder, outs, notes)
 }

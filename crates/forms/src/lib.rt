@@ -13,4 +13,4 @@ mod share;
 mod summary;
 mod text;
 
-pub use form::{Form, FormRecorder, put_file, put_head};
+pub use form::{Form, FormRecorder, put_file, put_head, put_heads};
