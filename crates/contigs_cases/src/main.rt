@@ -2,15 +2,22 @@
 
 #![tactic(auto)]
 
-use std::io;
+use entries::Failed;
+use std::io::{Error, ErrorKind, Result, Write};
 
-fn print_case(rt: &impl Print, title: &[u8], file: &[u8]) -> io::Result<()> {
-    rt.write_all(title)?;
-    let count = contigs_text::print_file(file, &mut io::writer(rt))?;
-    println!(rt; "bytes {count}")
+const MOST_BYTES: usize = 65536;
+
+fn print_case(rt: &HostRuntime, title: &[u8], file: &[u8]) -> Result<()> {
+    rt.stdout().write_all(title)?;
+    let mut reader = file;
+    match contigs_text::print_file(rt.alloc(), &mut reader, &mut rt.stdout()) {
+        Ok(count) => println!(rt; "bytes {count}"),
+        Err(Failed::Writing(e)) => Err(e),
+        Err(_) => Err(Error::from(ErrorKind::OutOfMemory)),
+    }
 }
 
-fn print_lines(rt: &impl Print) -> io::Result<()> {
+fn print_lines(rt: &HostRuntime) -> Result<()> {
     print_case(rt, b"# an empty file\n", b"")?;
     print_case(rt, b"# only line ends\n", b"\n\n\n")?;
     print_case(rt, b"# no line end at the end\n", b">a\nAAAAAAAAAAAA")?;
@@ -44,7 +51,7 @@ fn print_lines(rt: &impl Print) -> io::Result<()> {
     Ok(())
 }
 
-fn print_refusals(rt: &impl Print) -> io::Result<()> {
+fn print_refusals(rt: &HostRuntime) -> Result<()> {
     print_case(rt, b"# an empty name first\n", b">\nAAAAAAAAAAAA\n")?;
     print_case(
         rt,
@@ -79,8 +86,8 @@ fn print_refusals(rt: &impl Print) -> io::Result<()> {
 
 // One record, then two.
 // The headers are written byte by byte. Tried: with two `copy_from_slice` the proof that the later slices lie inside the file does not close.
-fn print_sizes(rt: &impl Print) -> io::Result<()> {
-    let mut file = [b'A'; contigs_text::FILE_ROOM];
+fn print_sizes(rt: &HostRuntime) -> Result<()> {
+    let mut file = [b'A'; MOST_BYTES + 1];
     file[0] = b'>';
     file[1] = b'a';
     file[2] = b'\n';
@@ -93,7 +100,7 @@ fn print_sizes(rt: &impl Print) -> io::Result<()> {
     file[32772] = b'>';
     file[32773] = b'b';
     file[32774] = b'\n';
-    print_case(rt, b"# 65,536 bytes\n", &file[..contigs_text::MOST_BYTES])?;
+    print_case(rt, b"# 65,536 bytes\n", &file[..MOST_BYTES])?;
     print_case(rt, b"# 65,537 bytes\n", &file)?;
     file[0] = b'A';
     print_case(rt, b"# 65,537 bytes, letters first\n", &file)?;
@@ -117,15 +124,15 @@ fn put_long_name(file: &mut [u8]) {
     }
 }
 
-// More lines than fit into the text that the program lends its writer at once.
-fn print_long_name(rt: &impl Print) -> io::Result<()> {
+// Lines that are long.
+fn print_long_name(rt: &HostRuntime) -> Result<()> {
     let mut file = [0u8; 31502];
     put_long_name(&mut file);
     print_case(rt, b"# a name of 30,000 bytes and five intervals\n", &file)?;
     Ok(())
 }
 
-fn main(rt: HostRuntime) -> io::Result<()> {
+fn main(rt: HostRuntime) -> Result<()> {
     print_lines(&rt)?;
     print_refusals(&rt)?;
     print_sizes(&rt)?;

@@ -1,7 +1,7 @@
-pub mod Fitting
-pub mod Opening
-pub mod Moving
+pub mod MaskLines
+pub mod Record
 pub mod Starting
-pub mod Printing
+pub mod Plain
+pub mod Single
 pub mod Alone
 pub mod Examples

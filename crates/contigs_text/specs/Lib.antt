@@ -1,4 +1,2 @@
 pub mod Text
-pub mod Parts
-pub mod Lent
 pub mod Terms

@@ -14,3 +14,4 @@ mod summary;
 mod text;
 
 pub use form::{Form, FormRecorder, put_file, put_head, put_heads};
+pub use text::{add_decimal, add_place};
