@@ -1,0 +1,14 @@
+pub mod Exactly
+pub mod Rounds
+pub mod Near
+pub mod Sums
+pub mod Bounds
+pub mod Empty
+pub mod Chains
+pub mod Windows
+pub mod Walks
+pub mod Newest
+pub mod Leaving
+pub mod Starts
+pub mod Finding
+pub mod Fronts

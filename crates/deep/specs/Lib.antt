@@ -1,0 +1,2 @@
+pub mod Scores
+pub mod Terms

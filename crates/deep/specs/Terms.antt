@@ -1,0 +1,4 @@
+pub mod Wholes
+pub mod Blocks
+pub mod Cells
+pub mod Told

@@ -1,0 +1,56 @@
+// Deep mode: exact scores of all starts of a window, kept while searches read much of it. Each is a sum of whole numbers of 2^-32, so that nothing drifts;
+// what two of them tell that are 2^-10 apart holds of the floats of the definition.
+//
+// Each of the newest places has a cell, at its number modulo 8,192. The cells of 64 places in a row are a block.
+//
+// | kept | here |
+// |---|---|
+// | T and the tables in whole numbers | wholes: `scale_of` |
+// | of each cell its count, which a walk along the chain of a k-mer's places raises | cells: `Deep::begin`, `Deep::join` |
+// | of each block the sum of what its places gain, and a bound on the sums of its newest | cells: each cell that is written; blocks: `Deep::refine` |
+// | told: no start can be found | told: `Deep::none_found` |
+//
+// A place that leaves changes nothing: the oldest place's number is one more.
+
+#![tactic(auto)]
+
+mod blocks;
+mod cells;
+mod told;
+mod wholes;
+
+pub use wholes::scale_of;
+
+/// T and the two tables, in whole numbers of 2^-32.
+#[derive(Clone, Copy)]
+pub struct Scale<'a> {
+    pub threshold: u64,
+    pub ln: &'a [u64],
+    pub f: &'a [u64],
+}
+
+/// A place of the window: its queue entry, how often its k-mer stands from it to the newest place (0 if ambiguous),
+/// and the cell of the last place before it whose k-mer has the same low bits.
+#[derive(Clone, Copy)]
+pub struct Cell {
+    pub entry: u32,
+    pub count: u16,
+    pub link: u16,
+}
+
+/// Of 64 cells in a row: the sum of what their places gain, and a bound on the sums from one of them to the last, each less T and `phi` a place.
+#[derive(Clone, Copy)]
+pub struct Block {
+    pub sum: u64,
+    /// At least each of these sums plus 2^60.
+    pub top: u64,
+    pub phi: u64,
+}
+
+/// The lent memory: 8,192 cells, 1,024 heads of chains, 128 blocks.
+#[derive(Drop)]
+pub struct Deep<'a> {
+    pub cells: &'a mut [Cell],
+    pub heads: &'a mut [u16],
+    pub blocks: &'a mut [Block],
+}
