@@ -18,7 +18,7 @@ use Rattle.deep.specs.Terms.Blocks.{Narrow}
 use Rattle.deep.specs.Terms.Told.{LowTo, Bends, FindsNone}
 use Rattle.deep.proofs.Rounds.{unit, unit_eps, unit_pos, one_unit, whole_rounds}
 use Rattle.deep.proofs.Sums.{three}
-use Rattle.deep.proofs.Near.{sure_below, no_start}
+use Rattle.deep.proofs.Near.{f_near, sure_below, no_start}
 
 uneven_unit : unevenness ≡ 2 * unit
 uneven_unit = omega (arith, unevenness_eps, unit_eps)
@@ -34,10 +34,7 @@ module _ (s : Scale) (S : Setup) (u : Usual S) (c : Scaled S s.threshold s.ln.no
   F l = get_or s.f.now l 0
 
   near : (l : ℕ) → 0 < l → l ≤ S.window_size → (F l * unit ≤ pos64 (f_at S l) + 2 * unit) × (pos64 (f_at S l) ≤ F l * unit + 2 * unit)
-  near l some h =
-      let r = whole_rounds (f_at S l) (R.f_ranged l some h) in
-      let is = c.f_is.entry l some (omega arith) in
-      (rw is r.lower, rw is r.upper)
+  near l some h = f_near S R s.threshold s.ln.now s.f.now c l some h
 
   bend : (i j : ℕ) → i ≤ j → j < S.window_size → F (suc i) + F j ≤ F (suc j) + F i + 10
   bend zero zero h k = omega arith

@@ -1,4 +1,4 @@
--- Tables in range: the whole numbers of a stretch of l places are off by less than 4 l + 2 of 2^-32, so that what they tell 2^-10 apart holds by the margin of the laws about floats (`sure_below`).
+-- Tables in range: the whole numbers of a stretch of l places are off by less than 4 l + 2 of 2^-32, so that what they tell 2^-10 apart holds by the margin of the laws about floats (`sure_below`, `sure_apart`, `sure_short`).
 -- Where each start scores 2^-10 below 0, the search finds nothing (`no_start`).
 use Rattle.std.proofs.Common.{◌≡◌, refl, ap, ℕ, suc, ◌+◌, ◌*◌, ◌≤◌, ◌<◌, mul-le-mul_left, mul-le-mul_right, arith, List, [], ◌∷◌, length, get_or, drop, length-drop, Float}
 use Rattle.floats.specs.Terms.Rounded.{Ranged, eps, pos64}
@@ -44,17 +44,20 @@ module _ (S : Setup) (R : InRange S) (t : ℕ) (ln f : List ℕ) (c : Scaled S t
       let g = gain_cons S R q e b.0 (omega arith) in
       (omega (arith, r.0, a.0), omega (arith, r.1, a.1))
 
+  pub f_near : (l : ℕ) → 0 < l → l ≤ S.window_size → (get_or f l 0 * unit ≤ pos64 (f_at S l) + 2 * unit) × (pos64 (f_at S l) ≤ get_or f l 0 * unit + 2 * unit)
+  f_near l some h =
+      let r = whole_rounds (f_at S l) (R.f_ranged l some h) in
+      let is = c.f_is.entry l some (omega arith) in
+      (rw is r.lower, rw is r.upper)
+
   pub loss_near : (l : ℕ) → 0 < l → l ≤ S.window_size → (loss t f l * unit ≤ exact_loss S l + (2 * l + 2) * unit) × (exact_loss S l ≤ loss t f l * unit + (2 * l + 2) * unit)
   loss_near l some h =
       let r = whole_rounds S.score_threshold (wider R.t_ranged) in
-      let s = whole_rounds (f_at S l) (R.f_ranged l some h) in
-      let is = c.f_is.entry l some (omega arith) in
+      let s = f_near l some h in
       let low = mul-le-mul_left l r.lower in
       let high = mul-le-mul_left l r.upper in
-      let a : get_or f l 0 * unit ≤ pos64 (f_at S l) + 2 * unit = rw is s.lower in
-      let b : pos64 (f_at S l) ≤ get_or f l 0 * unit + 2 * unit = rw is s.upper in
       let e : l * (t * unit) ≡ l * (whole S.score_threshold * unit) = ap (λ (z : ℕ). l * (z * unit)) c.t_is in
-      (omega (arith, low, a, e), omega (arith, high, b, e))
+      (omega (arith, low, s.0, e), omega (arith, high, s.1, e))
 
   -- ---- A stretch that scores 2^-10 below 0 or less.
   pub sure_below : (q : List Place) → Below (kmers S) q → length q ≤ S.window_size → 0 < length q → gain ln q + mu ≤ loss t f (length q) → exact_gain S q + margin ≤ exact_loss S (length q)
@@ -66,6 +69,39 @@ module _ (S : Setup) (R : InRange S) (t : ℕ) (ln f : List ℕ) (c : Scaled S t
       let few = mul-le-mul_right unit (let z : length q ≤ 65535 = omega arith in z) in
       let u = mul-le-mul_right unit h in
       omega (arith, g.1, k.0)
+
+  -- A stretch p that scores 2^-10 less than another, q, or less still. Both may have up to 65,535 places.
+  pub sure_apart : (p q : List Place) → Below (kmers S) p → Below (kmers S) q → length p ≤ S.window_size → length q ≤ S.window_size → 0 < length p → 0 < length q
+      → gain ln p + mu + loss t f (length q) ≤ gain ln q + loss t f (length p) → exact_gain S p + margin + exact_loss S (length q) ≤ exact_gain S q + exact_loss S (length p)
+  sure_apart p q bp bq lp lq somep someq h =
+      let gp = gain_near p bp lp in
+      let gq = gain_near q bq lq in
+      let kp = loss_near (length p) somep lp in
+      let kq = loss_near (length q) someq lq in
+      let w = R.window_small in
+      let m = margin_unit in
+      let fewp = mul-le-mul_right unit (let z : length p ≤ 65535 = omega arith in z) in
+      let fewq = mul-le-mul_right unit (let z : length q ≤ 65535 = omega arith in z) in
+      let u = mul-le-mul_right unit h in
+      omega (arith, gp.1, gq.0, kp.0, kq.1)
+
+  -- The l newest places of the stretch p add less to the others, r, than T for each and what f grows by from entry y over l places, by 2^-10 or more.
+  pub sure_short : (p r : List Place) (l y : ℕ) → Below (kmers S) p → Below (kmers S) r → length p ≤ S.window_size → length r ≤ S.window_size → 0 < y → y + l ≤ S.window_size
+      → gain ln p + get_or f y 0 + mu ≤ gain ln r + l * t + get_or f (y + l) 0 → exact_gain S p + pos64 (f_at S y) + margin ≤ exact_gain S r + l * pos64 S.score_threshold + pos64 (f_at S (y + l))
+  sure_short p r l y bp br lp lr some few h =
+      let gp = gain_near p bp lp in
+      let gr = gain_near r br lr in
+      let fy = f_near y some (omega arith) in
+      let fl = f_near (y + l) (omega arith) few in
+      let low = mul-le-mul_left l (whole_rounds S.score_threshold (wider R.t_ranged)).lower in
+      let e : l * (t * unit) ≡ l * (whole S.score_threshold * unit) = ap (λ (z : ℕ). l * (z * unit)) c.t_is in
+      let w = R.window_small in
+      let m = margin_unit in
+      let fewp = mul-le-mul_right unit (let z : length p ≤ 65535 = omega arith in z) in
+      let fewr = mul-le-mul_right unit (let z : length r ≤ 65535 = omega arith in z) in
+      let fewl = mul-le-mul_right unit (let z : l ≤ 65535 = omega arith in z) in
+      let u = mul-le-mul_right unit h in
+      omega (arith, gp.1, gr.0, fy.1, fl.0, low, e)
 
 -- No float decides otherwise: a find's exact score is at least minus what the roundings come to.
 pub no_start : (S : Setup) (R : InRange S) (q : List Place) → Below (kmers S) q → length q ≤ S.window_size → 0 < length q
