@@ -1,0 +1,28 @@
+/* A worker that fails as the environment's FAULT tells it, and else is the proved program. A word and a number in FAULT, such as
+ * `status 77`: one worker in five ends with this status; `kill 9`: by this signal; `deaf 0`: without reading, with this status;
+ * `half 3`: after half a line; `slow 1`: after so many seconds; `loud 0`: says where it begins. */
+#include <signal.h>
+#include <stdio.h>
+#include <stdlib.h>
+#include <string.h>
+#include <unistd.h>
+
+int main(int argc, char **argv) {
+    const char *fault = getenv("FAULT");
+    char kind[16] = "";
+    int number = 0;
+    if (fault != NULL && argc > 4 && strcmp(argv[1], "--plan") != 0) sscanf(fault, "%15s %d", kind, &number);
+    if (strcmp(kind, "loud") == 0) fprintf(stderr, "%s: %s\n", argv[argc - 3], argv[argc - 1]);
+    if (strcmp(kind, "slow") == 0) sleep((unsigned)number);
+    if (getpid() % 5 == 0) {
+        if (strcmp(kind, "kill") == 0) kill(getpid(), number);
+        if (strcmp(kind, "deaf") == 0) return number;
+        if (strcmp(kind, "half") == 0) return puts("half a li"), fflush(stdout), number;
+        if (strcmp(kind, "status") == 0) {
+            while (fgetc(stdin) != EOF) {}
+            return number;
+        }
+    }
+    execv(PROVED, argv);
+    return 127;
+}
