@@ -8,7 +8,7 @@ uint64_t bytes_read;
 static int file;
 static uint8_t raw[CHUNK]; /* what is read and not yet taken: from begin to end */
 static size_t begin, end;
-static bool ended, gzip, inside; /* no more can be read; it is a gzip file; in a member of it */
+static bool ended, gzip, inside, cut; /* no more can be read; it is a gzip file; in a member of it, which has no end */
 static z_stream z;
 static gz_header header;
 static uint8_t extra[3];
@@ -52,7 +52,7 @@ static void read_raw(void) {
 void open_input(const char *path) {
     input_name = path == NULL ? "standard input" : path;
     begin = end = 0;
-    ended = gzip = inside = block = empty = false;
+    ended = gzip = inside = cut = block = empty = false;
     input_fault = NULL;
     file = path == NULL ? STDIN_FILENO : open(path, O_RDONLY | O_CLOEXEC);
     if (file < 0) input_fault = strerror(errno), ended = true;
@@ -93,11 +93,14 @@ static bool next_member(void) {
     return inside = empty = true;
 }
 
+static bool is_block(void) { return header.extra != NULL && header.extra_len >= 6 && memcmp(extra, "BC\2", 3) == 0; }
+
 /* Inflates to the bytes' end or that of the member. */
 static size_t inflate_some(uint8_t *bytes, size_t room) {
     if (begin == end) read_raw();
     if (begin == end) {
         if (input_fault == NULL) input_fault = "the file is cut short: its gzip data have no end";
+        cut = true;
         return 0;
     }
     z.next_in = raw + begin;
@@ -109,7 +112,7 @@ static size_t inflate_some(uint8_t *bytes, size_t room) {
     if (z.avail_out < room) empty = false;
     if (result == Z_STREAM_END) {
         inside = false;
-        block = header.extra != NULL && header.extra_len >= 6 && memcmp(extra, "BC\2", 3) == 0;
+        block = is_block();
     } else if (result == Z_MEM_ERROR) {
         fail(FAILED, "no memory to read gzip");
     } else if (result != Z_OK && result != Z_BUF_ERROR) {
@@ -127,11 +130,12 @@ size_t read_input(uint8_t *bytes, size_t room) {
         begin = end;
         return length;
     }
-    /* A member's check comes at its end. None of at most 64 KB, as bgzip's blocks are, is given before that. */
+    /* A member's check comes at its end. None of at most 64 KB, as bgzip's blocks are, is given before that; of another that is
+     * cut short what came is given. */
     while (length < room && input_fault == NULL) {
         if (!inside && (room - length < 1 << 16 || !next_member())) break;
         length += inflate_some(bytes + length, room - length);
         if (!inside) checked = length;
     }
-    return input_fault != NULL ? checked : length;
+    return input_fault == NULL || (cut && !is_block()) ? length : checked;
 }
