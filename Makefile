@@ -4,34 +4,28 @@ SHELL := /bin/bash
 .DEFAULT_GOAL := all
 
 PREFIX := /usr/local
-VERSION := $(shell sed -n 's/.*"cisternpea \([0-9.]*\)\\n".*/\1/p' host/options.c)
-# The archive in use: its folder is named by the digest of the sources that it is proved from.
+VERSION = $(shell sed -En 's/^[^ ]+ \[?([0-9]+\.[0-9.]+).*/\1/p' CHANGELOG.md | head -n 1)
+# What is proved: the program and the archive for C, in a folder that is named by the digest of their sources.
 DIGEST := $(shell tools/digest)
-ARCHIVE := target/archive/$(DIGEST)/liblongdust_c.a
-# Of the two programs that the kit builds.
+PROVED := target/proved/$(DIGEST)
+ARCHIVE := $(PROVED)/liblongdust_c.a
+# Of the two small programs that the kit builds.
 SOURCES = crates.txt $(shell find crates -name out -prune -o -type f -print)
 
-# The program cisternpea, in variants. With LONG_RECORD at 40 nearly every record is masked by two calls.
-VARIANTS := $(patsubst %,target/%/cisternpea,host strands address thread)
-target/host/cisternpea: FLAGS = -O2
-target/strands/cisternpea: FLAGS = -O2 -Werror -DLONG_RECORD=40
-target/thread/cisternpea: FLAGS = -O1 -g -Werror -DLONG_RECORD=40 -fsanitize=thread
-target/address/%: FLAGS = -O1 -g -Werror -fsanitize=address,undefined,leak -fno-sanitize-recover
-target/address/cisternpea: FLAGS += -DLONG_RECORD=40
-target/mask target/small target/api target/alone: FLAGS = -O2
+# The driver, with the proved program beside it. Under the sanitizers a batch is small, so that small files have many.
+DRIVERS := target/driver/cisternpea target/address/cisternpea
+SANITIZED = -O1 -g -Werror -fsanitize=address,undefined,leak -fno-sanitize-recover
+target/driver/cisternpea: FLAGS = -O2 -DBATCH=1048576
+target/mask target/small target/api: FLAGS = -O2
+target/address/cisternpea: FLAGS = $(SANITIZED) -DBATCH=4096
+target/address/mask target/address/small: FLAGS = $(SANITIZED)
 
-# The driver, under sanitizers and with small batches, so that small files have many; the worker beside it is a test's.
-target/address/driver/cisternpea: FLAGS = -O1 -g -Werror -fsanitize=address,undefined,leak -fno-sanitize-recover -DBATCH=4096
-target/address/driver/cisternpea-proved: FLAGS = -O1 -Werror -DHOST='"$(abspath target/host/cisternpea)"'
-DRIVER := $(addprefix target/address/driver/,cisternpea cisternpea-proved)
-
-HOST := Makefile include/longdust.h $(wildcard host/*.[ch])
-
-COMPILE = $(CC) $(1) -Wall -Wextra $(FLAGS) $(CFLAGS) -Iinclude $(filter %.c,$^) $(ARCHIVE) $(LDFLAGS)
-PROGRAM = $(call COMPILE,-std=c11 -D_XOPEN_SOURCE=700 $(WERROR) -pthread) -lz -o $@
-EXAMPLE = $(call COMPILE,-std=c99 -Werror) -o $@
-CHECKED := $(VARIANTS) $(DRIVER) target/mask target/small target/api target/address/mask target/address/small
-INSTALLED := bin/cisternpea include/longdust.h lib/liblongdust_c.a lib/pkgconfig/cisternpea.pc \
+COMPILE = $(CC) $(1) -Wall -Wextra $(FLAGS) $(CFLAGS) $(filter %.c,$^) $(2) $(LDFLAGS)
+DRIVER = $(call COMPILE,-std=c11 -D_GNU_SOURCE -Wconversion -Wshadow $(WERROR)) -lz -o $@
+EXAMPLE = $(call COMPILE,-std=c99 -Werror -Iinclude,$(ARCHIVE)) -o $@
+EXAMPLES := target/mask target/small target/api target/address/mask target/address/small
+TESTED := $(DRIVERS) $(EXAMPLES) target/faulty/cisternpea target/faulty/cisternpea-proved
+INSTALLED := bin/cisternpea bin/cisternpea-proved include/longdust.h lib/liblongdust_c.a lib/pkgconfig/cisternpea.pc \
   share/man/man1/cisternpea.1 share/bash-completion/completions/cisternpea
 TO = '$(DESTDIR)$(PREFIX)'
 
@@ -41,56 +35,56 @@ NEEDS = echo '\#include <zlib.h>' | $(CC) -E - > /dev/null 2>&1 || \
 
 .PHONY: all check prove compare bench dist install uninstall tarball clean help
 
-all: target/host/cisternpea ## builds the program, target/host/cisternpea; ./cisternpea does so too and runs it
+all: target/driver/cisternpea ## builds the program, target/driver/cisternpea; ./cisternpea does so too and runs it
 
-$(ARCHIVE): $(wildcard dist/x86_64/*)
-	@tools/archive $(DIGEST)
+$(PROVED)/%: $(wildcard dist/*/*)
+	@tools/made $(DIGEST) $*
 
-$(VARIANTS): $(HOST) $(ARCHIVE)
+$(DRIVERS): Makefile $(wildcard program/*.[ch]) $(PROVED)/cisternpea-proved
 	@mkdir -p $(@D); $(NEEDS)
-	$(PROGRAM)
+	@install -m 755 $(PROVED)/cisternpea-proved $(@D)
+	$(DRIVER)
 
-target/address/driver/cisternpea: Makefile $(wildcard program/*.[ch])
-	@mkdir -p $(@D); $(NEEDS)
-	$(CC) -std=c11 -D_GNU_SOURCE -Wall -Wextra -Wconversion -Wshadow $(FLAGS) $(CFLAGS) $(filter %.c,$^) $(LDFLAGS) -lz -o $@
-
-target/address/driver/cisternpea-proved: tests/worker.c target/host/cisternpea
+# The driver with a worker that fails as it is told.
+target/faulty/cisternpea: target/address/cisternpea
 	@mkdir -p $(@D)
-	$(CC) -std=c11 -D_GNU_SOURCE -Wall -Wextra $(FLAGS) $(CFLAGS) $< $(LDFLAGS) -o $@
-
-target/alone: host/speed/alone.c $(filter-out host/main.c,$(HOST)) $(ARCHIVE)
-	@mkdir -p $(@D); $(NEEDS)
-	$(PROGRAM)
+	@cp $< $@
+target/faulty/cisternpea-proved: FLAGS = -O1 -DPROVED='"$(abspath target/address/cisternpea-proved)"'
+target/faulty/cisternpea-proved: FLAGS += -Werror -D_GNU_SOURCE -std=c11
+target/faulty/cisternpea-proved: tests/faulty.c
+target/faulty/cisternpea-proved: Makefile
+	@mkdir -p $(@D)
+	$(COMPILE) -o $@
 
 target/mask target/address/mask: examples/mask.c
 target/small target/address/small: examples/small.c
 target/api: tests/api.c
-target/mask target/small target/api target/address/mask target/address/small: $(filter-out host/%,$(HOST)) $(ARCHIVE)
+$(EXAMPLES): Makefile include/longdust.h $(ARCHIVE)
 	@mkdir -p $(@D); $(NEEDS)
 	$(EXAMPLE)
 
-target/bin/track target/bin/contigs target/bin/cisternpea: $(SOURCES)
+target/bin/track target/bin/contigs: $(SOURCES)
 	@tools/program $(@F)
 
 check: ## tests the program, the C examples and the documents
-	+@$(MAKE) -j2 WERROR=-Werror $(CHECKED)
+	+@$(MAKE) -j2 WERROR=-Werror $(TESTED)
 	tests/check
 
 prove: ## the whole gate: the check, every proof and wrong edit, the archive made again, the comparison (Rattle kit)
 	.ci/run
 
-compare: $(VARIANTS) target/bin/contigs target/bin/track ## runs the masker and the original Rust side by side (cargo, the original's source, the kit)
+compare: $(DRIVERS) target/bin/contigs target/bin/track ## runs the masker and the original Rust side by side (cargo, the original's source, the kit)
 	LONGDUST_ARCHIVE=$(abspath $(dir $(ARCHIVE))) compare/run $(WHAT)
 
-bench: target/host/cisternpea target/alone ## measures the speed, on made letters or on a FASTA file: FILE=genome.fa
-	host/speed/run $(FILE)
+bench: target/driver/cisternpea ## measures the speed, on made letters or on a FASTA file: FILE=genome.fa
+	tools/bench $(FILE)
 
-dist: ## proves the calls and makes dist/ anew, after a change of crates/ (Rattle kit)
+dist: ## proves calls and program and makes dist/ anew, after a change of crates/ (Rattle kit)
 	tools/dist
 
-install: all ## installs program, header, archive, cisternpea.pc, man page, completion: PREFIX=/usr/local DESTDIR=
+install: all $(ARCHIVE) ## installs the two programs, header, archive, cisternpea.pc, man page, completion: PREFIX=/usr/local DESTDIR=
 	install -d $(addprefix $(TO)/,$(dir $(INSTALLED)))
-	install -m 755 target/host/cisternpea $(TO)/bin
+	install -m 755 target/driver/cisternpea target/driver/cisternpea-proved $(TO)/bin
 	install -m 644 include/longdust.h $(TO)/include
 	install -m 644 $(ARCHIVE) $(TO)/lib
 	sed 's/@VERSION@/$(VERSION)/' share/cisternpea.pc > $(TO)/lib/pkgconfig/cisternpea.pc

@@ -1,14 +1,14 @@
 # Completion of cisternpea's options and files in bash.
 _cisternpea() {
     local word=${COMP_WORDS[COMP_CWORD]} before=${COMP_WORDS[COMP_CWORD - 1]}
-    local options="--kmer --window-size --score-threshold --gc --xdrop --min-start-cnt --approx --forward-only --marks
-        --soft --hard --summary --bedgraph --threads --memory --quiet --help --version"
+    local options="--kmer --window-size --score-threshold --gc --xdrop --min-start-cnt --approx --forward-only --bed
+        --marks --soft --hard --summary --bedgraph --output --threads --memory --quiet --help --version"
     COMPREPLY=()
     case $before in
         --gc) mapfile -t COMPREPLY < <(compgen -W "uniform auto" -- "$word") ;;
         --xdrop) mapfile -t COMPREPLY < <(compgen -W none -- "$word") ;;
         --hard) mapfile -t COMPREPLY < <(compgen -W "N X" -- "$word") ;;
-        --kmer | --window-size | --score-threshold | --min-start-cnt | --bedgraph | --threads | --memory) ;;
+        --kmer | -k | --window-size | -w | --score-threshold | -T | --min-start-cnt | --bedgraph | --threads | -t | --memory) ;;
         *)
             if [[ $word == -* ]]; then
                 mapfile -t COMPREPLY < <(compgen -W "$options" -- "$word")

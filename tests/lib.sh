@@ -2,7 +2,7 @@
 set -uo pipefail
 root=$(cd "$(dirname "${BASH_SOURCE[0]}")/.." && pwd) || exit 2
 export LC_ALL=C
-program=$(readlink -e "${1:-$root/target/host/cisternpea}") || { echo "there is no ${1:-target/host/cisternpea}; make check builds it"; exit 2; }
+program=$(readlink -e "${1:-$root/target/driver/cisternpea}") || { echo "there is no ${1:-target/driver/cisternpea}; make check builds it"; exit 2; }
 cd "$root" || exit 2
 folder=$(mktemp -d) || exit 2
 trap 'rm -rf "$folder"' EXIT
