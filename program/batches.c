@@ -64,8 +64,8 @@ static void append(const uint8_t *bytes, size_t length) {
 static void end_missing(void) {
     if (!missing) return;
     drain();
-    fail(FAILED, "%s: the record at byte %" PRIu64 " needs --memory %" PRIu64 "M", input_name, current->offset,
-         needed(current->size) / (1 << 20) + 1);
+    fail(FAILED, "%s: byte %" PRIu64 ": the record does not fit --memory %" PRIu64 "; it must be %" PRIu64 " or more",
+         input_name, current->offset, plan.memory, needed(current->size));
 }
 
 /* The next place from i on where a line begins with >; length if there is none. */

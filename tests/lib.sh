@@ -56,6 +56,12 @@ data() {
   echo "$folder/$1"
 }
 
+# The names of the records that were refused, with the refusals' numbers, out of what was said; \x1b and \\ are the bytes again.
+refused() {
+  local line
+  sed -En 's/^cisternpea: (.*): refused \(([0-9]+)\):.*/\1\\trefused\\t\2/p' "$1" | while IFS= read -r line; do printf '%b\n' "$line"; done
+}
+
 finish() {
   echo "$passed passed, $failed failed"
   [[ $failed -eq 0 ]]

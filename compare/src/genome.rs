@@ -108,10 +108,16 @@ fn write_letters(out: &mut impl Write, record: &Record, masked: &[bool], shown: 
     out.write_all(b"\n")
 }
 
+/// A refused record passes through as it came in FASTA, and is left out in the other forms.
 fn write_record(out: &mut impl Write, form: Form, record: &Record, options: &Request) -> io::Result<()> {
     let request = Request { sequence: record.lines.concat(), ..options.clone() };
-    let Some(mask) = mask(&request) else { return Ok(()) };
     let n = request.sequence.len();
+    let Some(mask) = mask(&request) else {
+        return match form {
+            Form::Soft | Form::Hard(_) => write_letters(out, record, &vec![false; n], |byte| byte),
+            _ => Ok(()),
+        };
+    };
     let masked = flags(n, &mask);
     let name = record.name();
     let mut line = |text: String| out.write_all(name).and_then(|()| writeln!(out, "\t{text}"));
@@ -263,5 +269,10 @@ mod tests {
         assert_eq!(write(Form::Hard(b'X')), ">a b\nGCGC\n\nXXXXXXXX\nXXGT\n");
         assert_eq!(write(Form::Summary), "a\t16\t1\t10\t0.625000\n");
         assert_eq!(write(Form::Bedgraph(10)), "a\t0\t10\t0.600000\na\t10\t16\t0.666667\n");
+        let refused = Record { header: b">b c", lines: vec![b"A7C", b"GTA"] };
+        let mut out = Vec::new();
+        write_record(&mut out, Form::Bed, &refused, &Request::default()).unwrap();
+        write_record(&mut out, Form::Soft, &refused, &Request::default()).unwrap();
+        assert_eq!(out, b">b c\nA7C\nGTA\n");
     }
 }
