@@ -39,7 +39,7 @@ fn mask_reader<R: BufRead, W: Write>(
         reader,
         true,
         &[request.form],
-        request.options,
+        request.settings,
         outs,
         &mut notes,
     ) {

@@ -3,14 +3,14 @@
 use crate::saying::say;
 use crate::values::{fraction, whole};
 use clap::ArgMatches;
-use forms::Form;
+use forms::{Form, Settings};
 use longdust::LongdustOptions;
 use tables::GcOption;
 
 #[derive(Drop)]
 pub struct Request {
     pub form: Form,
-    pub options: LongdustOptions,
+    pub settings: Settings,
 }
 
 // Says what the value of an option must be.
@@ -135,6 +135,10 @@ fn form(rt: &HostRuntime, matches: &ArgMatches) -> Option<Form> {
 pub fn read_request(rt: &HostRuntime, matches: &ArgMatches) -> Option<Request> {
     Some(Request {
         form: form(rt, matches)?,
-        options: options(rt, matches)?,
+        settings: Settings {
+            options: options(rt, matches)?,
+            skip_short: false,
+            min_length: 0,
+        },
     })
 }
