@@ -30,7 +30,7 @@ module _ (forms : List Form) (st : Settings) (h : HeldEntry) (s : List ℕ) (sam
 
   abbrev by : ℕ → List ℕ → Report
   by n l =
-      report_by st.skip_short n (name_of e.header) (bodies (record_mask st.options l) (record_marks st.options l)) (bodies [] []) (by_form (λ f. passed f e) forms)
+      report_by st.skip_short n (name_of e.header) l (bodies (record_mask st.options l) (record_marks st.options l)) (bodies [] []) (by_form (λ f. passed f e) forms)
 
   letters_are : joined e.lines ≡ s
   letters_are = joined_cut (lengths_of h.runs.items) h.letters.items ∙ sym same
@@ -49,14 +49,16 @@ module _ (forms : List Form) (st : Settings) (h : HeldEntry) (s : List ℕ) (sam
     not_none : eqb (number q) 0 ≡ false
     not_none = ne_eqb (number q) 0 (λ z. let p : 0 < number q = number_positive q in omega arith)
 
-    by_number : report_of forms st e ≡ cond (passes st.skip_short (number q)) (accepted (bodies [] [])) (refused (name_of e.header) (number q) (by_form (λ f. passed f e) forms))
+    by_number : report_of forms st e ≡ cond (passes st.skip_short (number q)) (accepted (bodies [] [])) (refused (name_of e.header) (number q) s (by_form (λ f. passed f e) forms))
     by_number =
         report_is ∙ ap (λ (n : ℕ). by n s) m
         ∙ ap (λ (t : Bool). cond t (accepted (bodies (record_mask st.options s) (record_marks st.options s)))
-        (cond (passes st.skip_short (number q)) (accepted (bodies [] [])) (refused (name_of e.header) (number q) (by_form (λ f. passed f e) forms)))) not_none
+        (cond (passes st.skip_short (number q)) (accepted (bodies [] [])) (refused (name_of e.header) (number q) s (by_form (λ f. passed f e) forms)))) not_none
 
     pub bare_is : passes st.skip_short (number q) ≡ true → report_of forms st e ≡ accepted (bodies [] [])
-    bare_is t = by_number ∙ ap (λ (b : Bool). cond b (accepted (bodies [] [])) (refused (name_of e.header) (number q) (by_form (λ f. passed f e) forms))) t
+    bare_is t = by_number ∙ ap (λ (b : Bool). cond b (accepted (bodies [] [])) (refused (name_of e.header) (number q) s (by_form (λ f. passed f e) forms))) t
 
-    pub refused_is : passes st.skip_short (number q) ≡ false → report_of forms st e ≡ refused (name_of e.header) (number q) (by_form (λ f. passed f e) forms)
-    refused_is t = by_number ∙ ap (λ (b : Bool). cond b (accepted (bodies [] [])) (refused (name_of e.header) (number q) (by_form (λ f. passed f e) forms))) t
+    pub refused_is : passes st.skip_short (number q) ≡ false → report_of forms st e ≡ refused (name_of e.header) (number q) h.letters.items (by_form (λ f. passed f e) forms)
+    refused_is t =
+        by_number ∙ ap (λ (b : Bool). cond b (accepted (bodies [] [])) (refused (name_of e.header) (number q) s (by_form (λ f. passed f e) forms))) t
+        ∙ ap (λ (l : List ℕ). refused (name_of e.header) (number q) l (by_form (λ f. passed f e) forms)) same

@@ -56,23 +56,23 @@ by_form text (f ∷ fs) (suc i) = by_form text fs i
 abbrev pub accepted : (ℕ → List ℕ) → Report
 accepted text = record { text = text; notes = []; good = true }
 
-abbrev pub refused : List ℕ → ℕ → (ℕ → List ℕ) → Report
-refused name number text = record { text = text; notes = refused_note name number; good = false }
+abbrev pub refused : (name : List ℕ) → ℕ → (letters : List ℕ) → (ℕ → List ℕ) → Report
+refused name number s text = record { text = text; notes = refused_note name number s; good = false }
 
 -- Refusal 3, too few letters, where such records may pass.
 abbrev pub passes : Bool → ℕ → Bool
 passes skip number = skip && eqb number 3
 
 -- By the number of a refusal, 0 for none: the text with the mask, without one, or as it came.
-abbrev pub report_by : Bool → ℕ → List ℕ → (text bare through : ℕ → List ℕ) → Report
-report_by skip number name text bare through =
-    cond (eqb number 0) (accepted text) (cond (passes skip number) (accepted bare) (refused name number through))
+abbrev pub report_by : Bool → ℕ → (name letters : List ℕ) → (text bare through : ℕ → List ℕ) → Report
+report_by skip number name s text bare through =
+    cond (eqb number 0) (accepted text) (cond (passes skip number) (accepted bare) (refused name number s through))
 
 -- The report of an entry to writers of these forms.
 unfoldable pub report_of : List Form → Settings → Entry → Report
 report_of forms st e =
     let s : List ℕ = joined e.lines in
     let o : LongdustOptions = st.options in
-    report_by st.skip_short (record_refusal o s) (name_of e.header)
+    report_by st.skip_short (record_refusal o s) (name_of e.header) s
     (by_form (λ f. body st.min_length f e (record_mask o s) (record_marks o s)) forms)
     (by_form (λ f. body st.min_length f e [] []) forms) (by_form (λ f. passed f e) forms)

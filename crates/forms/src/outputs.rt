@@ -108,13 +108,13 @@ pub fn put_refused<W: Write, N: Write>(
     notes: &mut N,
 ) -> Result<bool, Failed>
     ensures { Recorded
-        (refused (name_of (entry_of entry.now).header) (number refusal) (by_form (λ f. passed f (entry_of entry.now)) forms.now))
+        (refused (name_of (entry_of entry.now).header) (number refusal) entry.now.letters.items (by_form (λ f. passed f (entry_of entry.now)) forms.now))
         (map (λ w. W.contents w) outs.old) (map (λ w. W.contents w) outs.new) (N.contents notes.old) (N.contents notes.new) result }
 {
     if let Err(e) = write_parts(forms, &Refused { entry }, room, outs) {
         return Err(Failed::Writing(e));
     }
-    match write_note(room, entry.name(), refusal, notes) {
+    match write_note(room, entry.name(), entry.letters.as_slice(), refusal, notes) {
         Ok(()) => Ok(false),
         Err(e) => Err(Failed::Saying(e)),
     }
