@@ -8,7 +8,7 @@
  *
  * Link dist/x86_64/liblongdust_c.a, or lib/liblongdust_c.a where it is installed (x86-64-v2; dist/aarch64 has the
  * calls for that processor). No call allocates, keeps state or reads anything but its arguments, so threads may call at once, each
- * with its own buffers. A call takes less than 16 KB of stack, longdust_small 230 KB.
+ * with its own buffers. A call takes less than 16 KB of stack, longdust_strongest_stretches 64 KB, longdust_small 230 KB.
  *
  * Write n for sequence_len, k for kmer, w for window_size, and R for (n + 1) / (k + 1) rounded down.
  * Every slice is a pointer and its number of elements. The pointer is aligned as its element type asks,
@@ -399,7 +399,12 @@ int64_t longdust_strongest_stretch(
     uint16_t *scan_counts, size_t scan_counts_len,
     uint64_t *start, int64_t *score, uint64_t *gap);
 
-/* Work space of longdust_strongest_stretches, whatever it holds. */
+/* Work space of longdust_strongest_stretches, whatever it holds: places, and tiles. */
+struct longdust_place {
+    uint32_t entry, older;
+    uint16_t order;
+};
+
 struct longdust_tile {
     size_t first, size;
     uint64_t gain, loss;
@@ -420,9 +425,9 @@ struct longdust_tile {
  * and scores[i] its score, in the order found, so scores do not rise. Entries of both past the result do not
  * change. The shorter of list and scores decides how many entries there may be.
  *
- * Slices and how long they must be at least: sequence n letters, ln w + 1, f w + 2, codes n, scan_counts 4^k,
- * tiles n / (w + 4096) + 1. codes, scan_counts and tiles may hold anything before and are left with any content up
- * to these lengths.
+ * Slices and how long they must be at least: sequence n letters, ln w + 1, f w + 2, codes n, newest 4^k,
+ * places 2 w + 4096 + k, tiles n / (w + 4096) + 1. codes, newest, places and tiles may hold anything before and are
+ * left with any content up to these lengths. A call takes 64 KB of stack.
  *
  * A negative result is minus the number of the first check that fails, and no slice is changed then:
  *    1, 2, 13, 3, 4, 5, 10  as above, in this order
@@ -437,7 +442,8 @@ int64_t longdust_strongest_stretches(
     const uint64_t *f, size_t f_len,
     const uint32_t (*regions)[2], size_t regions_len, uint64_t floor,
     uint8_t *codes, size_t codes_len,
-    uint16_t *scan_counts, size_t scan_counts_len,
+    uint32_t *newest, size_t newest_len,
+    struct longdust_place *places, size_t places_len,
     struct longdust_tile *tiles, size_t tiles_len,
     uint32_t (*list)[2], size_t list_len,
     int64_t *scores, size_t scores_len);

@@ -43,8 +43,8 @@ static int64_t (*const strongest_stretch)(const uint8_t *, size_t, size_t, size_
                                           uint64_t *) = longdust_strongest_stretch;
 static int64_t (*const strongest_stretches)(const uint8_t *, size_t, size_t, size_t, uint64_t, const uint64_t *, size_t,
                                             const uint64_t *, size_t, const pair *, size_t, uint64_t, uint8_t *, size_t,
-                                            uint16_t *, size_t, struct longdust_tile *, size_t, pair *, size_t,
-                                            int64_t *, size_t) = longdust_strongest_stretches;
+                                            uint32_t *, size_t, struct longdust_place *, size_t, struct longdust_tile *,
+                                            size_t, pair *, size_t, int64_t *, size_t) = longdust_strongest_stretches;
 static int64_t (*const small)(const uint8_t *, size_t, size_t, size_t, double, uint32_t, uint32_t, uint16_t, uint32_t,
                               uint32_t, uint8_t *, size_t) = longdust_small;
 static int64_t (*const short_sequences)(size_t, uint32_t *, size_t, uint32_t *) = longdust_short_sequences;
@@ -97,10 +97,11 @@ int main(void) {
     is("longdust_strongest_stretch, w = k",
        strongest_stretch(letters, 8, 7, 7, 0, 1, 1, NULL, 0, NULL, 0, NULL, 0, NULL, 0, &start, &score, &gap), -4);
     is("its three numbers", start == 0 && score == 0 && gap == 0, 1);
+    is("the size of a place", sizeof(struct longdust_place), 12);
     is("the size of a tile", sizeof(struct longdust_tile), 40);
     is("longdust_strongest_stretches, w = k",
        strongest_stretches(letters, 8, 7, 7, 1, NULL, 0, NULL, 0, NULL, 0, 0, NULL, 0, NULL, 0, NULL, 0, NULL, 0, NULL,
-                           0),
+                           0, NULL, 0),
        -4);
     is("longdust_small, k = 7", small(letters, 8, 7, 200, 0.6, 1, 50, 3, 0, 0, NULL, 0), -21);
     is("longdust_short_sequences, m = 9", short_sequences(9, NULL, 0, &refused), -22);

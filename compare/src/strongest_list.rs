@@ -17,6 +17,15 @@ const SPAN: usize = 4096;
 /// As include/longdust.h has it.
 #[repr(C)]
 #[derive(Clone, Copy, Debug, PartialEq)]
+pub struct Place {
+    entry: u32,
+    older: u32,
+    order: u16,
+}
+
+/// As include/longdust.h has it.
+#[repr(C)]
+#[derive(Clone, Copy, Debug, PartialEq)]
 pub struct Tile {
     first: usize,
     size: usize,
@@ -37,7 +46,8 @@ pub struct Request {
     regions: Vec<[u32; 2]>,
     floor: u64,
     codes: Vec<u8>,
-    scan_counts: Vec<u16>,
+    newest: Vec<u32>,
+    places: Vec<Place>,
     tiles: Vec<Tile>,
     list: Vec<[u32; 2]>,
     scores: Vec<i64>,
@@ -64,8 +74,10 @@ pub fn port(request: &mut Request) -> i64 {
             floor: u64,
             codes: *mut u8,
             codes_len: usize,
-            scan_counts: *mut u16,
-            scan_counts_len: usize,
+            newest: *mut u32,
+            newest_len: usize,
+            places: *mut Place,
+            places_len: usize,
             tiles: *mut Tile,
             tiles_len: usize,
             list: *mut [u32; 2],
@@ -75,7 +87,8 @@ pub fn port(request: &mut Request) -> i64 {
         ) -> i64;
     }
     let Request { sequence, kmer, window_size, threshold, ln, f, regions, floor, .. } = request;
-    let (codes_len, counts_len) = (request.codes.len() - GUARD, request.scan_counts.len() - GUARD);
+    let (codes_len, newest_len) = (request.codes.len() - GUARD, request.newest.len() - GUARD);
+    let places_len = request.places.len() - GUARD;
     let tiles_len = request.tiles.len() - GUARD;
     let (list_len, scores_len) = (request.list.len() - GUARD, request.scores.len() - GUARD);
     // SAFETY: each pointer is to a live slice at least as long as its length; none overlap.
@@ -95,8 +108,10 @@ pub fn port(request: &mut Request) -> i64 {
             *floor,
             request.codes.as_mut_ptr(),
             codes_len,
-            request.scan_counts.as_mut_ptr(),
-            counts_len,
+            request.newest.as_mut_ptr(),
+            newest_len,
+            request.places.as_mut_ptr(),
+            places_len,
             request.tiles.as_mut_ptr(),
             tiles_len,
             request.list.as_mut_ptr(),
@@ -134,7 +149,7 @@ enum Slip {
 }
 
 fn refusal(request: &Request, slip: Slip) -> i64 {
-    let Request { sequence, kmer: k, window_size: w, threshold, ln, f, codes, scan_counts, .. } = request;
+    let Request { sequence, kmer: k, window_size: w, threshold, ln, f, codes, newest, places, .. } = request;
     let n = sequence.len();
     let accepted = |byte: &u8| byte.is_ascii_alphabetic() || b"-*".contains(byte);
     let few = (slip == Slip::FewTiles) as usize;
@@ -142,7 +157,8 @@ fn refusal(request: &Request, slip: Slip) -> i64 {
         ln.len() < w + 1
             || f.len() < w + 2
             || codes.len() - GUARD < n
-            || scan_counts.len() - GUARD < 1usize << (2 * k)
+            || newest.len() - GUARD < 1usize << (2 * k)
+            || places.len() - GUARD < 2 * w + SPAN + k
             || request.tiles.len() - GUARD + few < n / (w + SPAN) + 1
     };
     let bad = |&[start, end]: &[u32; 2]| {
@@ -465,9 +481,10 @@ fn random(seed: u64, number: u64) -> Request {
     let list_len = count(rng);
     let scores_len = if rng.one_in(3) { count(rng) } else { list_len };
     let counts = if kmer > 12 { 4 } else { 1usize << (2 * kmer) };
+    let places = if kmer > 12 || window_size > 65535 { 4 } else { 2 * w + SPAN + kmer };
     let tiles = n / w.saturating_add(SPAN) + 1;
-    let (mut codes_len, mut counts_len) = (n + rng.below(3), counts + rng.below(3));
-    let mut tiles_len = tiles + rng.below(3);
+    let (mut codes_len, mut newest_len) = (n + rng.below(3), counts + rng.below(3));
+    let (mut places_len, mut tiles_len) = (places + rng.below(3), tiles + rng.below(3));
     if rng.one_in(12) && w > 0 {
         let i = 1 + rng.below(w);
         match rng.below(2) {
@@ -482,12 +499,13 @@ fn random(seed: u64, number: u64) -> Request {
         regions.insert(at, rng.pick(&bad));
     }
     if rng.one_in(20) {
-        match rng.below(5) {
+        match rng.below(6) {
             0 => ln.truncate(w - rng.below(w + 1).min(2)),
             1 => f.truncate(w + 1 - rng.below(w + 1).min(2)),
             2 => codes_len = n - rng.below(n + 1).min(1),
             3 => tiles_len = rng.below(tiles),
-            _ => counts_len = counts - 1 - rng.below(counts.min(5)).min(counts - 1),
+            4 => places_len = places - 1 - rng.below(places.min(5)).min(places - 1),
+            _ => newest_len = counts - 1 - rng.below(counts.min(5)).min(counts - 1),
         }
     }
     let mut sequence = sequence(rng, n);
@@ -502,6 +520,10 @@ fn random(seed: u64, number: u64) -> Request {
         let x = garbage >> (i % 51);
         Tile { first: x as usize, size: x as usize % 7, gain: x, loss: !x, stale: (x % 2) as u8 }
     };
+    let place = |i: usize| {
+        let x = garbage >> (i % 47);
+        Place { entry: x as u32 % 64, older: (x >> 5) as u32, order: (x >> 9) as u16 }
+    };
     Request {
         sequence,
         kmer,
@@ -512,7 +534,8 @@ fn random(seed: u64, number: u64) -> Request {
         regions,
         floor,
         codes: (0..codes_len + GUARD).map(|i| (garbage >> (i % 57)) as u8).collect(),
-        scan_counts: (0..counts_len + GUARD).map(|i| (garbage >> (i % 49)) as u16).collect(),
+        newest: (0..newest_len + GUARD).map(|i| (garbage >> (i % 61)) as u32).collect(),
+        places: (0..places_len + GUARD).map(place).collect(),
         tiles: (0..tiles_len + GUARD).map(tile).collect(),
         list: (0..list_len + GUARD).map(|i| [(garbage >> (i % 33)) as u32, i as u32]).collect(),
         scores: (0..scores_len + GUARD).map(|i| (garbage >> (i % 23)) as i64).collect(),
@@ -525,10 +548,11 @@ fn alike(right: &Request, left: &Request, accepted: bool) -> bool {
         return right == left;
     }
     let (n, w) = (right.sequence.len(), right.window_size);
-    let (counts, tiles) = (1 << (2 * right.kmer), n / (w + SPAN) + 1);
+    let (counts, places, tiles) = (1 << (2 * right.kmer), 2 * w + SPAN + right.kmer, n / (w + SPAN) + 1);
     let mut past = left.clone();
     past.codes[..n].copy_from_slice(&right.codes[..n]);
-    past.scan_counts[..counts].copy_from_slice(&right.scan_counts[..counts]);
+    past.newest[..counts].copy_from_slice(&right.newest[..counts]);
+    past.places[..places].copy_from_slice(&right.places[..places]);
     past.tiles[..tiles].copy_from_slice(&right.tiles[..tiles]);
     &past == right
 }
@@ -586,7 +610,8 @@ fn piece(letters: &[u8]) -> Request {
         regions: masked.iter().map(|&(start, end)| [start as u32, end as u32]).collect(),
         floor: 0,
         codes: vec![7; PIECE + GUARD],
-        scan_counts: vec![7; (1 << (2 * usual.kmer)) + GUARD],
+        newest: vec![7; (1 << (2 * usual.kmer)) + GUARD],
+        places: vec![Place { entry: 7, older: 7, order: 7 }; 2 * usual.window_size + SPAN + usual.kmer + GUARD],
         tiles: vec![
             Tile { first: 7, size: 7, gain: 7, loss: 7, stale: 1 };
             PIECE / (usual.window_size + SPAN) + 1 + GUARD
@@ -686,6 +711,14 @@ mod tests {
             }
             answer
         }),
+        ("places past the last", |request| {
+            let answer = plain(request, Slip::None);
+            if answer >= 0 {
+                let places = 2 * request.window_size + SPAN + request.kmer;
+                request.places[places].order ^= 1;
+            }
+            answer
+        }),
         ("tiles past the last", |request| {
             let answer = plain(request, Slip::None);
             if answer >= 0 {
@@ -726,7 +759,8 @@ mod tests {
             regions: regions.to_vec(),
             floor: 0,
             codes: vec![0; sequence.len() + GUARD],
-            scan_counts: vec![0; (1 << (2 * k)) + GUARD],
+            newest: vec![0; (1 << (2 * k)) + GUARD],
+            places: vec![Place { entry: 0, older: 0, order: 0 }; 6 + SPAN + k + GUARD],
             tiles: vec![Tile { first: 0, size: 0, gain: 0, loss: 0, stale: 0 }; 1 + GUARD],
             list: vec![[0, 0]; 3 + GUARD],
             scores: vec![0; 3 + GUARD],

@@ -4,13 +4,13 @@ ghost use Rattle.std.specs.Prelude.{◌≡◌, ◌<◌, ◌^◌, length};
 ghost use Rattle.buffers.specs.Fill.{put};
 ghost use Rattle.buffers.specs.Free.{Free};
 ghost use Rattle.strongest_list.specs.Call.{asked, entries, letters_of, scores_of};
-ghost use Rattle.strongest_list.specs.Checks.{n_tiles, refusal};
+ghost use Rattle.strongest_list.specs.Checks.{n_places, n_tiles, refusal};
 ghost use Rattle.longdust_c.specs.Numbers.{count_or};
 
 use crate::numbers::returned;
 use intervals::Interval;
 use strongest::Scoring;
-use strongest_list::{Request, Tile};
+use strongest_list::{LinkedPlace, Request, Tile};
 
 // The letters and scores of the strongest stretches inside the regions, over the fronts of `list` and `scores`.
 #[unsafe(no_mangle)]
@@ -24,32 +24,36 @@ pub extern "C" fn longdust_strongest_stretches(
     regions: &[Interval],
     floor: u64,
     codes: &mut [u8],
-    scan_counts: &mut [u16],
+    newest: &mut [u32],
+    places: &mut [LinkedPlace],
     tiles: &mut [Tile],
     list: &mut [Interval],
     scores: &mut [i64],
 ) -> i64
     ensures number { let A = asked sequence.now kmer window_size threshold ln.now f.now regions.now floor in
-        result ≡ count_or (refusal A (length codes.old) (length scan_counts.old) (length tiles.old))
+        result ≡ count_or (refusal A (length codes.old) (length newest.old) (length places.old) (length tiles.old))
         (length (entries A list.old scores.old)) }
     ensures list { let A = asked sequence.now kmer window_size threshold ln.now f.now regions.now floor in
-        refusal A (length codes.old) (length scan_counts.old) (length tiles.old) ≡ 0
+        refusal A (length codes.old) (length newest.old) (length places.old) (length tiles.old) ≡ 0
         → list.new ≡ put (letters_of A (entries A list.old scores.old)) list.old }
     ensures scores { let A = asked sequence.now kmer window_size threshold ln.now f.now regions.now floor in
-        refusal A (length codes.old) (length scan_counts.old) (length tiles.old) ≡ 0
+        refusal A (length codes.old) (length newest.old) (length places.old) (length tiles.old) ≡ 0
         → scores.new ≡ put (scores_of A (entries A list.old scores.old)) scores.old }
     ensures codes { let A = asked sequence.now kmer window_size threshold ln.now f.now regions.now floor in
-        refusal A (length codes.old) (length scan_counts.old) (length tiles.old) ≡ 0
+        refusal A (length codes.old) (length newest.old) (length places.old) (length tiles.old) ≡ 0
         → Free (length sequence.now) codes.old codes.new }
-    ensures scan_counts { let A = asked sequence.now kmer window_size threshold ln.now f.now regions.now floor in
-        refusal A (length codes.old) (length scan_counts.old) (length tiles.old) ≡ 0
-        → Free (4 ^ kmer) scan_counts.old scan_counts.new }
+    ensures newest { let A = asked sequence.now kmer window_size threshold ln.now f.now regions.now floor in
+        refusal A (length codes.old) (length newest.old) (length places.old) (length tiles.old) ≡ 0
+        → Free (4 ^ kmer) newest.old newest.new }
+    ensures places { let A = asked sequence.now kmer window_size threshold ln.now f.now regions.now floor in
+        refusal A (length codes.old) (length newest.old) (length places.old) (length tiles.old) ≡ 0
+        → Free (n_places A) places.old places.new }
     ensures tiles { let A = asked sequence.now kmer window_size threshold ln.now f.now regions.now floor in
-        refusal A (length codes.old) (length scan_counts.old) (length tiles.old) ≡ 0
+        refusal A (length codes.old) (length newest.old) (length places.old) (length tiles.old) ≡ 0
         → Free (n_tiles A) tiles.old tiles.new }
     ensures refused { let A = asked sequence.now kmer window_size threshold ln.now f.now regions.now floor in
-        0 < refusal A (length codes.old) (length scan_counts.old) (length tiles.old)
-        → (codes.new ≡ codes.old) × (scan_counts.new ≡ scan_counts.old) × (tiles.new ≡ tiles.old)
+        0 < refusal A (length codes.old) (length newest.old) (length places.old) (length tiles.old)
+        → (codes.new ≡ codes.old) × (newest.new ≡ newest.old) × (places.new ≡ places.old) × (tiles.new ≡ tiles.old)
         × (list.new ≡ list.old) × (scores.new ≡ scores.old) }
 {
     let request = Request {
@@ -60,5 +64,7 @@ pub extern "C" fn longdust_strongest_stretches(
         regions,
         floor,
     };
-    returned(strongest_list::strongest_stretches(&request, codes, scan_counts, tiles, list, scores))
+    returned(strongest_list::strongest_stretches(
+        &request, codes, newest, places, tiles, list, scores,
+    ))
 }

@@ -11,7 +11,7 @@ use Rattle.strongest.specs.Checks.{too_short_of, too_wide}
 use Rattle.strongest.specs.Terms.Reading.{Narrow}
 use Rattle.strongest_list.specs.declared.Request.{Request}
 use Rattle.strongest_list.specs.Stretches.{Asked}
-use Rattle.strongest_list.specs.Checks.{bad_region, any_bad_region, n_tiles, checks, refusal}
+use Rattle.strongest_list.specs.Checks.{bad_region, any_bad_region, n_places, n_tiles, checks, refusal}
 use Rattle.strongest_list.specs.Call.{asked_of}
 use Rattle.strongest_list.specs.Terms.Codes.{clear_of_all, Shows, Opens, Bars}
 use Rattle.strongest_list.specs.Terms.Best.{Searchable}
@@ -87,7 +87,7 @@ rest_end q i cs l h R =
     and_true false = refl
 
 -- ---- No check refuses.
-pub record Admitted (A : Asked) (codes_len counts_len tiles_len : ℕ) : Type 0 where
+pub record Admitted (A : Asked) (codes_len newest_len places_len tiles_len : ℕ) : Type 0 where
   pub kmer_low : 1 ≤ A.kmer
   pub kmer_high : A.kmer ≤ 12
   pub window_low : A.kmer + 1 ≤ A.window_size
@@ -95,20 +95,22 @@ pub record Admitted (A : Asked) (codes_len counts_len tiles_len : ℕ) : Type 0 
   pub letters_high : length A.sequence ≤ 2147483647
   pub regions_good : any_bad_region (length A.sequence) A.regions ≡ false
   pub codes_long : length A.sequence ≤ codes_len
-  pub counts_long : 4 ^ A.kmer ≤ counts_len
+  pub newest_long : 4 ^ A.kmer ≤ newest_len
+  pub places_long : n_places A ≤ places_len
   pub tiles_long : n_tiles A ≤ tiles_len
   pub narrow : Narrow A.threshold A.ln A.f A.window_size
 
-pub admitted : (A : Asked) (codes_len counts_len tiles_len : ℕ) → refusal A codes_len counts_len tiles_len ≡ 0 → Admitted A codes_len counts_len tiles_len
+pub admitted : (A : Asked) (codes_len newest_len places_len tiles_len : ℕ) → refusal A codes_len newest_len places_len tiles_len ≡ 0 → Admitted A codes_len newest_len places_len tiles_len
 unfolding too_short_of too_wide
-admitted A codes_len counts_len tiles_len e =
+admitted A codes_len newest_len places_len tiles_len e =
     let n = length A.sequence in
     let k = A.kmer in
     let w = A.window_size in
-    let passed = passes (checks A codes_len counts_len tiles_len) refl e in
+    let passed = passes (checks A codes_len newest_len places_len tiles_len) refl e in
     let inside = neither (ltb k 1) (ltb 12 k) (passed 0) in
-    let p4 = neither _ (ltb tiles_len (n_tiles A)) (passed 8) in
-    let p3 = neither _ (ltb counts_len (4 ^ k)) p4.0 in
+    let p5 = neither _ (ltb tiles_len (n_tiles A)) (passed 8) in
+    let p4 = neither _ (ltb places_len (n_places A)) p5.0 in
+    let p3 = neither _ (ltb newest_len (4 ^ k)) p4.0 in
     let p2 = neither _ (ltb codes_len n) p3.0 in
     let p1 = neither (ltb (length A.ln) (w + 1)) (ltb (length A.f) (w + 2)) p2.0 in
     let q2 = neither _ (leb (2 ^ 52) (largest A.f w)) (passed 9) in
@@ -121,8 +123,9 @@ admitted A codes_len counts_len tiles_len e =
       letters_high = ltb-false 2147483647 n (passed 6);
       regions_good = passed 7;
       codes_long = ltb-false codes_len n p2.1;
-      counts_long = ltb-false counts_len (4 ^ k) p3.1;
-      tiles_long = ltb-false tiles_len (n_tiles A) p4.1;
+      newest_long = ltb-false newest_len (4 ^ k) p3.1;
+      places_long = ltb-false places_len (n_places A) p4.1;
+      tiles_long = ltb-false tiles_len (n_tiles A) p5.1;
       narrow = record {
         ln_long = omega (arith, ltb-false (length A.ln) (w + 1) p1.0);
         f_long = omega (arith, ltb-false (length A.f) (w + 2) p1.1);
@@ -132,13 +135,12 @@ admitted A codes_len counts_len tiles_len e =
       };
     }
 
-pub searchable : (q : Request) (codes_len counts_len tiles_len m : ℕ) → Admitted (asked_of q) codes_len counts_len tiles_len → m ≡ 4 ^ q.kmer → Searchable q m
-searchable q codes_len counts_len tiles_len m A e =
+pub searchable : (q : Request) (codes_len newest_len places_len tiles_len : ℕ) → Admitted (asked_of q) codes_len newest_len places_len tiles_len → Searchable q
+searchable q codes_len newest_len places_len tiles_len A =
     record {
       kmer_low = A.kmer_low;
       kmer_high = A.kmer_high;
       window_low = omega (arith, A.window_low);
       window_high = A.window_high;
       narrow = A.narrow;
-      counts_is = e;
     }

@@ -83,20 +83,20 @@ not_in_the_mirror : strongest (turned falling (78 ∷ 84 ∷ 84 ∷ [])) 1 ≡ [
 unfolding code codes packed all_plain place_at places_from places ln_sum ln_sums covered score_in all_covered apart_from best_ending best_before strongest backwards
 not_in_the_mirror = refl
 
--- ---- Refusals, with 7 codes, 4 scan counts and a tile lent.
-taken : refusal (ask aaagccc (interval 0 7 ∷ []) 0) 7 4 1 ≡ 0
+-- ---- Refusals, with 7 codes, 4 numbers, 4,103 places and a tile lent.
+taken : refusal (ask aaagccc (interval 0 7 ∷ []) 0) 7 4 4103 1 ≡ 0
 unfolding any_byte too_short_of too_wide largest any_bad_region
 taken = refl
 
 -- A region that ends past the letters, and one that is empty, before a short buffer.
-number_16 : refusal (ask aaagccc (interval 0 7 ∷ interval 3 8 ∷ []) 0) 6 4 1 ≡ 16
+number_16 : refusal (ask aaagccc (interval 0 7 ∷ interval 3 8 ∷ []) 0) 6 4 4103 1 ≡ 16
 unfolding any_byte too_short_of too_wide largest any_bad_region
 number_16 = refl
 
-number_16_empty : refusal (ask aaagccc (interval 3 3 ∷ []) 0) 7 4 1 ≡ 16
+number_16_empty : refusal (ask aaagccc (interval 3 3 ∷ []) 0) 7 4 4103 1 ≡ 16
 unfolding any_byte too_short_of too_wide largest any_bad_region
 number_16_empty = refl
 
-number_11 : refusal (ask aaagccc (interval 0 7 ∷ []) 0) 6 4 1 ≡ 11
+number_11 : refusal (ask aaagccc (interval 0 7 ∷ []) 0) 6 4 4103 1 ≡ 11
 unfolding any_byte too_short_of too_wide largest any_bad_region
 number_11 = refl

@@ -1,11 +1,14 @@
 pub mod Ranking
 pub mod Choosing
 pub mod Ends
-pub mod Steps
 pub mod Orders
 pub mod Turning
-pub mod Leaving
-pub mod Sampling
+pub mod Gains
+pub mod Linking
+pub mod Counting
+pub mod Offering
+pub mod Rowing
+pub mod Scanning
 pub mod Shown
 pub mod Same
 pub mod Taking

@@ -1,5 +1,5 @@
 -- The request's checks, read from the front; the first that fails decides.
-use Rattle.std.specs.Prelude.{ℕ, ◌+◌, ◌/◌, Bool, false, ◌||◌, List, [], ◌∷◌, ltb, leb, length}
+use Rattle.std.specs.Prelude.{ℕ, ◌+◌, ◌*◌, ◌/◌, Bool, false, ◌||◌, List, [], ◌∷◌, ltb, leb, length}
 use Rattle.checks.specs.Checks.{Check, check, first}
 use Rattle.checks.specs.Tests.{kmer_outside, any_high, any_other, too_few_letters, window_below, window_above, too_many_letters}
 use Rattle.intervals.specs.declared.Interval.{Interval}
@@ -18,8 +18,12 @@ any_bad_region n (i ∷ is) = bad_region n i || any_bad_region n is
 abbrev pub n_tiles : Asked → ℕ
 n_tiles A = length A.sequence / (A.window_size + 4096) + 1
 
-abbrev pub checks : Asked → ℕ → ℕ → ℕ → List Check
-checks A codes_len counts_len tiles_len =
+-- How many places are lent at least: those of a tile's ends, and those before them that its stretches may have.
+abbrev pub n_places : Asked → ℕ
+n_places A = 2 * A.window_size + 4096 + A.kmer
+
+abbrev pub checks : Asked → ℕ → ℕ → ℕ → ℕ → List Check
+checks A codes_len newest_len places_len tiles_len =
     let n : ℕ = length A.sequence in
     let k : ℕ = A.kmer in
     let w : ℕ = A.window_size in
@@ -31,10 +35,10 @@ checks A codes_len counts_len tiles_len =
     ∷ check 5 (window_above w)  -- w is above 65,535.
     ∷ check 10 (too_many_letters n)  -- n is above 2,147,483,647.
     ∷ check 16 (any_bad_region n A.regions)  -- A region is empty or ends past n.
-    ∷ check 11 (too_short_of n k w (length A.ln) (length A.f) codes_len counts_len || ltb tiles_len (n_tiles A))  -- A lent buffer is shorter than listed.
+    ∷ check 11 (too_short_of n k w (length A.ln) (length A.f) codes_len newest_len || ltb places_len (n_places A) || ltb tiles_len (n_tiles A))  -- A lent buffer is shorter than listed.
     ∷ check 20 (too_wide w A.threshold A.ln A.f)  -- T or a table entry of 1..w is outside its width.
     ∷ []
 
 -- The number of the first check that fails; 0 if none does.
-abbrev pub refusal : Asked → ℕ → ℕ → ℕ → ℕ
-refusal A codes_len counts_len tiles_len = first (checks A codes_len counts_len tiles_len)
+abbrev pub refusal : Asked → ℕ → ℕ → ℕ → ℕ → ℕ
+refusal A codes_len newest_len places_len tiles_len = first (checks A codes_len newest_len places_len tiles_len)

@@ -1,6 +1,7 @@
 pub mod Codes
 pub mod Best
 pub mod Tiles
-pub mod Leaving
-pub mod Sampling
+pub mod Blocks
+pub mod Linked
+pub mod Rows
 pub mod Listed

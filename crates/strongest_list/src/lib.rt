@@ -3,21 +3,25 @@
 #![tactic(auto)]
 
 mod barring;
+mod blocks;
+mod linked;
 mod refusals;
+mod rows;
 mod search;
 mod tiles;
 
 ghost use Rattle.std.specs.Prelude.{◌≡◌, ◌^◌, ◌≤◌, ◌<◌, [], length, IfOk, OnErr};
 ghost use Rattle.buffers.specs.Fill.{put};
 ghost use Rattle.buffers.specs.Free.{Free};
-ghost use Rattle.checks.specs.Refusal.{number_of};
+ghost use Rattle.checks.specs.Refusal.{number_of, count_of, count_unless};
 ghost use Rattle.strongest_list.specs.Call.{asked_of, entries, letters_of, scores_of};
-ghost use Rattle.strongest_list.specs.Checks.{n_tiles, refusal};
+ghost use Rattle.strongest_list.specs.Checks.{n_places, n_tiles, refusal};
 ghost use Rattle.strongest_list.specs.Terms.Codes.{Shows};
 ghost use Rattle.strongest_list.specs.Terms.Best.{Searchable};
 ghost use Rattle.strongest_list.specs.Terms.Listed.{Answers};
 
 use crate::barring::{bar, show_regions};
+pub use crate::linked::LinkedPlace;
 use crate::refusals::check;
 pub use crate::tiles::Tile;
 use crate::tiles::{mark, next_best, start_tiles};
@@ -47,21 +51,24 @@ pub struct Request<'a> {
 fn list_strongest(
     request: &Request,
     codes: &mut [u8],
-    scan_counts: &mut [u16],
+    newest: &mut [u32],
+    places: &mut [LinkedPlace],
     tiles: &mut [Tile],
     letters: &mut [Interval],
     scores: &mut [i64],
 ) -> usize
-    requires searchable { Searchable request.now (length scan_counts.old) }
+    requires searchable { Searchable request.now }
+    requires newest { length newest.old ≡ 4 ^ request.now.kmer }
+    requires places { length places.old ≡ n_places (asked_of request.now) }
     requires shows { Shows (asked_of request.now) [] codes.old }
     requires few { length request.now.sequence.now ≤ 2147483647 }
     requires tiles { length tiles.old ≡ n_tiles (asked_of request.now) }
     ensures { Answers (asked_of request.now) letters.old letters.new scores.old scores.new result }
 {
     let most = letters.len().min(scores.len());
-    start_tiles(request, codes, scan_counts, tiles);
+    start_tiles(request, codes, newest, places, tiles);
     for i in 0..most {
-        match next_best(request, codes, scan_counts, tiles) {
+        match next_best(request, codes, newest, places, tiles) {
             None => return i,
             Some(best) => {
                 let from = (best.first + 1).saturating_sub(request.kmer);
@@ -81,13 +88,14 @@ fn list_strongest(
 
 /// The strongest stretches inside the regions, in the order found, as letters and scores; the answer is their number, at most the length of the shorter list.
 /// Entries past that number do not change. Scores are in units of 2^-32.
-/// `codes`, `scan_counts` and `tiles` are work space: n bytes, 4^k counts and n / (w + 4096) + 1 tiles, whatever they hold.
+/// `codes`, `newest`, `places` and `tiles` are work space: n bytes, 4^k numbers, 2 w + 4096 + k places and n / (w + 4096) + 1 tiles, whatever they hold.
 /// Refused with 1 2 13 3 4 5 10 as the masking calls are, 16 for a region that is empty or ends past n, 11 for a short buffer, 20 for T or a table entry outside its width;
 /// nothing is changed then.
 pub fn strongest_stretches(
     request: &Request,
     codes: &mut [u8],
-    scan_counts: &mut [u16],
+    newest: &mut [u32],
+    places: &mut [LinkedPlace],
     tiles: &mut [Tile],
     letters: &mut [Interval],
     scores: &mut [i64],
@@ -99,23 +107,36 @@ pub fn strongest_stretches(
     ensures scores { let found = entries (asked_of request.now) letters.old scores.old in
         IfOk result (λ _. scores.new ≡ put (scores_of (asked_of request.now) found) scores.old) }
     ensures codes { IfOk result (λ _. Free (length request.now.sequence.now) codes.old codes.new) }
-    ensures scan_counts { IfOk result (λ _. Free (4 ^ request.now.kmer) scan_counts.old scan_counts.new) }
+    ensures newest { IfOk result (λ _. Free (4 ^ request.now.kmer) newest.old newest.new) }
+    ensures places { IfOk result (λ _. Free (n_places (asked_of request.now)) places.old places.new) }
     ensures tiles { IfOk result (λ _. Free (n_tiles (asked_of request.now)) tiles.old tiles.new) }
     ensures refusal { number_of result
-        ≡ refusal (asked_of request.now) (length codes.old) (length scan_counts.old) (length tiles.old) }
-    ensures err { OnErr result ((codes.new ≡ codes.old) × (scan_counts.new ≡ scan_counts.old)
+        ≡ refusal (asked_of request.now) (length codes.old) (length newest.old) (length places.old) (length tiles.old) }
+    ensures values { let found = entries (asked_of request.now) letters.old scores.old in
+        count_of result
+        ≡ count_unless (refusal (asked_of request.now) (length codes.old) (length newest.old) (length places.old) (length tiles.old))
+        (length found) }
+    ensures err { OnErr result ((codes.new ≡ codes.old) × (newest.new ≡ newest.old) × (places.new ≡ places.old)
         × (tiles.new ≡ tiles.old) × (letters.new ≡ letters.old) × (scores.new ≡ scores.old)) }
 {
-    check(request, codes.len(), scan_counts.len(), tiles.len())?;
+    check(
+        request,
+        codes.len(),
+        newest.len(),
+        places.len(),
+        tiles.len(),
+    )?;
     let n = request.sequence.len();
     let size = n_kmers(request.kmer);
     let n_tiles = n / (request.window_size + 4096) + 1;
+    let n_places = 2 * request.window_size + 4096 + request.kmer;
     let part = &mut codes[..n];
     show_regions(request, part);
     let count = list_strongest(
         request,
         part,
-        &mut scan_counts[..size],
+        &mut newest[..size],
+        &mut places[..n_places],
         &mut tiles[..n_tiles],
         letters,
         scores,

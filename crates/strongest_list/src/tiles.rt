@@ -1,10 +1,13 @@
 // The ends of a contig in tiles. Letters only become barred, so a tile's best bounds it for ever, and is stale once an entry shares or touches a letter of it.
 
-ghost use Rattle.std.specs.Prelude.{◌≡◌, ◌+◌, ◌*◌, ◌/◌, ◌≤◌, false, length};
+ghost use Rattle.std.specs.Prelude.{◌≡◌, ◌+◌, ◌*◌, ◌/◌, ◌^◌, ◌≤◌, false, length};
+ghost use Rattle.strongest_list.specs.Call.{asked_of};
+ghost use Rattle.strongest_list.specs.Checks.{n_places};
 ghost use Rattle.strongest_list.specs.Terms.Best.{Before, Small, Picks, Searchable};
 ghost use Rattle.strongest_list.specs.Terms.Tiles.{span, true_score, Agrees, tile_of, candidate_of, TileKnows, Knows, AllScored, Top, tile_beats, stale_at, best_at, staled, Staled, AllFit};
 
 use crate::Request;
+use crate::linked::LinkedPlace;
 use crate::search::{Candidate, best_between};
 
 /// The best stretch that ends in a tile, or ended in it before letters were barred; none where `size` is 0.
@@ -70,8 +73,16 @@ impl Tile {
 }
 
 // Searches the ends of tile t.
-fn search_tile(request: &Request, codes: &[u8], scan_counts: &mut [u16], t: usize) -> Tile
-    requires searchable { Searchable request.now (length scan_counts.old) }
+fn search_tile(
+    request: &Request,
+    codes: &[u8],
+    newest: &mut [u32],
+    places: &mut [LinkedPlace],
+    t: usize,
+) -> Tile
+    requires searchable { Searchable request.now }
+    requires newest { length newest.old ≡ 4 ^ request.now.kmer }
+    requires places { length places.old ≡ n_places (asked_of request.now) }
     requires agrees { Agrees request.now codes.now }
     requires inside { t * span request.now ≤ length codes.now }
     requires few { length codes.now ≤ 2147483647 }
@@ -82,7 +93,7 @@ fn search_tile(request: &Request, codes: &[u8], scan_counts: &mut [u16], t: usiz
     let span = request.window_size + 4096;
     let lo = t * span;
     let hi = codes.len().min(lo + span);
-    tile_of(best_between(request, codes, scan_counts, lo, hi))
+    tile_of(best_between(request, codes, newest, places, lo, hi))
 }
 
 // The tile whose best no other beats; the number of tiles if none has a best.
@@ -134,15 +145,23 @@ fn best_of(tiles: &[Tile], t: usize) -> Option<Candidate>
 }
 
 // Searches all tiles.
-pub fn start_tiles(request: &Request, codes: &[u8], scan_counts: &mut [u16], tiles: &mut [Tile])
-    requires searchable { Searchable request.now (length scan_counts.old) }
+pub fn start_tiles(
+    request: &Request,
+    codes: &[u8],
+    newest: &mut [u32],
+    places: &mut [LinkedPlace],
+    tiles: &mut [Tile],
+)
+    requires searchable { Searchable request.now }
+    requires newest { length newest.old ≡ 4 ^ request.now.kmer }
+    requires places { length places.old ≡ n_places (asked_of request.now) }
     requires agrees { Agrees request.now codes.now }
     requires few { length codes.now ≤ 2147483647 }
     requires count { length tiles.old ≡ length codes.now / span request.now + 1 }
     ensures { Knows request.now codes.now tiles.new }
 {
     for t in 0..tiles.len() {
-        tiles[t] = search_tile(request, codes, scan_counts, t);
+        tiles[t] = search_tile(request, codes, newest, places, t);
     }
 }
 
@@ -150,10 +169,13 @@ pub fn start_tiles(request: &Request, codes: &[u8], scan_counts: &mut [u16], til
 pub fn next_best(
     request: &Request,
     codes: &[u8],
-    scan_counts: &mut [u16],
+    newest: &mut [u32],
+    places: &mut [LinkedPlace],
     tiles: &mut [Tile],
 ) -> Option<Candidate>
-    requires searchable { Searchable request.now (length scan_counts.old) }
+    requires searchable { Searchable request.now }
+    requires newest { length newest.old ≡ 4 ^ request.now.kmer }
+    requires places { length places.old ≡ n_places (asked_of request.now) }
     requires agrees { Agrees request.now codes.now }
     requires few { length codes.now ≤ 2147483647 }
     requires knows { Knows request.now codes.now tiles.old }
@@ -162,7 +184,7 @@ pub fn next_best(
 {
     let mut t = top(request, tiles);
     'again: while is_stale(tiles, t) {
-        tiles[t] = search_tile(request, codes, scan_counts, t);
+        tiles[t] = search_tile(request, codes, newest, places, t);
         t = top(request, tiles);
     }
     best_of(tiles, t)

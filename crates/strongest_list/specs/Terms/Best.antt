@@ -1,14 +1,10 @@
 -- Terms of contracts: the best of a set of stretches, as a search has it at hand.
-use Rattle.std.specs.Prelude.{◌≡◌, ℕ, ◌+◌, ◌-◌, ◌≤◌, ◌<◌, ◌^◌, min, true, false, ◌&&◌, ◌||◌, cond, List, ltb, leb, eqb, length, get_or, Option, None, Some, option_map, ℤ, pos, ◌-ℤ◌}
+use Rattle.std.specs.Prelude.{◌≡◌, ℕ, ◌+◌, ◌≤◌, ◌<◌, true, false, List, length, get_or, Option, None, Some, option_map, ℤ, pos, ◌-ℤ◌}
 use Rattle.std.specs.Int.Signed.{lt_z}
-use Rattle.letters.specs.Place.{places}
-use Rattle.scans.specs.Score.{ln_sums, stretch}
-use Rattle.strongest.specs.Strongest.{entry, best_of}
 use Rattle.strongest.specs.Terms.Reading.{Narrow}
 use Rattle.strongest_list.specs.declared.Request.{Request}
 use Rattle.strongest_list.specs.declared.search.Candidate.{Candidate}
-use Rattle.strongest_list.specs.declared.search.EndReading.{EndReading}
-use Rattle.strongest_list.specs.Stretches.{Stretch, ending, score_in, beats}
+use Rattle.strongest_list.specs.Stretches.{Stretch, score_in, beats}
 
 -- No stretch of the set P beats x; none at all is in P.
 abbrev pub Chosen : (Stretch → ℤ) → (Stretch → Type 0) → Option Stretch → Type 0
@@ -58,37 +54,10 @@ pub record Picks (score : Stretch → ℤ) (P : Stretch → Type 0) (o : Option 
   pub chosen : Chosen score P (option_map stretch_of o)
   pub exact : AllExact score o
 
--- How many places the longest free stretch up to place b has, of at most w, after `run` free letters in a row.
-abbrev pub steps_of : ℕ → ℕ → ℕ → ℕ → ℕ
-steps_of k w b run = min w (cond (eqb run (b + 1)) run (run + 1 - k))
-
--- The best of the stretches of 1 to m places up to place b, and what all m places gain.
-pub record ReadsEnd (q : Request) (cs : List ℕ) (b m : ℕ) (r : EndReading) : Type 0 where
-  pub size : r.best.size ≡ best_of (λ l. score_of_codes q cs (ending b l)) m
-  pub is : score_of_codes q cs (ending b r.best.size) ≡ pos r.best.gain -ℤ pos r.best.loss
-  pub gain_small : r.best.gain < 9007199254740992
-  pub loss_small : r.best.loss < 9007199254740992
-  pub all : ln_sums (entry q.scoring.ln.now) (4 ^ q.kmer) (stretch (places q.kmer cs) (b + 1 - m) m) ≡ pos r.gain
-  pub all_small : r.gain < 9007199254740992
-
--- The best of them as a candidate, if it is above the floor.
-abbrev pub best_ending : Request → ℕ → EndReading → Option Candidate
-best_ending q b r =
-    cond (ltb q.floor (r.best.gain - r.best.loss))
-    (Some (record { first = b + 1 - r.best.size; size = r.best.size; gain = r.best.gain; loss = r.best.loss }))
-    None
-
--- The better of two, of which the new one ends later.
-abbrev pub better_of : Option Candidate → Option Candidate → Option Candidate
-better_of o None = o
-better_of None (Some n) = Some n
-better_of (Some o) (Some n) = cond (ltb (o.gain + n.loss) (n.gain + o.loss) || (leb (o.gain + n.loss) (n.gain + o.loss) && ltb o.size n.size)) (Some n) (Some o)
-
--- What the searches ask of a request and the buffers.
-pub record Searchable (q : Request) (counts_len : ℕ) : Type 0 where
+-- What the searches ask of a request.
+pub record Searchable (q : Request) : Type 0 where
   pub kmer_low : 1 ≤ q.kmer
   pub kmer_high : q.kmer ≤ 12
   pub window_low : 0 < q.window_size
   pub window_high : q.window_size ≤ 65535
   pub narrow : Narrow q.scoring.threshold q.scoring.ln.now q.scoring.f.now q.window_size
-  pub counts_is : counts_len ≡ 4 ^ q.kmer
