@@ -20,12 +20,17 @@ target/address/%: FLAGS = -O1 -g -Werror -fsanitize=address,undefined,leak -fno-
 target/address/cisternpea: FLAGS += -DLONG_RECORD=40
 target/mask target/small target/api target/alone: FLAGS = -O2
 
+# The driver, under sanitizers and with small batches, so that small files have many; the worker beside it is a test's.
+target/address/driver/cisternpea: FLAGS = -O1 -g -Werror -fsanitize=address,undefined,leak -fno-sanitize-recover -DBATCH=4096
+target/address/driver/cisternpea-proved: FLAGS = -O1 -Werror -DHOST='"$(abspath target/host/cisternpea)"'
+DRIVER := $(addprefix target/address/driver/,cisternpea cisternpea-proved)
+
 HOST := Makefile include/longdust.h $(wildcard host/*.[ch])
 
 COMPILE = $(CC) $(1) -Wall -Wextra $(FLAGS) $(CFLAGS) -Iinclude $(filter %.c,$^) $(ARCHIVE) $(LDFLAGS)
 PROGRAM = $(call COMPILE,-std=c11 -D_XOPEN_SOURCE=700 $(WERROR) -pthread) -lz -o $@
 EXAMPLE = $(call COMPILE,-std=c99 -Werror) -o $@
-CHECKED := $(VARIANTS) target/mask target/small target/api target/address/mask target/address/small
+CHECKED := $(VARIANTS) $(DRIVER) target/mask target/small target/api target/address/mask target/address/small
 INSTALLED := bin/cisternpea include/longdust.h lib/liblongdust_c.a lib/pkgconfig/cisternpea.pc \
   share/man/man1/cisternpea.1 share/bash-completion/completions/cisternpea
 TO = '$(DESTDIR)$(PREFIX)'
@@ -44,6 +49,14 @@ $(ARCHIVE): $(wildcard dist/x86_64/*)
 $(VARIANTS): $(HOST) $(ARCHIVE)
 	@mkdir -p $(@D); $(NEEDS)
 	$(PROGRAM)
+
+target/address/driver/cisternpea: Makefile $(wildcard program/*.[ch])
+	@mkdir -p $(@D); $(NEEDS)
+	$(CC) -std=c11 -D_GNU_SOURCE -Wall -Wextra -Wconversion -Wshadow $(FLAGS) $(CFLAGS) $(filter %.c,$^) $(LDFLAGS) -lz -o $@
+
+target/address/driver/cisternpea-proved: tests/worker.c target/host/cisternpea
+	@mkdir -p $(@D)
+	$(CC) -std=c11 -D_GNU_SOURCE -Wall -Wextra $(FLAGS) $(CFLAGS) $< $(LDFLAGS) -o $@
 
 target/alone: host/speed/alone.c $(filter-out host/main.c,$(HOST)) $(ARCHIVE)
 	@mkdir -p $(@D); $(NEEDS)

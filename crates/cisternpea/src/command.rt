@@ -3,159 +3,240 @@
 use clap::{Arg, ArgAction, Command};
 use std::alloc::{AllocError, Global};
 
+/// The version of the program.
+pub const VERSION: &str = "0.2.0";
+
 const ABOUT: &str = "Masks low-complexity letters of FASTA files.";
 
-const FORMS: &str = "What is written in place of BED, one of";
+const USAGE: &str = "cisternpea [OPTION..] [FILE..] > mask.bed";
+
+const FORMS: &str = "What is written, records in the order of the files; BED if none is given";
 
 const MASKER: &str = "The masker, by its own names and defaults";
 
+const RUN: &str = "How it runs";
+
 const NOTES: &str =
-    "A record's name runs to the first blank. Lines may end in CRLF; the CR is dropped.
+    "Several forms may be given, each with a file of its own; at most one is written to standard output, or to the file of -o.
+A record has at most 2,147,483,647 letters; its name runs to the first blank. Lines may end in CRLF; the CR is dropped.
 Letters are A to Z in either case, - and *; U counts as T.
 A record that is refused is named on standard error and left out, the others are done.
 Exit status: 0; 1 a record was refused; 2 a wrong option; 3 reading, writing or memory failed.";
 
+// An option with a value.
+fn value<'a>(alloc: Global, name: &'a str, shown: &'a str, help: &'a str) -> Arg<'a> {
+    Arg::new(alloc, name)
+        .long(name)
+        .value_name(shown)
+        .allow_hyphen_values(true)
+        .help(help)
+}
+
 // An option of the masker with a value.
-fn value<'a>(
+fn masker_value<'a>(
     alloc: Global,
     name: &'a str,
     shown: &'a str,
     default: &'a str,
     help: &'a str,
 ) -> Arg<'a> {
-    Arg::new(alloc, name)
-        .long(name)
-        .value_name(shown)
+    value(alloc, name, shown, help)
         .default_value(default)
-        .help(help)
         .help_heading(MASKER)
 }
 
-// An option of the masker without one.
+// An option without a value.
 fn flag<'a>(alloc: Global, name: &'a str, help: &'a str) -> Arg<'a> {
     Arg::new(alloc, name)
         .long(name)
         .action(ArgAction::SetTrue)
         .help(help)
-        .help_heading(MASKER)
 }
 
-// The options of the masker.
-fn masker<'a>(alloc: Global, command: Command<'a>) -> Result<Command<'a>, AllocError> {
-    let kmer = value(alloc, "kmer", "K", "7", "letters in a k-mer, 1 to 12").short('k');
-    let window = value(
+// The numbers of the masker.
+fn masker_numbers<'a>(alloc: Global, command: Command<'a>) -> Result<Command<'a>, AllocError> {
+    let kmer = masker_value(alloc, "kmer", "K", "7", "letters in a k-mer, 1 to 12");
+    let window = masker_value(
         alloc,
         "window-size",
         "W",
         "5000",
         "letters in a window, K + 1 to 65535",
-    )
-    .short('w');
-    let threshold = value(
+    );
+    let threshold = masker_value(
         alloc,
         "score-threshold",
         "T",
         "0.6",
         "above 0; higher masks less",
-    )
-    .short('T');
-    let gc = value(
+    );
+    let gc = masker_value(
         alloc,
         "gc",
         "HOW",
         "uniform",
         "uniform, auto (the record's own) or a fraction from 0 to 1",
     );
-    let xdrop = value(
+    command
+        .arg(kmer.short('k'))?
+        .arg(window.short('w'))?
+        .arg(threshold.short('T'))?
+        .arg(gc)
+}
+
+// The options of the masker.
+fn masker<'a>(alloc: Global, command: Command<'a>) -> Result<Command<'a>, AllocError> {
+    let xdrop = masker_value(
         alloc,
         "xdrop",
         "LENGTH|none",
         "50",
         "letters after which a fallen scan is cut short, 1 or more",
     );
-    let start = value(
+    let start = masker_value(
         alloc,
         "min-start-cnt",
         "N",
         "3",
         "occurrences of a k-mer that start a scan, 2 to 65535",
     );
-    command
-        .arg(kmer)?
-        .arg(window)?
-        .arg(threshold)?
-        .arg(gc)?
+    let approx = flag(alloc, "approx", "try only the first candidate of a scan");
+    let forward = flag(alloc, "forward-only", "leave out the reverse complement");
+    masker_numbers(alloc, command)?
         .arg(xdrop)?
         .arg(start)?
-        .arg(flag(alloc, "approx", "try only the first candidate of a scan"))?
-        .arg(flag(alloc, "forward-only", "leave out the reverse complement"))
+        .arg(approx.help_heading(MASKER))?
+        .arg(forward.help_heading(MASKER))
 }
 
-// A form without a value.
+// A form whose file may follow behind an equals sign.
 fn form<'a>(alloc: Global, name: &'a str, help: &'a str) -> Arg<'a> {
     Arg::new(alloc, name)
         .long(name)
-        .action(ArgAction::SetTrue)
+        .value_name("FILE")
+        .num_args(0..=1)
+        .require_equals(true)
+        .default_missing_value("-")
+        .action(ArgAction::Append)
         .help(help)
         .help_heading(FORMS)
 }
 
-// The forms that are tables of shares.
-fn tables<'a>(alloc: Global, command: Command<'a>) -> Result<Command<'a>, AllocError> {
-    let summary = form(
-        alloc,
-        "summary",
-        "a table: name, letters, intervals, masked letters, masked share",
-    );
-    let bedgraph = Arg::new(alloc, "bedgraph")
-        .long("bedgraph")
-        .value_name("SIZE")
-        .help("the masked share of each block of SIZE letters")
-        .help_heading(FORMS);
-    command
-        .arg(summary.conflicts_with("bedgraph")?)?
-        .arg(bedgraph)
+// A form with a value, behind which its file may follow.
+fn form_value<'a>(alloc: Global, name: &'a str, shown: &'a str, help: &'a str) -> Arg<'a> {
+    value(alloc, name, shown, help)
+        .action(ArgAction::Append)
+        .help_heading(FORMS)
 }
 
-// The forms, of which one may be given.
+// The forms.
 fn forms<'a>(alloc: Global, command: Command<'a>) -> Result<Command<'a>, AllocError> {
+    let bed = form(
+        alloc,
+        "bed",
+        "BED: name, start, end (from 0, the end not included)",
+    );
     let marks = form(
         alloc,
         "marks",
-        "BED with three columns more: the strands that saw the interval in words, 0, and + or - or . for both",
+        "BED with three columns more: the strands that saw the interval in words (forward, reverse, both), 0, and + or - or . for both",
     );
     let soft = form(
         alloc,
         "soft",
         "FASTA, masked letters in lower case, the others as they came",
     );
-    let hard = Arg::new(alloc, "hard")
-        .long("hard")
-        .value_name("N|X")
-        .help("FASTA, N or X for each masked letter")
-        .help_heading(FORMS);
-    let marks = marks
-        .conflicts_with("soft")?
-        .conflicts_with("hard")?
-        .conflicts_with("summary")?
-        .conflicts_with("bedgraph")?;
-    let soft = soft
-        .conflicts_with("hard")?
-        .conflicts_with("summary")?
-        .conflicts_with("bedgraph")?;
-    let hard = hard.conflicts_with("summary")?.conflicts_with("bedgraph")?;
-    tables(alloc, command.arg(marks)?.arg(soft)?.arg(hard)?)
+    let hard = form_value(
+        alloc,
+        "hard",
+        "N|X[:FILE]",
+        "FASTA, N or X for each masked letter",
+    );
+    let summary = form(
+        alloc,
+        "summary",
+        "a table: name, letters, intervals, masked letters, masked share",
+    );
+    let bedgraph = form_value(
+        alloc,
+        "bedgraph",
+        "SIZE[:FILE]",
+        "the masked share of each block of SIZE letters",
+    );
+    command
+        .arg(bed)?
+        .arg(marks)?
+        .arg(soft)?
+        .arg(hard)?
+        .arg(summary)?
+        .arg(bedgraph)
 }
 
-// The whole.
+// How it runs.
+fn running<'a>(alloc: Global, command: Command<'a>) -> Result<Command<'a>, AllocError> {
+    let output = value(
+        alloc,
+        "output",
+        "FILE",
+        "the file of the form that is given none",
+    );
+    let threads = value(
+        alloc,
+        "threads",
+        "N",
+        "threads that mask, 1 to 1024 (as many as the process may use)",
+    );
+    let memory = value(
+        alloc,
+        "memory",
+        "SIZE",
+        "bytes that the run may hold, as 500M or 1.5G (half of what the process may use)",
+    );
+    let quiet = flag(
+        alloc,
+        "quiet",
+        "no progress and no closing line; they come on a terminal only",
+    );
+    command
+        .arg(output.short('o').help_heading(RUN))?
+        .arg(threads.short('t').help_heading(RUN))?
+        .arg(memory.help_heading(RUN))?
+        .arg(quiet.short('q').help_heading(RUN))
+}
+
+// What a part of a file is told of the whole.
+fn parts<'a>(alloc: Global, command: Command<'a>) -> Result<Command<'a>, AllocError> {
+    command
+        .arg(value(
+            alloc,
+            "source",
+            "NAME",
+            "the file that standard input is a part of",
+        )
+        .hide(true))?
+        .arg(value(
+            alloc,
+            "offset",
+            "BYTES",
+            "bytes of the file before this part",
+        )
+        .hide(true))
+}
+
+/// The whole.
 pub fn command<'a>(alloc: Global) -> Result<Command<'a>, AllocError> {
     let files = Arg::new(alloc, "FILE").num_args(0..).help(
         "FASTA files, read in turn; standard input for - or for no file",
     );
     let command = Command::new(alloc, "cisternpea")
-        .version("0.1.0")
+        .version(VERSION)
         .about(ABOUT)
+        .override_usage(USAGE)
         .after_help(NOTES)
+        .args_override_self(true)
         .arg(files)?;
-    masker(alloc, forms(alloc, command)?)
+    parts(
+        alloc,
+        running(alloc, masker(alloc, forms(alloc, command)?)?)?,
+    )
 }

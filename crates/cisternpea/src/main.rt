@@ -1,124 +1,106 @@
-// The program: the command line, the files, and a status. What is written for a file is `forms::put_file`'s.
+// The program: the command line, a plan of it or the files, and a status. What is written for a file is `forms::put_file`'s.
 
 #![tactic(auto)]
 
+mod budget;
 mod command;
+mod files;
 mod notes;
+mod outputs;
+mod planning;
 mod request;
+mod said_of_files;
 mod saying;
+mod sink;
 mod values;
+mod watched;
 
-use entries::Failed;
-use notes::Notes;
+use clap::ArgMatches;
 use request::{Request, read_request};
-use std::fs::File;
-use std::io::{BufRead, BufReader, BufWriter, Write};
+use std::io::IsTerminal;
 use std::process::ExitCode;
 
-const STATUS_DONE: u8 = 0;
+// Whether there is a file to read, or standard input is no terminal; else a line says so.
+fn has_input(rt: &HostRuntime, matches: &ArgMatches, request: &Request) -> bool {
+    if matches.get_raw("FILE").is_some() | request.part.is_some() {
+        return true;
+    }
+    if rt.stdin().is_terminal() {
+        let _ = eprintln!(rt; "cisternpea: name a FASTA file; --help says more");
+        return false;
+    }
+    true
+}
 
-const STATUS_REFUSED: u8 = 1;
-
-const STATUS_USAGE: u8 = 2;
-
-const STATUS_FAILED: u8 = 3;
-
-const ROOM: usize = 65536;
-
-// Masks the records that the reader gives: the status.
-fn mask_reader<R: BufRead, W: Write>(
-    rt: &HostRuntime,
-    name: &str,
-    reader: &mut R,
-    request: &Request,
-    outs: &mut [W],
-) -> u8 {
-    let mut notes = Notes { inner: rt.stderr() };
-    match forms::put_file(
-        rt.alloc(),
-        reader,
-        true,
-        &[request.form],
-        request.options,
-        outs,
-        &mut notes,
-    ) {
-        Ok(true) => STATUS_DONE,
-        Ok(false) => STATUS_REFUSED,
-        Err(failed) => {
-            saying::say_failed(rt, name, failed);
-            STATUS_FAILED
-        }
+// Says which options lie outside the ranges that the bounds of the masker hold for.
+fn warn(rt: &HostRuntime, request: &Request) {
+    let threshold = request.options.score_threshold;
+    if 16.0 < threshold {
+        let _ = eprintln!(rt;
+            "cisternpea: --score-threshold {threshold}: above 16 it is not promised that no better stretch is masked"
+        );
     }
 }
 
-// Masks the records of the file with this name; `-` is standard input.
-fn mask_file<W: Write>(
+// Writes the plan to the file: the status.
+fn write_plan(
     rt: &HostRuntime,
-    name: &str,
+    path: &str,
+    matches: &ArgMatches,
     request: &Request,
-    outs: &mut [W],
-) -> std::io::Result<u8> {
-    if name == "-" {
-        let mut reader = BufReader::with_capacity(rt.alloc(), ROOM, rt.stdin())?;
-        return Ok(mask_reader(rt, "standard input", &mut reader, request, outs));
-    }
-    match File::open(rt, name) {
-        Ok(file) => {
-            let mut reader = BufReader::with_capacity(rt.alloc(), ROOM, file)?;
-            Ok(mask_reader(rt, name, &mut reader, request, outs))
-        }
+) -> anyhow::Result<u8> {
+    let text = planning::plan(rt.alloc(), matches, request)?;
+    match std::fs::write(rt, path, text.as_slice()) {
+        Ok(()) => Ok(files::DONE),
         Err(e) => {
-            saying::say_error(rt, name, e);
-            Ok(STATUS_FAILED)
+            saying::say_error(rt, path, e);
+            Ok(files::FAILED)
         }
     }
 }
 
-// Masks the files in turn, up to the first that fails: the highest status.
-fn mask_files<W: Write>(
-    rt: &HostRuntime,
-    names: &[&str],
-    request: &Request,
-    outs: &mut [W],
-) -> std::io::Result<u8> {
-    let mut status = STATUS_DONE;
-    for name in names {
-        status = status.max(mask_file(rt, name, request, outs)?);
-        if status == STATUS_FAILED {
-            break;
-        }
-    }
-    Ok(status)
-}
-
-// The status of the whole run.
-fn run(rt: &HostRuntime) -> anyhow::Result<u8> {
+// The status of a run with these words; with a file for its plan, the plan alone is made.
+fn run_words(rt: &HostRuntime, words: &[String], plan: Option<&str>) -> anyhow::Result<u8> {
     let alloc = rt.alloc();
-    let words: Vec<String> = std::env::args(rt)?.collect(alloc)?;
-    let matches = match command::command(alloc)?.try_get_matches_from(words.as_slice()) {
+    let matches = match command::command(alloc)?.try_get_matches_from(words) {
         Ok(matches) => matches,
-        Err(error) => {
-            error.print(rt)?;
-            return Ok(error.exit_code() as u8);
+        Err(error) => return Ok(saying::say_parse(rt, error)),
+    };
+    let request = match read_request(rt, alloc, &matches)? {
+        Some(request) => request,
+        None => return Ok(files::USAGE),
+    };
+    if !has_input(rt, &matches, &request) {
+        return Ok(files::USAGE);
+    }
+    if request.part.is_none() {
+        warn(rt, &request);
+    }
+    match plan {
+        Some(path) => write_plan(rt, path, &matches, &request),
+        None => {
+            let names = matches.get_raw("FILE").unwrap_or(&["-"]);
+            Ok(files::mask(rt, names, &request)?)
+        }
+    }
+}
+
+// The status of the whole run. As a first word, `--plan FILE` asks for the plan of the words behind it.
+fn run(rt: &HostRuntime) -> anyhow::Result<u8> {
+    let words: Vec<String> = match std::env::args(rt) {
+        Ok(words) => words.collect(rt.alloc())?,
+        Err(e) => {
+            saying::say_error(rt, "a word of the command line", e);
+            return Ok(files::USAGE);
         }
     };
-    let request = match read_request(rt, &matches) {
-        Some(request) => request,
-        None => return Ok(STATUS_USAGE),
-    };
-    let mut outs = [BufWriter::with_capacity(alloc, ROOM, rt.stdout())?];
-    if let Err(e) = forms::put_heads(&[request.form], &mut outs) {
-        saying::say_error(rt, "cannot write", e);
-        return Ok(STATUS_FAILED);
+    let words = words.as_slice();
+    if 2 < words.len() {
+        if words[1].as_str() == "--plan" {
+            return run_words(rt, &words[2..], Some(words[2].as_str()));
+        }
     }
-    let names = matches.get_raw("FILE").unwrap_or(&["-"]);
-    let status = mask_files(rt, names, &request, &mut outs)?;
-    if let Err(e) = outs[0].flush() {
-        saying::say_error(rt, "cannot write", e);
-        return Ok(STATUS_FAILED);
-    }
-    Ok(status)
+    run_words(rt, words, None)
 }
 
 fn main(rt: HostRuntime) -> anyhow::Result<ExitCode> {
@@ -126,7 +108,7 @@ fn main(rt: HostRuntime) -> anyhow::Result<ExitCode> {
         Ok(status) => Ok(ExitCode::from(status)),
         Err(e) => {
             let _ = eprintln!(rt; "cisternpea: {e}");
-            Ok(ExitCode::from(STATUS_FAILED))
+            Ok(ExitCode::from(files::FAILED))
         }
     }
 }

@@ -1,16 +1,38 @@
 // What a command line asks for.
 
-use crate::saying::say;
+use crate::outputs::{Output, read_outputs};
 use crate::values::{fraction, whole};
 use clap::ArgMatches;
-use forms::Form;
 use longdust::LongdustOptions;
+use std::alloc::{AllocError, Global};
 use tables::GcOption;
 
+/// A part of a file, from standard input.
+#[derive(Clone, Copy)]
+pub struct Part<'a> {
+    /// The file, as the user named it.
+    pub source: &'a str,
+    /// Bytes of the file before this part.
+    pub offset: u64,
+}
+
+/// What a command line asks for.
 #[derive(Drop)]
-pub struct Request {
-    pub form: Form,
+pub struct Request<'a> {
+    /// The outputs, that without a file first.
+    pub outputs: Vec<Output<'a>>,
+    /// The file of the output without one; none is standard output.
+    pub output: Option<&'a str>,
+    /// The options of the masker.
     pub options: LongdustOptions,
+    /// Threads asked for.
+    pub threads: Option<u64>,
+    /// Bytes that the run may hold.
+    pub memory: Option<u64>,
+    /// No progress, no closing line.
+    pub quiet: bool,
+    /// The part of a file that this run is for.
+    pub part: Option<Part<'a>>,
 }
 
 // Says what the value of an option must be.
@@ -63,9 +85,9 @@ fn xdrop(rt: &HostRuntime, matches: &ArgMatches) -> Option<Option<u32>> {
     if text == "none" {
         return Some(None);
     }
-    match text.parse::<u32>() {
-        Ok(n) if 1 <= n => Some(Some(n)),
-        _ => {
+    match whole(text, 1, 4294967295) {
+        Some(n) => Some(Some(n.min(4294967295) as u32)),
+        None => {
             wrong(
                 rt,
                 "xdrop",
@@ -77,7 +99,7 @@ fn xdrop(rt: &HostRuntime, matches: &ArgMatches) -> Option<Option<u32>> {
     }
 }
 
-fn options(rt: &HostRuntime, matches: &ArgMatches) -> Option<LongdustOptions> {
+fn masker_options(rt: &HostRuntime, matches: &ArgMatches) -> Option<LongdustOptions> {
     let kmer = number(rt, matches, "kmer", 1, 12)?;
     let window = number(rt, matches, "window-size", 2, 65535)?;
     let start = number(rt, matches, "min-start-cnt", 2, 65535)?;
@@ -99,42 +121,67 @@ fn options(rt: &HostRuntime, matches: &ArgMatches) -> Option<LongdustOptions> {
     })
 }
 
-// N or X in place of each masked letter.
-fn hard(rt: &HostRuntime, text: &str) -> Option<Form> {
-    match text {
-        "N" => Some(Form::HardN),
-        "X" => Some(Form::HardX),
+// An option that may be left out: its number, as `read` reads it.
+fn threads(rt: &HostRuntime, matches: &ArgMatches) -> Option<Option<u64>> {
+    if matches.get_str("threads").is_none() {
+        return Some(None);
+    }
+    Some(Some(number(rt, matches, "threads", 1, 1024)?))
+}
+
+fn memory(rt: &HostRuntime, matches: &ArgMatches) -> Option<Option<u64>> {
+    let text = match matches.get_str("memory") {
+        Some(text) => text,
+        None => return Some(None),
+    };
+    match command_line::size(text.as_bytes()) {
+        Some(n) if 1 <= n => Some(Some(n)),
         _ => {
-            wrong(rt, "hard", text, "N or X");
+            wrong(
+                rt,
+                "memory",
+                text,
+                "a number of bytes above 0, or one with K, M, G or T, as 500M or 1.5G",
+            );
             None
         }
     }
 }
 
-fn form(rt: &HostRuntime, matches: &ArgMatches) -> Option<Form> {
-    if matches.get_flag("marks") {
-        return Some(Form::Marks);
-    }
-    if matches.get_flag("soft") {
-        return Some(Form::Soft);
-    }
-    if matches.get_flag("summary") {
-        return Some(Form::Summary);
-    }
-    if let Some(text) = matches.get_str("hard") {
-        return hard(rt, text);
-    }
-    if matches.get_str("bedgraph").is_some() {
-        let size = number(rt, matches, "bedgraph", 1, 2147483647)?;
-        return Some(Form::Bedgraph(size.min(2147483647) as u32));
-    }
-    Some(Form::Bed)
+fn asked_part<'a>(rt: &HostRuntime, matches: &ArgMatches<'a>) -> Option<Option<Part<'a>>> {
+    let source = match matches.get_str("source") {
+        Some(source) => source,
+        None => return Some(None),
+    };
+    let offset = number(rt, matches, "offset", 0, 9223372036854775807)?;
+    Some(Some(Part { source, offset }))
 }
 
-// None where a line on standard error says what is wrong.
-pub fn read_request(rt: &HostRuntime, matches: &ArgMatches) -> Option<Request> {
+// All but the outputs.
+fn with_outputs<'a>(
+    rt: &HostRuntime,
+    matches: &ArgMatches<'a>,
+    outputs: Vec<Output<'a>>,
+) -> Option<Request<'a>> {
     Some(Request {
-        form: form(rt, matches)?,
-        options: options(rt, matches)?,
+        outputs,
+        output: matches.get_str("output"),
+        options: masker_options(rt, matches)?,
+        threads: threads(rt, matches)?,
+        memory: memory(rt, matches)?,
+        quiet: matches.get_flag("quiet"),
+        part: asked_part(rt, matches)?,
     })
+}
+
+/// None where a line on standard error says what is wrong.
+pub fn read_request<'a>(
+    rt: &HostRuntime,
+    alloc: Global,
+    matches: &ArgMatches<'a>,
+) -> Result<Option<Request<'a>>, AllocError> {
+    match read_outputs(rt, alloc, matches)? {
+        Some(outputs) => Ok(with_outputs(rt, matches, outputs)),
+        None => Ok(None),
+    }
 }

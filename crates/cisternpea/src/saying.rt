@@ -1,7 +1,5 @@
 // Lines on standard error. One that cannot be written is let go.
 
-use entries::Failed;
-use fasta::Fault;
 use std::io::{Error, ErrorKind};
 
 // What failed, and why.
@@ -21,16 +19,35 @@ pub fn say_error(rt: &HostRuntime, what: &str, error: Error) {
     }
 }
 
-// Why a file was not done to its end.
-pub fn say_failed(rt: &HostRuntime, name: &str, failed: Failed) {
-    match failed {
-        Failed::Faulty(Fault::LettersFirst) => {
-            say(rt, name, "letters before the first name; is this FASTA?");
-        }
-        Failed::Faulty(Fault::EmptyName) => say(rt, name, "a record without a name"),
-        Failed::Reading(e) => say_error(rt, name, e),
-        Failed::Writing(e) => say_error(rt, "cannot write", e),
-        Failed::Saying(e) => say_error(rt, "cannot write", e),
-        Failed::NoMemory => say(rt, name, "no memory"),
+// The first line of what clap says.
+fn first_line(text: &str) -> &str {
+    let line = match text.split_once('\n') {
+        Some((line, _)) => line,
+        None => text,
+    };
+    match line.strip_prefix("error: ") {
+        Some(rest) => rest,
+        None => line,
     }
+}
+
+/// Help, the version, or one line of what is wrong with the command line: the status.
+pub fn say_parse(rt: &HostRuntime, error: clap::Error) -> u8 {
+    if !error.use_stderr() {
+        return match error.print(rt) {
+            Ok(()) => 0,
+            Err(e) => {
+                say_error(rt, "cannot write", e);
+                3
+            }
+        };
+    }
+    match format!(in rt.alloc(); "{error}") {
+        Ok(text) => {
+            let line = first_line(text.as_str());
+            let _ = eprintln!(rt; "cisternpea: {line}; --help says more");
+        }
+        Err(_) => say(rt, "the command line", "no memory"),
+    }
+    2
 }

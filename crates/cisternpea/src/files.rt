@@ -1,0 +1,298 @@
+// The files of a run, one after the other.
+
+use crate::budget::held_by;
+use crate::notes::Notes;
+use crate::request::Request;
+use crate::said_of_files::{advice, say_failed};
+use crate::saying;
+use crate::sink::{Sink, Target, open_file, settle};
+use crate::watched::{Place, Watched};
+use command_line::{Kind, kind_of};
+use entries::Failed;
+use forms::Form;
+use std::fs::File;
+use std::io::{BufRead, BufReader, BufWriter, Write};
+
+// The outputs: their forms, and a writer for each.
+#[derive(Drop)]
+struct Outs {
+    forms: Vec<Form>,
+    writers: Vec<BufWriter<Sink>>,
+}
+
+pub const DONE: u8 = 0;
+
+pub const REFUSED: u8 = 1;
+
+pub const USAGE: u8 = 2;
+
+pub const FAILED: u8 = 3;
+
+// A part of a file that stopped at a fault of the file.
+pub const FAULTY: u8 = 4;
+
+const ROOM: usize = 65536;
+
+// The status of a run that did not come to its end.
+fn failed_status(request: &Request, failed: &Failed) -> u8 {
+    match failed {
+        Failed::Faulty(_) if request.part.is_some() => FAULTY,
+        _ => FAILED,
+    }
+}
+
+// What the first bytes tell; none where they cannot be read.
+fn first_kind<R: BufRead>(reader: &mut R) -> Kind {
+    match reader.fill_buf() {
+        Ok(bytes) => kind_of(bytes),
+        Err(_) => Kind::Other,
+    }
+}
+
+// How many bytes stand up to the end of the first line.
+fn line_length(bytes: &[u8]) -> usize {
+    match bytes.iter().position(|byte| *byte == b'\n') {
+        Some(at) => at.saturating_add(1),
+        None => bytes.len(),
+    }
+}
+
+// Takes the rest of a record that does not fit: its bytes in all.
+fn take_record<R: BufRead>(reader: &mut Watched<R>) -> u64 {
+    reader.most = u64::MAX;
+    for _ in 0..u64::MAX {
+        let inside = reader.place.inside;
+        let n = match reader.fill_buf() {
+            Ok(shown) => {
+                if !inside & shown.starts_with(b">") {
+                    0
+                } else {
+                    line_length(shown)
+                }
+            }
+            Err(_) => 0,
+        };
+        if n == 0 {
+            break;
+        }
+        reader.consume(n);
+    }
+    reader.place.record
+}
+
+// Says that a record does not fit, and the memory that would do.
+fn say_full<R: BufRead>(rt: &HostRuntime, name: &str, request: &Request, reader: &mut Watched<R>) {
+    let line = reader.place.header;
+    let memory = request.memory.unwrap_or(0);
+    let needed = held_by(request).needed(take_record(reader));
+    let _ = eprintln!(rt;
+        "cisternpea: {name}: line {line}: the record does not fit --memory {memory}; it must be {needed} or more"
+    );
+}
+
+// Masks the records that the reader gives: the status.
+fn mask_reader<R: BufRead>(
+    rt: &HostRuntime,
+    name: &str,
+    reader: &mut Watched<R>,
+    request: &Request,
+    outs: &mut Outs,
+) -> u8 {
+    let mut notes = Notes { inner: rt.stderr() };
+    let result = forms::put_file(
+        rt.alloc(),
+        reader,
+        true,
+        outs.forms.as_slice(),
+        request.options,
+        outs.writers.as_mut_slice(),
+        &mut notes,
+    );
+    match result {
+        Ok(good) => {
+            if !reader.place.some & is_begin(request) {
+                saying::say(rt, name, "there is no record in it");
+            }
+            if good { DONE } else { REFUSED }
+        }
+        Err(failed) => {
+            let status = failed_status(request, &failed);
+            if reader.is_full() {
+                say_full(rt, name, request, reader);
+            } else {
+                say_failed(rt, name, request, reader.place, failed);
+            }
+            status
+        }
+    }
+}
+
+// Whether standard input is a file from its begin on.
+fn is_begin(request: &Request) -> bool {
+    match request.part {
+        Some(part) => part.offset == 0,
+        None => true,
+    }
+}
+
+// The most bytes of a record.
+fn most_bytes(request: &Request) -> u64 {
+    match request.memory {
+        Some(memory) if request.part.is_none() => held_by(request).most(memory),
+        _ => u64::MAX,
+    }
+}
+
+// The same for what may be no FASTA.
+fn mask_input<R: BufRead + Drop>(
+    rt: &HostRuntime,
+    name: &str,
+    mut reader: R,
+    request: &Request,
+    outs: &mut Outs,
+) -> u8 {
+    if is_begin(request) {
+        if let Some(advice) = advice(first_kind(&mut reader)) {
+            saying::say(rt, name, advice);
+            return if request.part.is_some() {
+                FAULTY
+            } else {
+                FAILED
+            };
+        }
+    }
+    let mut reader = Watched {
+        inner: reader,
+        place: Place::new(),
+        most: most_bytes(request),
+    };
+    mask_reader(rt, name, &mut reader, request, outs)
+}
+
+// Masks the records of the file with this name; `-` is standard input.
+fn mask_file(
+    rt: &HostRuntime,
+    name: &str,
+    request: &Request,
+    outs: &mut Outs,
+) -> std::io::Result<u8> {
+    if name == "-" {
+        let shown = match request.part {
+            Some(part) if part.source != "-" => part.source,
+            _ => "standard input",
+        };
+        let reader = BufReader::with_capacity(rt.alloc(), ROOM, rt.stdin())?;
+        return Ok(mask_input(rt, shown, reader, request, outs));
+    }
+    match File::open(rt, name) {
+        Ok(file) => {
+            let reader = BufReader::with_capacity(rt.alloc(), ROOM, file)?;
+            Ok(mask_input(rt, name, reader, request, outs))
+        }
+        Err(e) => {
+            saying::say_error(rt, name, e);
+            Ok(FAILED)
+        }
+    }
+}
+
+// Masks the files in turn, up to the first that fails: the highest status.
+fn mask_files(
+    rt: &HostRuntime,
+    names: &[&str],
+    request: &Request,
+    outs: &mut Outs,
+) -> std::io::Result<u8> {
+    let mut status = DONE;
+    for name in names {
+        status = status.max(mask_file(rt, name, request, outs)?);
+        if FAILED <= status {
+            break;
+        }
+    }
+    Ok(status)
+}
+
+// Writes what the writers hold back.
+fn flush_all<W: Write>(writers: &mut [W]) -> std::io::Result<()> {
+    for i in 0..writers.len() {
+        writers[i].flush()?;
+    }
+    Ok(())
+}
+
+// Heads, files, and what the writers hold back: the status.
+fn write_text(
+    rt: &HostRuntime,
+    names: &[&str],
+    request: &Request,
+    outs: &mut Outs,
+) -> std::io::Result<u8> {
+    if request.part.is_none() {
+        if let Err(e) = forms::put_heads(outs.forms.as_slice(), outs.writers.as_mut_slice()) {
+            saying::say_error(rt, "cannot write", e);
+            return Ok(FAILED);
+        }
+    }
+    let status = mask_files(rt, names, request, outs)?;
+    match flush_all(outs.writers.as_mut_slice()) {
+        Ok(()) => Ok(status),
+        Err(e) => {
+            saying::say_error(rt, "cannot write", e);
+            Ok(FAILED)
+        }
+    }
+}
+
+// The writer of an output; none where a line says why there is none.
+fn open_writer<'a>(
+    rt: &HostRuntime,
+    path: Option<&'a str>,
+    in_place: bool,
+    targets: &mut Vec<Target<'a>>,
+) -> std::io::Result<Option<BufWriter<Sink>>> {
+    let sink = match path {
+        None => Sink::Standard(rt.stdout()),
+        Some(path) => match open_file(rt, path, in_place, targets) {
+            Ok(sink) => sink,
+            Err(e) => {
+                saying::say_error(rt, path, e);
+                return Ok(None);
+            }
+        },
+    };
+    Ok(Some(BufWriter::with_capacity(rt.alloc(), ROOM, sink)?))
+}
+
+// The text of the files, to outputs some of which are written beside their places: the status.
+fn mask_to<'a>(
+    rt: &HostRuntime,
+    names: &[&str],
+    request: &Request<'a>,
+    targets: &mut Vec<Target<'a>>,
+) -> std::io::Result<u8> {
+    let mut outs = Outs {
+        forms: Vec::new(rt.alloc()),
+        writers: Vec::new(rt.alloc()),
+    };
+    for output in &request.outputs {
+        let path = output.file.or(request.output);
+        match open_writer(rt, path, request.part.is_some(), targets)? {
+            Some(writer) => outs.writers.push(writer)?,
+            None => return Ok(FAILED),
+        }
+        outs.forms.push(output.form)?;
+    }
+    write_text(rt, names, request, &mut outs)
+}
+
+/// Writes the text of the files: the status.
+pub fn mask(rt: &HostRuntime, names: &[&str], request: &Request) -> std::io::Result<u8> {
+    let mut targets = Vec::new(rt.alloc());
+    let status = mask_to(rt, names, request, &mut targets)?;
+    if let Err(e) = settle(rt, targets.as_slice(), status < USAGE) {
+        saying::say_error(rt, "cannot write", e);
+        return Ok(FAILED);
+    }
+    Ok(status)
+}

@@ -1,0 +1,5 @@
+pub mod Number
+pub mod Size
+pub mod Kind
+pub mod Held
+pub mod Plan

@@ -1,0 +1,114 @@
+/* The driver: runs the proved program, which has one thread and reads plain FASTA, on all cores. It does no text: it
+ * unpacks gzip, cuts the bytes where records begin, hands each batch to a process, a worker, and joins what they write
+ * in the file's order. One thread, no pipe, no lock: a batch's input is an anonymous file that is complete before its
+ * worker starts, and what the worker wrote is read after it has ended. */
+#ifndef DRIVER_H
+#define DRIVER_H
+
+#include <errno.h>
+#include <fcntl.h>
+#include <inttypes.h>
+#include <signal.h>
+#include <stdbool.h>
+#include <stddef.h>
+#include <stdint.h>
+#include <stdio.h>
+#include <stdlib.h>
+#include <string.h>
+#include <sys/mman.h>
+#include <sys/stat.h>
+#include <unistd.h>
+
+/* Exit statuses, a worker's and ours; STOPPED is the worker's alone: a fault of the file, and all before it is written. */
+enum { REFUSED = 1, USAGE = 2, FAILED = 3, STOPPED = 4 };
+
+/* Bytes, but for the outputs; BATCH is the largest batch, and the build's. */
+enum { MOST_OUTPUTS = 12, CHUNK = 1 << 18, SMALLEST_BATCH = BATCH / 16, OWN_MEMORY = 4 << 20 };
+
+/* What the proved program makes of the command line. */
+struct plan {
+    uint64_t threads, memory; /* 0 if none is given */
+    uint64_t fixed, tenths; /* bytes that a worker holds, and tenths of a byte for each byte of its input */
+    bool quiet, numbers; /* the last output is numbers, which the last run reads */
+    bool named; /* an output is */
+    char **words, **last; /* a worker's command line, with room for four more words; that of the last run */
+    char **inputs; /* null for standard input */
+    size_t words_len, last_len, inputs_len, outputs_len;
+    char *outputs[MOST_OUTPUTS], *heads[MOST_OUTPUTS]; /* the main one first; null for standard output, for none */
+};
+extern struct plan plan;
+extern const char *worker; /* the proved program's path */
+
+/* plan.c: asks the proved program, which stands beside this one; --help and a wrong option end the program. */
+void read_plan(char **argv);
+
+/* limits.c: what the process may use, by affinity and control groups. */
+void find_usable(uint64_t *cores, uint64_t *bytes);
+
+/* signals.c. From hold_signals on, signals come by wait_ready alone. */
+extern int caught, caught_times; /* the signal that asked to end, or 0 */
+extern bool child_ended; /* since turn last looked; put may have seen the signal */
+extern bool lull; /* nothing came in the time of the last wait */
+void hold_signals(void);
+void free_signals(void); /* as they were, in a worker or at the end */
+bool wait_ready(int file, short events, int milliseconds); /* the file is; else a signal came, or the time is over */
+
+/* messages.c */
+double seconds(void);
+void put_error(const char *bytes, size_t length); /* on standard error, in place of a line of progress */
+__attribute__((format(printf, 1, 2))) void say(const char *format, ...);
+#define fail(status, ...) (say(__VA_ARGS__), finish(status))
+void begin_progress(void);
+void show_progress(void); /* at most twice a second */
+void end_progress(void);
+
+/* outputs.c */
+bool tell(const char *path, int file, struct stat *told); /* of a path, or where that is null of an open file */
+void refuse_own_input(void); /* an output that is an input, or named twice */
+void open_outputs(void); /* and writes their heads */
+size_t put(int file, const char *bytes, size_t length); /* fewer bytes: it failed, or a signal came */
+void put_output(size_t output, const char *bytes, size_t length);
+extern int numbers; /* what the workers wrote of them: an anonymous file */
+void keep_outputs(void); /* named ones get their names */
+void drop_outputs(void);
+
+/* input.c: a file, unpacked. */
+extern const char *input_name, *input_fault; /* why its end is none, or null */
+extern uint64_t bytes_read; /* of all files, packed */
+bool is_plain(const char *path); /* can be told without taking a byte of it, and reading it waits */
+void open_input(const char *path);
+size_t read_input(uint8_t *bytes, size_t room); /* 0 at the end */
+void close_input(void);
+
+/* batches.c */
+void begin_file(void);
+void take_bytes(const uint8_t *bytes, size_t length);
+void launch_some(void); /* nothing comes: what is whole goes to an idle worker */
+void end_file(bool whole); /* if not whole, the record that was read last is dropped */
+
+/* workers.c */
+struct batch {
+    struct batch *next;
+    int bytes; /* an anonymous file: the input of a worker */
+    bool is_last; /* of the last run */
+    uint64_t offset, size; /* where it begins in the file; its bytes */
+    uint64_t last; /* where its last record begins */
+    uint64_t taken; /* bytes that its worker has read */
+    uint64_t held; /* bytes of memory that count as used for it */
+    int pid, status; /* of its worker: 0 when that has ended; as wait has it */
+    int files[MOST_OUTPUTS + 1]; /* anonymous: what the worker writes; the last one is its standard error */
+    char *texts[MOST_OUTPUTS + 1]; /* which are then mapped */
+    size_t lengths[MOST_OUTPUTS + 1];
+};
+extern uint64_t threads, batch_size, running;
+void size_workers(void);
+void check_memory(void); /* that there is enough for a worker */
+bool reserve(struct batch *batch, uint64_t size); /* waits for memory for so many bytes; false: more than there is */
+uint64_t needed(uint64_t size); /* of --memory, for a worker with so many bytes */
+void launch(struct batch *batch);
+bool turn(int file); /* waits for a file (or none, -1), a worker or a signal, and writes what can be written */
+void drain(void);
+void run_last(void); /* on the numbers of all workers */
+__attribute__((noreturn)) void finish(int status);
+
+#endif

@@ -1,0 +1,51 @@
+#include "driver.h"
+
+/* A file of ours must not get the number of a standard one that is closed; to use it fails as before. */
+static void hold_standard_files(void) {
+    for (int file = STDIN_FILENO; file <= STDERR_FILENO; file++)
+        if (fcntl(file, F_GETFD) < 0) open("/dev/null", file == STDIN_FILENO ? O_WRONLY : O_RDONLY);
+}
+
+/* Whether the proved program can do it all: then nothing of ours touches a byte. */
+static bool needs_no_driver(void) {
+    if (threads > 1 || plan.named || (fcntl(STDOUT_FILENO, F_GETFL) & O_NONBLOCK)) return false;
+    for (size_t i = 0; i < plan.inputs_len; i++)
+        if (!is_plain(plan.inputs[i])) return false;
+    return true;
+}
+
+static void read_file(const char *path) {
+    static uint8_t bytes[CHUNK];
+    size_t length;
+    open_input(path);
+    begin_file();
+    while ((length = read_input(bytes, CHUNK)) > 0) take_bytes(bytes, length);
+    end_file(input_fault == NULL);
+    if (input_fault != NULL) {
+        drain();
+        fail(FAILED, "%s: %s", input_name, input_fault);
+    }
+    close_input();
+}
+
+int main(int argc, char **argv) {
+    (void)argc;
+    hold_standard_files();
+    read_plan(argv);
+    refuse_own_input();
+    size_workers();
+    if (needs_no_driver()) {
+        execv(worker, argv);
+        fail(FAILED, "cannot start %s", worker);
+    }
+    check_memory();
+    hold_signals();
+    begin_progress();
+    open_outputs();
+    for (size_t i = 0; i < plan.inputs_len; i++) read_file(plan.inputs[i]);
+    drain();
+    if (plan.numbers) run_last();
+    keep_outputs();
+    end_progress();
+    finish(0);
+}
