@@ -26,8 +26,8 @@ fn written_tenths(form: Form) -> u64 {
 
 /// What a run with these options holds.
 pub fn held_by(request: &Request) -> Held {
-    let kmer = request.options.kmer.min(12) as u16;
-    let window = request.options.window_size.min(65535) as u16;
+    let kmer = request.settings.options.kmer.min(12) as u16;
+    let window = request.settings.options.window_size.min(65535) as u16;
     let mut tenths = letter_tenths(kmer);
     for output in &request.outputs {
         tenths = tenths.saturating_add(written_tenths(output.form));

@@ -20,7 +20,7 @@ const NOTES: &str =
     "Several forms may be given, each with a file of its own; at most one is written to standard output, or to the file of -o.
 A record has at most 2,147,483,647 letters; its name runs to the first blank. Lines may end in CRLF; the CR is dropped.
 Letters are A to Z in either case, - and *; U counts as T.
-A record that is refused is named on standard error and left out, the others are done.
+A record that is refused is named on standard error and left out; in FASTA it is passed through as it came. The others are done.
 Exit status: 0; 1 a record was refused; 2 a wrong option; 3 reading, writing or memory failed.";
 
 // An option with a value.
@@ -172,6 +172,24 @@ fn forms<'a>(alloc: Global, command: Command<'a>) -> Result<Command<'a>, AllocEr
         .arg(bedgraph)
 }
 
+// Which records and intervals count.
+fn limits<'a>(alloc: Global, command: Command<'a>) -> Result<Command<'a>, AllocError> {
+    let length = value(
+        alloc,
+        "min-length",
+        "L",
+        "intervals of fewer letters are left out of BED and marks, 0 to 4294967295",
+    );
+    let short = flag(
+        alloc,
+        "skip-short",
+        "a record of fewer than K + 1 letters has no mask, and is not refused",
+    );
+    command
+        .arg(length.default_value("0").help_heading(FORMS))?
+        .arg(short.help_heading(FORMS))
+}
+
 // How it runs.
 fn running<'a>(alloc: Global, command: Command<'a>) -> Result<Command<'a>, AllocError> {
     let output = value(
@@ -235,8 +253,6 @@ pub fn command<'a>(alloc: Global) -> Result<Command<'a>, AllocError> {
         .after_help(NOTES)
         .args_override_self(true)
         .arg(files)?;
-    parts(
-        alloc,
-        running(alloc, masker(alloc, forms(alloc, command)?)?)?,
-    )
+    let written = limits(alloc, forms(alloc, command)?)?;
+    parts(alloc, running(alloc, masker(alloc, written)?)?)
 }

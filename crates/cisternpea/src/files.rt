@@ -104,7 +104,7 @@ fn mask_reader<R: BufRead>(
         reader,
         true,
         outs.forms.as_slice(),
-        request.options,
+        request.settings,
         outs.writers.as_mut_slice(),
         &mut notes,
     );

@@ -34,7 +34,7 @@ fn has_input(rt: &HostRuntime, matches: &ArgMatches, request: &Request) -> bool 
 
 // Says which options lie outside the ranges that the bounds of the masker hold for.
 fn warn(rt: &HostRuntime, request: &Request) {
-    let threshold = request.options.score_threshold;
+    let threshold = request.settings.options.score_threshold;
     if 16.0 < threshold {
         let _ = eprintln!(rt;
             "cisternpea: --score-threshold {threshold}: above 16 it is not promised that no better stretch is masked"

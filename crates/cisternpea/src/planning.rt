@@ -123,11 +123,13 @@ fn add_words(
         "gc",
         "xdrop",
         "min-start-cnt",
+        "min-length",
     ] {
         add_option(alloc, text, matches, name)?;
     }
     add_flag(alloc, text, matches, "approx")?;
-    add_flag(alloc, text, matches, "forward-only")
+    add_flag(alloc, text, matches, "forward-only")?;
+    add_flag(alloc, text, matches, "skip-short")
 }
 
 /// The plan, as bytes.

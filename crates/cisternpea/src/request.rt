@@ -3,6 +3,7 @@
 use crate::outputs::{Output, read_outputs};
 use crate::values::{fraction, whole};
 use clap::ArgMatches;
+use forms::Settings;
 use longdust::LongdustOptions;
 use std::alloc::{AllocError, Global};
 use tables::GcOption;
@@ -23,8 +24,8 @@ pub struct Request<'a> {
     pub outputs: Vec<Output<'a>>,
     /// The file of the output without one; none is standard output.
     pub output: Option<&'a str>,
-    /// The options of the masker.
-    pub options: LongdustOptions,
+    /// What is asked of the masker, and of what is written.
+    pub settings: Settings,
     /// Threads asked for.
     pub threads: Option<u64>,
     /// Bytes that the run may hold.
@@ -121,6 +122,16 @@ fn masker_options(rt: &HostRuntime, matches: &ArgMatches) -> Option<LongdustOpti
     })
 }
 
+fn settings(rt: &HostRuntime, matches: &ArgMatches) -> Option<Settings> {
+    let options = masker_options(rt, matches)?;
+    let min_length = number(rt, matches, "min-length", 0, 4294967295)?;
+    Some(Settings {
+        options,
+        skip_short: matches.get_flag("skip-short"),
+        min_length: min_length.min(4294967295) as u32,
+    })
+}
+
 // An option that may be left out: its number, as `read` reads it.
 fn threads(rt: &HostRuntime, matches: &ArgMatches) -> Option<Option<u64>> {
     if matches.get_str("threads").is_none() {
@@ -166,7 +177,7 @@ fn with_outputs<'a>(
     Some(Request {
         outputs,
         output: matches.get_str("output"),
-        options: masker_options(rt, matches)?,
+        settings: settings(rt, matches)?,
         threads: threads(rt, matches)?,
         memory: memory(rt, matches)?,
         quiet: matches.get_flag("quiet"),

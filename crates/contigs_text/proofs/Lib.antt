@@ -1,5 +1,6 @@
 pub mod MaskLines
 pub mod Record
+pub mod First
 pub mod Starting
 pub mod Plain
 pub mod Single

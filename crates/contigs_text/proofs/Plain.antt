@@ -1,6 +1,7 @@
 -- The text that the reader of records gives is that of the definition.
 use Rattle.std.proofs.Common.{ℕ, ◌≤◌, ◌<◌, ◌≡◌, refl, sym, ap, ◌∙◌, subst, Bool, false, List, [], ◌++◌, arith, length, take, Ok, Err}
 use Rattle.std.specs.Prelude.{◌+◌, Option, None, Some, IfSome, IfOk, Result}
+use Rattle.std.specs.Io.KnownBytes.{Appends}
 use Rattle.fasta.specs.Contents.{Contents, contents_of, records_of, fault_of}
 use Rattle.fasta.specs.Steps.{fault_number}
 use Rattle.fasta.specs.declared.Fault.{Fault}
@@ -10,7 +11,7 @@ use Rattle.longdust.specs.declared.LongdustOptions.{LongdustOptions}
 use Rattle.entries.specs.Entries.{Entries, ends, fails, holds, record_of, entries_of, list_of, fault_of as fault_in, plain}
 use Rattle.entries.specs.declared.failed.Failed.{Failed}
 use Rattle.entries.specs.declared.failed.Failed.TheVariants.{Faulty}
-use Rattle.entries.specs.Outcome.{Sent, texts, text_of, Outcome}
+use Rattle.entries.specs.Outcome.{Sent, held, texts, text_of, Outcome}
 use Rattle.entries.proofs.Plain.{plain_file}
 use Rattle.contigs_text.specs.declared.Limits.{Limits}
 use Rattle.longdust.specs.Options.{defaults}
@@ -23,12 +24,16 @@ same_fault ends = refl
 same_fault (fails n) = refl
 same_fault (holds e es) = same_fault es
 
+-- What a list that is written to holds afterwards.
+appended : (a b : Option (List ℕ)) (t t' xs : List ℕ) → a ≡ Some t → b ≡ Some t' → Appends a b xs → t' ≡ t ++ xs
+appended a b t t' xs p q h = rw (p, q) at h
+
 pub positive : (fault : Fault) → 0 < fault_number fault
 positive LettersFirst = omega arith
 positive EmptyName = omega arith
 
 module _ (most : Limits) (o : LongdustOptions) where
-  same_texts : (es : Entries) → texts (report_of most o) (list_of es) ≡ records_text most o (records_of (plain es))
+  same_texts : (es : Entries) → texts (λ e. (report_of most o e).text 0) (list_of es) ≡ records_text most o (records_of (plain es))
   unfolding texts records_text
   same_texts ends = refl
   same_texts (fails n) = refl
@@ -38,7 +43,7 @@ module _ (most : Limits) (o : LongdustOptions) where
     fault_is : fault_of (contents_of file) ≡ fault_in (entries_of false file)
     fault_is = sym (ap fault_of (plain_file file)) ∙ same_fault (entries_of false file)
 
-    pub all_records : fault_in (entries_of false file) ≡ 0 → text_of false (report_of most o) file ≡ limited_text most o file
+    pub all_records : fault_in (entries_of false file) ≡ 0 → text_of false (report_of most o) file 0 ≡ limited_text most o file
     all_records z =
         same_texts (entries_of false file)
         ∙ ap (λ (c : Contents). records_text most o (records_of c)) (plain_file file)
@@ -47,20 +52,21 @@ module _ (most : Limits) (o : LongdustOptions) where
     pub fault_alone : (fault : Fault) → fault_in (entries_of false file) ≡ fault_number fault → refusal_line (fault_number fault) ≡ limited_text most o file
     fault_alone fault e = faulty most o file few (fault_number fault) (sym (fault_is ∙ e)) (positive fault)
 
-    -- What the reader of records leaves in a text that held nothing.
-    module _ (m : LongdustOptions) (e : m ≡ o) (t t' : List ℕ) (none : t ≡ []) where
-      pub made : (good : Bool) → Outcome false (report_of most m) file (Some t) (Some t') None None (Ok good) → t' ≡ limited_text most o file
+    -- What the reader of records leaves in a text that held nothing, where that is its first writer.
+    module _ (m : LongdustOptions) (e : m ≡ o) (t t' : List ℕ) (none : t ≡ []) (a b : List (Option (List ℕ)))
+        (old : held a 0 ≡ Some t) (new : held b 0 ≡ Some t') where
+      pub made : (good : Bool) → Outcome false (report_of most m) file a b None None (Ok good) → t' ≡ limited_text most o file
       made good (z, p, n, g) =
-          p
-          ∙ ap (λ (l : List ℕ). l ++ text_of false (report_of most m) file) none
-          ∙ ap (λ (i : LongdustOptions). text_of false (report_of most i) file) e
+          appended (held a 0) (held b 0) t t' (text_of false (report_of most m) file 0) old new (p 0)
+          ∙ ap (λ (l : List ℕ). l ++ text_of false (report_of most m) file 0) none
+          ∙ ap (λ (i : LongdustOptions). text_of false (report_of most i) file 0) e
           ∙ all_records z
 
-      pub made_fault : (fault : Fault) (x : Failed) → x ≡ Faulty fault → Outcome false (report_of most m) file (Some t) (Some t') None None (Err x)
-          → refusal_line (fault_number fault) ≡ limited_text most o file
-      made_fault fault x f h =
-          let (z, p, n) = subst (λ (y : Failed). Outcome false (report_of most m) file (Some t) (Some t') None None (Err y)) f h in
-          fault_alone fault z
+    pub made_fault : (m : LongdustOptions) (a b : List (Option (List ℕ))) (fault : Fault) (x : Failed) → x ≡ Faulty fault
+        → Outcome false (report_of most m) file a b None None (Err x) → refusal_line (fault_number fault) ≡ limited_text most o file
+    made_fault m a b fault x f h =
+        let (z, p, n) = subst (λ (y : Failed). Outcome false (report_of most m) file a b None None (Err y)) f h in
+        fault_alone fault z
 
   -- The text of the first bytes of a file is that of the file.
   module _ (a : Option (List ℕ)) (file text : List ℕ) (front : IfSome a (λ (xs : List ℕ). file ≡ take (most.bytes + 1) xs)) (e : text ≡ limited_text most o file) where

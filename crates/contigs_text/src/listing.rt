@@ -1,10 +1,11 @@
 // A record's text.
 
-ghost use Rattle.std.specs.Prelude.{◌≡◌, OnOk};
+ghost use Rattle.std.specs.Prelude.{◌≡◌, map, OnOk};
 ghost use Rattle.entries.specs.Entries.{record_of};
 ghost use Rattle.entries.specs.Held.{entry_of};
+ghost use Rattle.entries.specs.Outcome.{AllSent};
 ghost use Rattle.contigs_text.specs.Text.{record_text};
-ghost use Rattle.contigs_text.specs.Terms.Report.{report_of};
+ghost use Rattle.contigs_text.specs.Terms.Report.{to_first, report_of};
 
 use crate::Limits;
 use crate::lines::{add_lines, add_refused, add_too_long};
@@ -45,19 +46,30 @@ impl Listing {
     }
 }
 
+// Writes the text to the first writer, if there is one.
+fn write_first<W: Write>(outs: &mut [W], text: &[u8]) -> IoResult<()>
+    ensures { AllSent (map (λ w. W.contents w) outs.old) (map (λ w. W.contents w) outs.new) (to_first text.now) result }
+{
+    if outs.is_empty() {
+        return Ok(());
+    }
+    let out = &mut outs[0];
+    write_whole(out, text)
+}
+
 impl Recorder for Listing {
     ghost report = { λ l. report_of l.limits l.masker.options };
 
     fn put<W: Write, N: Write>(
         &mut self,
         entry: &HeldEntry,
-        out: &mut W,
+        outs: &mut [W],
         notes: &mut N,
     ) -> Result<bool, Failed> {
         if let Err(_) = self.make_text(entry) {
             return Err(Failed::NoMemory);
         }
-        match write_whole(out, self.text.as_slice()) {
+        match write_first(outs, self.text.as_slice()) {
             Ok(()) => Ok(true),
             Err(e) => Err(Failed::Writing(e)),
         }

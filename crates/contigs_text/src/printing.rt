@@ -52,7 +52,7 @@ fn make_records(
         &mut reader,
         false,
         &mut listing,
-        text,
+        std::slice::from_mut(text),
         &mut std::io::sink(),
     ) {
         Ok(_) => Ok(()),

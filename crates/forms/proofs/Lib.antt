@@ -2,4 +2,4 @@ pub mod Numbered
 pub mod Reports
 pub mod Runs
 pub mod Blocks
-pub mod Outputs
+pub mod Writers

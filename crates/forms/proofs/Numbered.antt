@@ -1,5 +1,6 @@
 -- Texts by numbers.
-use Rattle.std.proofs.Common.{◌≡◌, ℕ, zero, suc, ◌+◌, ◌-◌, ◌<◌, List, [], ◌++◌, refl, sym, ap, ◌∙◌, arith, append_assoc, append-nil, subst}
+use Rattle.std.proofs.Common.{◌≡◌, ℕ, zero, suc, ◌+◌, ◌-◌, ◌<◌, List, [], ◌++◌, refl, sym, ap, ◌∙◌, arith, append_assoc, append-nil, subst, ◌∷◌, length, take, take_all, drop, drop_of_length-le, drop-cons, get_or, Bool, true, false, cond}
+use Rattle.std.proofs.lemmas.List.{take_more}
 use Rattle.std.specs.Prelude.{Option}
 use Rattle.std.specs.Io.KnownBytes.{Appends}
 use Rattle.std.proofs.KnownBytes.{Appends-trans, Appends-nil}
@@ -10,7 +11,7 @@ use Rattle.report.specs.Text.{decimal}
 use Rattle.checks.specs.declared.refusal.Refusal.{Refusal}
 use Rattle.checks.specs.declared.refusal.Refusal.TheVariants.{KmerOutside, HighByte, TooFewLetters, WindowBelow, WindowAbove, BadThreshold, BadGc, MinStartBelow, BadXdrop, TooManyLetters, ShortSlice, BadReplacement, OtherByte, UnusualList, BadQuestion, NoBudget, PlaceOutside, HighTable, OutsideProfile, BadLength}
 use Rattle.checks.specs.Refusal.{number, text}
-use Rattle.forms.specs.Notes.{text_numbered, refused_note}
+use Rattle.forms.specs.Notes.{escaped, shown, text_numbered, earns, first_place, detail, refused_note}
 use Rattle.forms.specs.Each.{each}
 
 module _ (f : ℕ → List ℕ) where
@@ -59,6 +60,28 @@ module _ (f : ℕ → List ℕ) where
 pub more : (t a b x y : List ℕ) → a ≡ t ++ x → b ≡ a ++ y → b ≡ t ++ (x ++ y)
 more t a b x y p q = q ∙ ap (λ (l : List ℕ). l ++ y) p ∙ append_assoc t x y
 
+-- ---- A name as it is shown, byte by byte.
+shown_append : (xs ys : List ℕ) → shown (xs ++ ys) ≡ shown xs ++ shown ys
+unfolding shown
+shown_append [] ys = refl
+shown_append (x ∷ xs) ys = ap (λ (l : List ℕ). escaped x ++ l) (shown_append xs ys) ∙ sym (append_assoc (escaped x) (shown xs) (shown ys))
+
+pub shown_start : (t xs : List ℕ) → t ≡ t ++ shown (take 0 xs)
+unfolding shown
+shown_start t [] = sym (append-nil t)
+shown_start t (x ∷ xs) = sym (append-nil t)
+
+pub shown_more : (t a b xs : List ℕ) (i : ℕ) → i < length xs → a ≡ t ++ shown (take i xs) → b ≡ a ++ escaped (get_or xs i 0) → b ≡ t ++ shown (take (i + 1) xs)
+unfolding shown
+shown_more t a b xs i h p q =
+    more t a b (shown (take i xs)) (escaped (get_or xs i 0)) p q
+    ∙ ap (λ (l : List ℕ). t ++ (shown (take i xs) ++ l)) (sym (append-nil (escaped (get_or xs i 0))))
+    ∙ ap (λ (l : List ℕ). t ++ l) (sym (shown_append (take i xs) (get_or xs i 0 ∷ [])))
+    ∙ ap (λ (l : List ℕ). t ++ shown l) (sym (take_more xs i 0 h))
+
+pub shown_all : (t a xs : List ℕ) (i : ℕ) → i ≡ length xs → a ≡ t ++ shown (take i xs) → a ≡ t ++ shown xs
+shown_all t a xs i e p = p ∙ ap (λ (l : List ℕ). t ++ shown l) (take_all i xs (omega arith))
+
 -- A refusal's text stands at its number.
 text_is : (r : Refusal) → text r ≡ text_numbered (number r)
 unfolding text_numbered
@@ -83,11 +106,37 @@ text_is HighTable = refl
 text_is OutsideProfile = refl
 text_is BadLength = refl
 
+-- ---- The first byte that earns a refusal.
+module _ (high : Bool) (s : List ℕ) (i : ℕ) where
+  module _ (h : i < length s) (r : first_place high s ≡ i + first_place high (drop i s)) where
+    here : first_place high (drop i s) ≡ cond (earns high (get_or s i 0)) 0 (first_place high (drop (i + 1) s) + 1)
+    unfolding first_place
+    here =
+        ap (first_place high) (drop-cons s i 0 h)
+        ∙ ap (λ (n : ℕ). cond (earns high (get_or s i 0)) 0 (first_place high (drop n s) + 1)) (let e : suc i ≡ i + 1 = omega arith in e)
+
+    pub place_found : (t : Bool) → t ≡ earns high (get_or s i 0) → t ≡ true → i ≡ first_place high s
+    place_found t e p =
+        let z : first_place high (drop i s) ≡ 0 = here ∙ ap (λ (b : Bool). cond b 0 (first_place high (drop (i + 1) s) + 1)) (sym e ∙ p) in
+        omega arith
+
+    pub place_more : (t : Bool) → t ≡ earns high (get_or s i 0) → t ≡ false → first_place high s ≡ (i + 1) + first_place high (drop (i + 1) s)
+    place_more t e p =
+        let z : first_place high (drop i s) ≡ first_place high (drop (i + 1) s) + 1 = here ∙ ap (λ (b : Bool). cond b 0 (first_place high (drop (i + 1) s) + 1)) (sym e ∙ p) in
+        omega arith
+
+  pub place_none : i ≡ length s → first_place high s ≡ i + first_place high (drop i s) → length s ≡ first_place high s
+  unfolding first_place
+  place_none e r =
+      let z : first_place high (drop i s) ≡ 0 = ap (first_place high) (drop_of_length-le s (omega arith)) in
+      omega arith
+
 -- The line about a refused record.
-module _ (t a b c d e f g name : List ℕ) (r : Refusal) (n : ℕ) (words : List ℕ) (number_is : n ≡ number r) (words_are : words ≡ text r) where
-  pub note_is : a ≡ t ++ ascii "cisternpea: " → b ≡ a ++ name → c ≡ b ++ ascii ": refused (" → d ≡ c ++ decimal n
-      → e ≡ d ++ ascii "): " → f ≡ e ++ words → g ≡ f ++ ascii "\n" → g ≡ t ++ refused_note name (number r)
+module _ (t a b c d e f f' g name s : List ℕ) (r : Refusal) (n : ℕ) (words : List ℕ) (number_is : n ≡ number r) (words_are : words ≡ text r) where
+  pub note_is : a ≡ t ++ ascii "cisternpea: " → b ≡ a ++ shown name → c ≡ b ++ ascii ": refused (" → d ≡ c ++ decimal n
+      → e ≡ d ++ ascii "): " → f ≡ e ++ words → f' ≡ f ++ detail (number r) s → g ≡ f' ++ ascii "\n" → g ≡ t ++ refused_note name (number r) s
   unfolding refused_note
-  note_is p q s u v w x =
-      more t a g (ascii "cisternpea: ") _ p (more a b g name _ q (more b c g (ascii ": refused (") _ s
-      (more c d g (decimal (number r)) _ (u ∙ ap (λ (m : ℕ). c ++ decimal m) number_is) (more d e g (ascii "): ") _ v (more e f g (text_numbered (number r)) (ascii "\n") (w ∙ ap (λ (l : List ℕ). e ++ l) (words_are ∙ text_is r)) x)))))
+  note_is p q o u v w y x =
+      more t a g (ascii "cisternpea: ") _ p (more a b g (shown name) _ q (more b c g (ascii ": refused (") _ o
+      (more c d g (decimal (number r)) _ (u ∙ ap (λ (m : ℕ). c ++ decimal m) number_is) (more d e g (ascii "): ") _ v
+      (more e f g (text_numbered (number r)) _ (w ∙ ap (λ (l : List ℕ). e ++ l) (words_are ∙ text_is r)) (more f f' g (detail (number r) s) (ascii "\n") y x))))))

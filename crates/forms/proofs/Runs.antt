@@ -11,7 +11,7 @@ use Rattle.entries.specs.declared.held.HeldEntry.{HeldEntry}
 use Rattle.entries.specs.Held.{lengths_of, cut, entry_of}
 use Rattle.entries.proofs.Kept.{joined_cut}
 use Rattle.forms.specs.Each.{each}
-use Rattle.forms.specs.Fasta.{ended, masked_lines, masked_fasta}
+use Rattle.forms.specs.Fasta.{ended, plain_fasta, masked_lines, masked_fasta}
 use Rattle.forms.specs.Terms.Runs.{left, line_at, no_run, left_after, run_at}
 
 -- ---- A run.
@@ -137,6 +137,11 @@ module _ (m : Masking) (h : HeldEntry) (is : List Interval) (header letters copy
   pub fasta_is : (header ++ ascii "\n") ++ ended (cut (lengths_of runs) copy) ≡ masked_fasta m (entry_of h) is
   unfolding masked_fasta
   fasta_is = ap₂ (λ (x : List ℕ) (ls : List (List ℕ)). (x ++ ascii "\n") ++ ended ls) header_is lines_are
+
+pub plain_is : (h : HeldEntry) (header letters : List ℕ) (runs : List LineRun) → header ≡ h.header.items → letters ≡ h.letters.items → runs ≡ h.runs.items
+    → (header ++ ascii "\n") ++ ended (cut (lengths_of runs) letters) ≡ plain_fasta (entry_of h)
+unfolding plain_fasta
+plain_is h header letters runs p q r = rw (p, q, r) refl
 
 pub put_whole : (xs d : List ℕ) → length xs ≡ length d → put xs d ≡ xs
 put_whole xs d e = ap (λ (l : List ℕ). xs ++ l) (drop_of_length-le d (omega arith)) ∙ append-nil xs

@@ -12,6 +12,10 @@ unfoldable pub ended : List (List ℕ) → List ℕ
 ended [] = []
 ended (l ∷ ls) = (l ++ ascii "\n") ++ ended ls
 
+-- The header and the lines as they came.
+unfoldable pub plain_fasta : Entry → List ℕ
+plain_fasta e = (e.header ++ ascii "\n") ++ ended e.lines
+
 -- The lines of an entry with its masked letters.
 abbrev pub masked_lines : Masking → Entry → List Interval → List (List ℕ)
 masked_lines m e is = cut (map (λ l. length l) e.lines) (copy_of m is (joined e.lines))

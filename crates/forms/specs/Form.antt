@@ -1,5 +1,5 @@
 -- What is written for a record in each form, and what is said of one that is refused.
-use Rattle.std.specs.Prelude.{ℕ, zero, suc, max, true, false, List, [], ◌∷◌, length}
+use Rattle.std.specs.Prelude.{ℕ, zero, suc, max, Bool, true, false, cond, ◌&&◌, eqb, List, [], ◌∷◌, length}
 use Prim.Native.Char.{code}
 use Rattle.intervals.specs.declared.Interval.{Interval}
 use Rattle.masked_copy.specs.declared.Masking.TheVariants.{LowerCase, Replace}
@@ -8,23 +8,34 @@ use Rattle.longdust.specs.declared.LongdustOptions.{LongdustOptions}
 use Rattle.entries.specs.Entries.{Entry, joined}
 use Rattle.entries.specs.Outcome.{Report}
 use Rattle.masker.specs.Run.{record_refusal, record_mask, record_marks}
+use Rattle.forms.specs.declared.form.Settings.{Settings}
 use Rattle.forms.specs.declared.form.Form.{Form}
 use Rattle.forms.specs.declared.form.Form.TheVariants.{Bed, Marks, Soft, HardN, HardX, Summary, Bedgraph}
 use Rattle.forms.specs.Bed.{bed, marked_bed}
-use Rattle.forms.specs.Fasta.{masked_fasta}
+use Rattle.forms.specs.Fasta.{plain_fasta, masked_fasta}
 use Rattle.forms.specs.Summary.{summary_head, summary}
 use Rattle.forms.specs.Bedgraph.{bedgraph}
 use Rattle.forms.specs.Notes.{refused_note}
 
--- An accepted entry with its mask and its marks.
-abbrev pub body : Form → Entry → List Interval → List ℕ → List ℕ
-body Bed e is marks = bed (name_of e.header) is
-body Marks e is marks = marked_bed (name_of e.header) is marks
-body Soft e is marks = masked_fasta LowerCase e is
-body HardN e is marks = masked_fasta (Replace (code "N")) e is
-body HardX e is marks = masked_fasta (Replace (code "X")) e is
-body Summary e is marks = summary (name_of e.header) is (length (joined e.lines))
-body (Bedgraph size) e is marks = bedgraph (name_of e.header) is (length (joined e.lines)) (max size 1)
+-- An accepted entry with its mask and its marks; intervals shorter than `least` have no line.
+abbrev pub body : ℕ → Form → Entry → List Interval → List ℕ → List ℕ
+body least Bed e is marks = bed least (name_of e.header) is
+body least Marks e is marks = marked_bed least (name_of e.header) is marks
+body least Soft e is marks = masked_fasta LowerCase e is
+body least HardN e is marks = masked_fasta (Replace (code "N")) e is
+body least HardX e is marks = masked_fasta (Replace (code "X")) e is
+body least Summary e is marks = summary (name_of e.header) is (length (joined e.lines))
+body least (Bedgraph size) e is marks = bedgraph (name_of e.header) is (length (joined e.lines)) (max size 1)
+
+-- A refused entry: FASTA as it came, nothing in the other forms.
+abbrev pub passed : Form → Entry → List ℕ
+passed Bed e = []
+passed Marks e = []
+passed Soft e = plain_fasta e
+passed HardN e = plain_fasta e
+passed HardX e = plain_fasta e
+passed Summary e = []
+passed (Bedgraph size) e = []
 
 -- What stands above all records.
 abbrev pub head_of : Form → List ℕ
@@ -42,13 +53,26 @@ by_form text [] i = []
 by_form text (f ∷ fs) zero = text f
 by_form text (f ∷ fs) (suc i) = by_form text fs i
 
--- An entry that is accepted is written; one that is refused is said.
-abbrev pub report_by : ℕ → List ℕ → (ℕ → List ℕ) → Report
-report_by zero name text = record { text = text; notes = []; good = true }
-report_by (suc n) name text = record { text = λ i. []; notes = refused_note name (suc n); good = false }
+abbrev pub accepted : (ℕ → List ℕ) → Report
+accepted text = record { text = text; notes = []; good = true }
 
--- The report of an entry to writers of these forms, by the options of the masker.
-unfoldable pub report_of : List Form → LongdustOptions → Entry → Report
-report_of forms o e =
+abbrev pub refused : (name : List ℕ) → ℕ → (letters : List ℕ) → (ℕ → List ℕ) → Report
+refused name number s text = record { text = text; notes = refused_note name number s; good = false }
+
+-- Refusal 3, too few letters, where such records may pass.
+abbrev pub passes : Bool → ℕ → Bool
+passes skip number = skip && eqb number 3
+
+-- By the number of a refusal, 0 for none: the text with the mask, without one, or as it came.
+abbrev pub report_by : Bool → ℕ → (name letters : List ℕ) → (text bare through : ℕ → List ℕ) → Report
+report_by skip number name s text bare through =
+    cond (eqb number 0) (accepted text) (cond (passes skip number) (accepted bare) (refused name number s through))
+
+-- The report of an entry to writers of these forms.
+unfoldable pub report_of : List Form → Settings → Entry → Report
+report_of forms st e =
     let s : List ℕ = joined e.lines in
-    report_by (record_refusal o s) (name_of e.header) (by_form (λ f. body f e (record_mask o s) (record_marks o s)) forms)
+    let o : LongdustOptions = st.options in
+    report_by st.skip_short (record_refusal o s) (name_of e.header) s
+    (by_form (λ f. body st.min_length f e (record_mask o s) (record_marks o s)) forms)
+    (by_form (λ f. body st.min_length f e [] []) forms) (by_form (λ f. passed f e) forms)

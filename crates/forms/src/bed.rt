@@ -1,8 +1,8 @@
-// BED: a line for each interval, with marks and without.
+// BED: a line for each interval that is long enough, with marks and without.
 
-ghost use Rattle.std.specs.Prelude.{◌≡◌, ◌≤◌, get_or, length};
+ghost use Rattle.std.specs.Prelude.{◌≡◌, ◌≤◌, ◌-◌, get_or, length};
 ghost use Rattle.intervals.specs.Interval.{interval};
-ghost use Rattle.forms.specs.Bed.{bed_line, strands, marked_line};
+ghost use Rattle.forms.specs.Bed.{bed_line, strands, marked_line, if_long};
 
 use crate::each::Lines;
 use crate::text::add_place;
@@ -14,10 +14,11 @@ use std::io::Result as IoResult;
 pub struct Bed<'a> {
     pub name: &'a [u8],
     pub list: &'a [Interval],
+    pub least: u32,
 }
 
 impl<'a> Lines for Bed<'a> {
-    ghost line = { λ b i. bed_line b.name.now (get_or b.list.now i (interval 0 0)) };
+    ghost line = { λ b i. if_long b.least (get_or b.list.now i (interval 0 0)) (bed_line b.name.now (get_or b.list.now i (interval 0 0))) };
 
     ghost count = { λ b. length b.list.now };
 
@@ -27,10 +28,20 @@ impl<'a> Lines for Bed<'a> {
 
     fn add(&self, i: usize, text: &mut Vec<u8>) -> IoResult<()> {
         let interval = self.list[i];
+        if letters(interval) < self.least {
+            return Ok(());
+        }
         add_place(text, self.name, interval.start as u64, interval.end as u64)?;
         text.push(b'\n')?;
         Ok(())
     }
+}
+
+// How many letters an interval has.
+fn letters(interval: Interval) -> u32
+    ensures { result ≡ interval.end - interval.start }
+{
+    interval.end.saturating_sub(interval.start)
 }
 
 // The same, with marks.
@@ -39,6 +50,7 @@ pub struct MarkedBed<'a> {
     pub name: &'a [u8],
     pub list: &'a [Interval],
     pub marks: &'a [u8],
+    pub least: u32,
 }
 
 // The three columns that tell which strands saw an interval.
@@ -55,7 +67,8 @@ fn strands(mark: u8) -> &'static [u8]
 }
 
 impl<'a> Lines for MarkedBed<'a> {
-    ghost line = { λ b i. marked_line b.name.now (get_or b.list.now i (interval 0 0)) (get_or b.marks.now i 0) };
+    ghost line = { λ b i. if_long b.least (get_or b.list.now i (interval 0 0))
+        (marked_line b.name.now (get_or b.list.now i (interval 0 0)) (get_or b.marks.now i 0)) };
 
     ghost count = { λ b. length b.list.now };
 
@@ -65,6 +78,9 @@ impl<'a> Lines for MarkedBed<'a> {
 
     fn add(&self, i: usize, text: &mut Vec<u8>) -> IoResult<()> {
         let interval = self.list[i];
+        if letters(interval) < self.least {
+            return Ok(());
+        }
         let mark = if i < self.marks.len() {
             self.marks[i]
         } else {

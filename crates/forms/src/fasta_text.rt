@@ -6,7 +6,7 @@ ghost use Rattle.entries.specs.Held.{lengths_of, cut, entry_of};
 ghost use Rattle.entries.specs.Outcome.{Sent};
 ghost use Rattle.masked_copy.specs.Copy.{copy_of};
 ghost use Rattle.forms.specs.Each.{each};
-ghost use Rattle.forms.specs.Fasta.{ended, masked_fasta};
+ghost use Rattle.forms.specs.Fasta.{ended, plain_fasta, masked_fasta};
 ghost use Rattle.forms.specs.Terms.Runs.{left, line_at};
 
 use entries::{HeldEntry, LineRun, write_whole};
@@ -97,4 +97,14 @@ pub fn write_fasta<W: Write>(
         return Err(e);
     }
     write_lines(entry.runs.as_slice(), copy.as_slice(), out)
+}
+
+// Writes the entry as it came.
+pub fn write_plain<W: Write>(entry: &HeldEntry, out: &mut W) -> IoResult<()>
+    ensures { Sent (W.contents out.old) (W.contents out.new) (plain_fasta (entry_of entry.now)) result }
+{
+    if let Err(e) = write_line(entry.header.as_slice(), out) {
+        return Err(e);
+    }
+    write_lines(entry.runs.as_slice(), entry.letters.as_slice(), out)
 }

@@ -4,14 +4,16 @@ ghost use Rattle.std.specs.Prelude.{◌≡◌, ◌≤◌, map, length, IfSome};
 ghost use Rattle.fasta.specs.Lines.{name_of};
 ghost use Rattle.entries.specs.Held.{entry_of};
 ghost use Rattle.entries.specs.Outcome.{Sent, AllSent, Recorded, Outcome};
-ghost use Rattle.forms.specs.Form.{body, head_of, by_form, report_of};
+ghost use Rattle.checks.specs.Refusal.{number};
+ghost use Rattle.forms.specs.Form.{body, head_of, by_form, passes, report_of};
 
 use crate::bed::{Bed, MarkedBed};
 use crate::bedgraph::write_bedgraph;
 use crate::each::write_each;
 use crate::fasta_text::write_fasta;
-use crate::notes::write_note;
+use crate::outputs::{Accepted, put_accepted, put_refused};
 use crate::summary::write_summary;
+use checks::Refusal;
 use entries::{Failed, HeldEntry, Recorder, put_records, write_whole};
 use intervals::Interval;
 use longdust::LongdustOptions;
@@ -39,21 +41,42 @@ pub enum Form {
     Bedgraph(u32),
 }
 
+/// How records are masked, and what becomes of some of them.
+#[derive(Clone, Copy)]
+pub struct Settings {
+    /// The options of the masker.
+    pub options: LongdustOptions,
+    /// A record of fewer than k + 1 letters is accepted and has no mask; else it is refused (3).
+    pub skip_short: bool,
+    /// Intervals of fewer letters are left out of BED, with marks and without.
+    pub min_length: u32,
+}
+
 // Writes an accepted entry. The buffer is for a line, or for the masked letters.
-fn write_body<W: Write>(
+pub fn write_body<W: Write>(
     form: Form,
+    least: u32,
     entry: &HeldEntry,
     list: &[Interval],
     marks: &[u8],
     text: &mut Vec<u8>,
     out: &mut W,
 ) -> IoResult<()>
-    ensures { Sent (W.contents out.old) (W.contents out.new) (body form (entry_of entry.now) list.now marks.now) result }
+    ensures { Sent (W.contents out.old) (W.contents out.new) (body least form (entry_of entry.now) list.now marks.now) result }
 {
     let name = entry.name();
     match form {
-        Form::Bed => write_each(&Bed { name, list }, text, out),
-        Form::Marks => write_each(&MarkedBed { name, list, marks }, text, out),
+        Form::Bed => write_each(&Bed { name, list, least }, text, out),
+        Form::Marks => write_each(
+            &MarkedBed {
+                name,
+                list,
+                marks,
+                least,
+            },
+            text,
+            out,
+        ),
         Form::Soft => write_fasta(entry, list, Masking::LowerCase, text, out),
         Form::HardN => write_fasta(entry, list, Masking::Replace(b'N'), text, out),
         Form::HardX => write_fasta(entry, list, Masking::Replace(b'X'), text, out),
@@ -72,27 +95,6 @@ pub fn put_head<W: Write>(form: Form, out: &mut W) -> IoResult<()>
     }
 }
 
-// Writes an accepted entry to each writer in its form.
-fn write_bodies<W: Write>(
-    forms: &[Form],
-    entry: &HeldEntry,
-    list: &[Interval],
-    marks: &[u8],
-    text: &mut Vec<u8>,
-    outs: &mut [W],
-) -> IoResult<()>
-    ensures { AllSent (map (λ w. W.contents w) outs.old) (map (λ w. W.contents w) outs.new)
-        (by_form (λ f. body f (entry_of entry.now) list.now marks.now) forms.now) result }
-{
-    for i in 0..forms.len().min(outs.len()) {
-        let out = &mut outs[i];
-        if let Err(e) = write_body(forms[i], entry, list, marks, text, out) {
-            return Err(e);
-        }
-    }
-    Ok(())
-}
-
 /// Writes to each writer what stands above all records in its form.
 pub fn put_heads<W: Write>(forms: &[Form], outs: &mut [W]) -> IoResult<()>
     ensures { AllSent (map (λ w. W.contents w) outs.old) (map (λ w. W.contents w) outs.new) (by_form head_of forms.now) result }
@@ -106,13 +108,18 @@ pub fn put_heads<W: Write>(forms: &[Form], outs: &mut [W]) -> IoResult<()>
     Ok(())
 }
 
-/// Masks each record alone, and writes it to each writer in its form. A record that is refused is not written: a line is said of it.
+/// Masks each record alone, and writes it to each writer in its form. A record that is refused is passed through as it came in FASTA, and is not in
+/// the other forms; a line is said of it.
 #[derive(Drop)]
 pub struct FormRecorder<'a> {
     /// What is written, a form a writer.
     pub forms: &'a [Form],
     /// The masker, with its options.
     pub masker: Masker,
+    /// Whether records of too few letters are accepted, with no mask.
+    pub skip_short: bool,
+    /// The fewest letters of an interval that has a line.
+    pub min_length: u32,
     /// Room for a mask.
     pub list: Vec<Interval>,
     /// Room for its marks.
@@ -121,8 +128,15 @@ pub struct FormRecorder<'a> {
     pub text: Vec<u8>,
 }
 
+// Whether a refused record may pass without a mask.
+fn passes(skip: bool, refusal: Refusal) -> bool
+    ensures { result ≡ passes skip (number refusal) }
+{
+    skip & (refusal.number() == 3)
+}
+
 impl<'a> Recorder for FormRecorder<'a> {
-    ghost report = { λ r. report_of r.forms.now r.masker.options };
+    ghost report = { λ r. report_of r.forms.now (record { options = r.masker.options; skip_short = r.skip_short; min_length = r.min_length }) };
 
     fn put<W: Write, N: Write>(
         &mut self,
@@ -130,21 +144,31 @@ impl<'a> Recorder for FormRecorder<'a> {
         outs: &mut [W],
         notes: &mut N,
     ) -> Result<bool, Failed> {
+        let least = self.min_length;
         let letters = entry.letters.as_slice();
         match self.masker.mask(letters, &mut self.list, &mut self.marks) {
             Ok(Ok(count)) => {
                 let list = &self.list.as_slice()[..count];
                 let marks = &self.marks.as_slice()[..count];
-                match write_bodies(self.forms, entry, list, marks, &mut self.text, outs) {
-                    Ok(()) => Ok(true),
-                    Err(e) => Err(Failed::Writing(e)),
-                }
+                let masked = Accepted {
+                    entry,
+                    least,
+                    list,
+                    marks,
+                };
+                put_accepted(self.forms, &masked, &mut self.text, outs)
             }
             Ok(Err(refusal)) => {
-                match write_note(&mut self.text, entry.name(), refusal, notes) {
-                    Ok(()) => Ok(false),
-                    Err(e) => Err(Failed::Saying(e)),
+                if passes(self.skip_short, refusal) {
+                    let bare = Accepted {
+                        entry,
+                        least,
+                        list: &[],
+                        marks: &[],
+                    };
+                    return put_accepted(self.forms, &bare, &mut self.text, outs);
                 }
+                put_refused(self.forms, entry, refusal, &mut self.text, outs, notes)
             }
             Err(_) => Err(Failed::NoMemory),
         }
@@ -159,20 +183,22 @@ pub fn put_file<R: BufRead, W: Write, N: Write>(
     reader: &mut R,
     cr: bool,
     forms: &[Form],
-    options: LongdustOptions,
+    settings: Settings,
     outs: &mut [W],
     notes: &mut N,
 ) -> Result<bool, Failed>
-    ensures { IfSome (R.remaining reader.old) (λ file. Outcome cr (report_of forms.now options) file (map (λ w. W.contents w) outs.old)
+    ensures { IfSome (R.remaining reader.old) (λ file. Outcome cr (report_of forms.now settings) file (map (λ w. W.contents w) outs.old)
         (map (λ w. W.contents w) outs.new) (N.contents notes.old) (N.contents notes.new) result) }
 {
-    let masker = match Masker::new(alloc, options) {
+    let masker = match Masker::new(alloc, settings.options) {
         Ok(masker) => masker,
         Err(_) => return Err(Failed::NoMemory),
     };
     let mut recorder = FormRecorder {
         forms,
         masker,
+        skip_short: settings.skip_short,
+        min_length: settings.min_length,
         list: Vec::new(alloc),
         marks: Vec::new(alloc),
         text: Vec::new(alloc),

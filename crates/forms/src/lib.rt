@@ -9,9 +9,10 @@ mod fasta_text;
 mod form;
 mod masked;
 mod notes;
+mod outputs;
 mod share;
 mod summary;
 mod text;
 
-pub use form::{Form, FormRecorder, put_file, put_head, put_heads};
+pub use form::{Form, FormRecorder, Settings, put_file, put_head, put_heads};
 pub use text::{add_decimal, add_place};

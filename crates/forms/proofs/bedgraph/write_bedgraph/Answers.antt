@@ -1,7 +1,5 @@
-use Rattle.std.proofs.Common.{ℕ, List, ap, ap₂, ◌∙◌, max, length, rules}
-use Rattle.intervals.specs.declared.Interval.{Interval}
+use Rattle.std.proofs.Common.{rules}
 use Rattle.entries.proofs.Sending.{sent_as}
-use Rattle.forms.specs.Bedgraph.{bedgraph}
 use Rattle.forms.proofs.Blocks.{bedgraph_as}
 use Rattle.forms.proofs.bedgraph.write_bedgraph.Goals as goal
 

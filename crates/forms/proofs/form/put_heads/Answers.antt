@@ -1,7 +1,7 @@
-use Rattle.std.proofs.Common.{◌≡◌, ◌<◌, map, min, length, length-set, ◌∙◌, refl, sym, ap, rules}
+use Rattle.std.proofs.Common.{◌≡◌, ◌<◌, min, length, length-set, ◌∙◌, refl, sym, ap, rules}
 use lib.ListN.{length-map}
 use Rattle.forms.specs.Form.{head_of, by_form}
-use Rattle.forms.proofs.Outputs.{form_at, upto_start, upto_more, upto_stop, upto_all}
+use Rattle.forms.proofs.Writers.{form_at, upto_start, upto_more, upto_stop, upto_all}
 use Rattle.forms.proofs.form.put_heads.Goals as goal
 
 pub loop-i-init : goal.loop-i-init

@@ -1,6 +1,6 @@
 use Rattle.std.proofs.Common.{◌≡◌, map, length}
 use Rattle.forms.specs.Form.{head_of, by_form}
-use Rattle.forms.proofs.Outputs.{UpTo}
+use Rattle.forms.proofs.Writers.{UpTo}
 use Rattle.forms.proofs.form.put_heads.Given as goal
 
 abbrev pub invariant-loop-i : goal.invariant-loop-i
