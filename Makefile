@@ -70,7 +70,7 @@ check: ## tests the program, the C examples and the documents
 	+@$(MAKE) -j2 WERROR=-Werror $(TESTED)
 	tests/check
 
-prove: ## the whole gate: the check, every proof and wrong edit, the archive made again, the comparison (Rattle kit)
+prove: ## the whole gate: the check, every proof and wrong edit, dist/ made again, the comparison (Rattle kit)
 	.ci/run
 
 compare: $(DRIVERS) target/bin/contigs target/bin/track ## runs the masker and the original Rust side by side (cargo, the original's source, the kit)
