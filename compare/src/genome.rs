@@ -50,12 +50,22 @@ enum Form {
     Bedgraph(usize),
 }
 
+/// What is written: shorter intervals have no line in BED and marks; a record that is refused for too few letters may have no
+/// mask instead.
+#[derive(Clone, Copy)]
+struct Settings {
+    form: Form,
+    min_length: usize,
+    skip_short: bool,
+}
+
 type Interval = (usize, usize);
 
-fn mask(request: &Request) -> Option<Vec<Interval>> {
+/// The mask, or the number of the refusal.
+fn mask(request: &Request) -> Result<Vec<Interval>, u32> {
     match original::reference(request, &Buffers::new(request)).answer {
-        Answer::Accepted { intervals, .. } => Some(intervals),
-        Answer::Refused(_) => None,
+        Answer::Accepted { intervals, .. } => Ok(intervals),
+        Answer::Refused(number) => Err(number),
     }
 }
 
@@ -109,27 +119,31 @@ fn write_letters(out: &mut impl Write, record: &Record, masked: &[bool], shown: 
 }
 
 /// A refused record passes through as it came in FASTA, and is left out in the other forms.
-fn write_record(out: &mut impl Write, form: Form, record: &Record, options: &Request) -> io::Result<()> {
+fn write_record(out: &mut impl Write, settings: Settings, record: &Record, options: &Request) -> io::Result<()> {
+    let Settings { form, min_length, skip_short } = settings;
     let request = Request { sequence: record.lines.concat(), ..options.clone() };
     let n = request.sequence.len();
-    let Some(mask) = mask(&request) else {
-        return match form {
-            Form::Soft | Form::Hard(_) => write_letters(out, record, &vec![false; n], |byte| byte),
-            _ => Ok(()),
-        };
+    let mask = match (mask(&request), form) {
+        (Ok(mask), _) => mask,
+        (Err(3), _) if skip_short => Vec::new(),
+        (Err(_), Form::Soft | Form::Hard(_)) => return write_letters(out, record, &vec![false; n], |byte| byte),
+        (Err(_), _) => return Ok(()),
     };
     let masked = flags(n, &mask);
     let name = record.name();
+    let is_long = |(start, end): &&Interval| end - start >= min_length;
     let mut line = |text: String| out.write_all(name).and_then(|()| writeln!(out, "\t{text}"));
     match form {
-        Form::Bed => mask.iter().try_for_each(|(start, end)| line(format!("{start}\t{end}"))),
+        Form::Bed => mask.iter().filter(is_long).try_for_each(|(start, end)| line(format!("{start}\t{end}"))),
+        Form::Marks if mask.is_empty() => Ok(()),
         Form::Marks => {
             let words = strands(&request, &mask);
-            mask.iter().zip(words).try_for_each(|((start, end), word)| line(format!("{start}\t{end}\t{word}")))
+            let mut lines = mask.iter().zip(words).filter(|(interval, _)| is_long(interval));
+            lines.try_for_each(|((start, end), word)| line(format!("{start}\t{end}\t{word}")))
         }
         Form::Summary => {
             let letters = count(&masked);
-            line(format!("{n}\t{}\t{letters}\t{:.6}", mask.len(), letters as f64 / n as f64))
+            line(format!("{n}\t{}\t{letters}\t{:.6}", mask.len(), letters as f64 / n.max(1) as f64))
         }
         Form::Bedgraph(size) => masked.chunks(size).enumerate().try_for_each(|(i, block)| {
             let share = count(block) as f64 / block.len() as f64;
@@ -140,7 +154,7 @@ fn write_record(out: &mut impl Write, form: Form, record: &Record, options: &Req
     }
 }
 
-fn option(request: &mut Request, form: &mut Form, name: &str, value: &str) -> Result<(), String> {
+fn option(request: &mut Request, settings: &mut Settings, name: &str, value: &str) -> Result<(), String> {
     match (name, value) {
         ("kmer", n) => request.kmer = number(n)?,
         ("window-size", n) => request.window_size = number(n)?,
@@ -153,11 +167,13 @@ fn option(request: &mut Request, form: &mut Form, name: &str, value: &str) -> Re
         ("min-start-cnt", n) => request.min_start_cnt = number(n)?,
         ("approx", "") => request.approx = true,
         ("forward-only", "") => request.forward_only = true,
-        ("marks", "") => *form = Form::Marks,
-        ("soft", "") => *form = Form::Soft,
-        ("hard", letter) => *form = Form::Hard(letter.as_bytes()[0]),
-        ("summary", "") => *form = Form::Summary,
-        ("bedgraph", n) => *form = Form::Bedgraph(number(n)?),
+        ("marks", "") => settings.form = Form::Marks,
+        ("soft", "") => settings.form = Form::Soft,
+        ("hard", letter) => settings.form = Form::Hard(letter.as_bytes()[0]),
+        ("summary", "") => settings.form = Form::Summary,
+        ("bedgraph", n) => settings.form = Form::Bedgraph(number(n)?),
+        ("min-length", n) => settings.min_length = number(n)?,
+        ("skip-short", "") => settings.skip_short = true,
         _ => return Err(format!("not understood: --{name}={value}")),
     }
     Ok(())
@@ -166,18 +182,19 @@ fn option(request: &mut Request, form: &mut Form, name: &str, value: &str) -> Re
 /// The `genome` command: a file, and before it options of `cisternpea` as `--name` or `--name=value`.
 pub fn command(words: &[&str]) -> Result<(), String> {
     let [options @ .., file] = words else { return Err("no file".to_string()) };
-    let (mut request, mut form) = (Request::default(), Form::Bed);
+    let mut request = Request::default();
+    let mut settings = Settings { form: Form::Bed, min_length: 0, skip_short: false };
     for word in options {
         let word = word.strip_prefix("--").ok_or(format!("not understood: {word}"))?;
         let (name, value) = word.split_once('=').unwrap_or((word, ""));
-        option(&mut request, &mut form, name, value)?;
+        option(&mut request, &mut settings, name, value)?;
     }
     let text = std::fs::read(file).map_err(|error| format!("{file}: {error}"))?;
     let mut out = BufWriter::new(io::stdout().lock());
-    let heading = if let Form::Summary = form { "#name\tletters\tintervals\tmasked\tshare\n" } else { "" };
+    let heading = if let Form::Summary = settings.form { "#name\tletters\tintervals\tmasked\tshare\n" } else { "" };
     let mut write = || {
         out.write_all(heading.as_bytes())?;
-        records(&text).iter().try_for_each(|record| write_record(&mut out, form, record, &request))?;
+        records(&text).iter().try_for_each(|record| write_record(&mut out, settings, record, &request))?;
         out.flush()
     };
     write().map_err(|error| error.to_string())
@@ -256,23 +273,23 @@ mod tests {
 
     #[test]
     fn writes_forms() {
-        let text = b">a b\nGCGC\n\nAAAAAAAA\nAAGT\n";
-        let write = |form| {
+        let text = b">a b\nGCGC\n\nAAAAAAAA\nAAGT\n>b c\nA7C\nGTA\n>c\nA\n";
+        let write = |form, min_length, skip_short| {
             let mut out = Vec::new();
             let options = Request { kmer: 3, ..Request::default() };
-            records(text).iter().for_each(|record| write_record(&mut out, form, record, &options).unwrap());
+            let settings = Settings { form, min_length, skip_short };
+            records(text).iter().for_each(|record| write_record(&mut out, settings, record, &options).unwrap());
             String::from_utf8(out).unwrap()
         };
-        assert_eq!(write(Form::Bed), "a\t4\t14\n");
-        assert_eq!(write(Form::Marks), "a\t4\t14\tboth\t0\t.\n");
-        assert_eq!(write(Form::Soft), ">a b\nGCGC\n\naaaaaaaa\naaGT\n");
-        assert_eq!(write(Form::Hard(b'X')), ">a b\nGCGC\n\nXXXXXXXX\nXXGT\n");
-        assert_eq!(write(Form::Summary), "a\t16\t1\t10\t0.625000\n");
-        assert_eq!(write(Form::Bedgraph(10)), "a\t0\t10\t0.600000\na\t10\t16\t0.666667\n");
-        let refused = Record { header: b">b c", lines: vec![b"A7C", b"GTA"] };
-        let mut out = Vec::new();
-        write_record(&mut out, Form::Bed, &refused, &Request::default()).unwrap();
-        write_record(&mut out, Form::Soft, &refused, &Request::default()).unwrap();
-        assert_eq!(out, b">b c\nA7C\nGTA\n");
+        assert_eq!(write(Form::Bed, 10, false), "a\t4\t14\n");
+        assert_eq!(write(Form::Bed, 11, false), "");
+        assert_eq!(write(Form::Marks, 10, true), "a\t4\t14\tboth\t0\t.\n");
+        assert_eq!(write(Form::Marks, 11, true), "");
+        let refused = ">b c\nA7C\nGTA\n>c\nA\n";
+        assert_eq!(write(Form::Soft, 11, false), format!(">a b\nGCGC\n\naaaaaaaa\naaGT\n{refused}"));
+        assert_eq!(write(Form::Hard(b'X'), 11, true), format!(">a b\nGCGC\n\nXXXXXXXX\nXXGT\n{refused}"));
+        assert_eq!(write(Form::Summary, 11, false), "a\t16\t1\t10\t0.625000\n");
+        assert_eq!(write(Form::Summary, 0, true), "a\t16\t1\t10\t0.625000\nc\t1\t0\t0\t0.000000\n");
+        assert_eq!(write(Form::Bedgraph(10), 0, false), "a\t0\t10\t0.600000\na\t10\t16\t0.666667\n");
     }
 }
