@@ -5,6 +5,7 @@
 static struct batch *current;
 static uint8_t before; /* the byte before those that come next */
 static bool missing; /* a record is too large: its bytes are counted alone */
+static bool begun, blank; /* a record of the file has; all that came of it are line ends */
 
 static struct batch *new_batch(uint64_t offset) {
     struct batch *batch = calloc(1, sizeof *batch);
@@ -82,14 +83,23 @@ static size_t find_start(const uint8_t *bytes, size_t i, size_t length) {
 void begin_file(void) {
     current = new_batch(0);
     before = '\n';
+    begun = false;
+    blank = true;
+}
+
+static bool are_line_ends(const uint8_t *bytes, size_t length) {
+    for (size_t i = 0; i < length; i++)
+        if (bytes[i] != '\n' && bytes[i] != '\r') return false;
+    return true;
 }
 
 void take_bytes(const uint8_t *bytes, size_t length) {
     size_t done = 0;
     for (size_t i = find_start(bytes, 0, length); i < length; i = find_start(bytes, i + 1, length)) {
         uint64_t here = current->size + (i - done);
-        if (!missing && here < batch_size) {
+        if (!missing && (here < batch_size || !begun)) { /* line ends alone are no batch: there is no record in it */
             current->last = here;
+            begun = true;
             continue;
         }
         append(bytes + done, i - done);
@@ -99,7 +109,9 @@ void take_bytes(const uint8_t *bytes, size_t length) {
     }
     append(bytes + done, length - done);
     before = bytes[length - 1];
+    blank = blank && are_line_ends(bytes, length);
     if (current->last > 0 && current->size - current->last > batch_size) launch_to(current->last);
+    if (!begun && !blank && !missing && current->size > batch_size) launch_to(current->size); /* a worker says what it is */
 }
 
 void launch_some(void) {
