@@ -1,0 +1,4 @@
+pub mod Text
+pub mod Units
+pub mod Ranking
+pub mod Terms

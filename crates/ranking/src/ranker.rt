@@ -1,0 +1,112 @@
+// What is asked of a record, and the lines of its strongest stretches.
+
+ghost use Rattle.std.specs.Prelude.{◌≡◌, ◌++◌, ◌<◌, ◌^◌, length, cond, OnOk, IfOk};
+ghost use Rattle.ranking.specs.Ranking.{head, asked_of, most, Answers};
+
+use crate::units::{fill_units, units};
+use crate::work::Work;
+use checks::Refusal;
+use intervals::Interval;
+use std::alloc::{AllocError, Global};
+use strongest::Scoring;
+use strongest_list::Request;
+
+/// A record with its mask.
+#[derive(Clone, Copy)]
+pub struct Record<'a> {
+    pub name: &'a [u8],
+    pub letters: &'a [u8],
+    pub mask: &'a [Interval],
+}
+
+/// The tables that it was masked by: ln of w + 1 entries at least, f of w + 2.
+#[derive(Clone, Copy)]
+pub struct Tables<'a> {
+    pub ln: &'a [f64],
+    pub f: &'a [f64],
+}
+
+/// What is wanted.
+#[derive(Clone, Copy)]
+pub struct Wanted {
+    /// k, 1 to 12.
+    pub kmer: usize,
+    /// w, the most places that a stretch may have: k + 1 to 65,535.
+    pub window_size: usize,
+    /// T.
+    pub score_threshold: f64,
+    /// N: at most so many stretches.
+    pub most: usize,
+    /// A stretch is listed only if it scores more, in units of 2^-32.
+    pub floor: u64,
+    /// The whole record is the region, and not its mask.
+    pub whole: bool,
+}
+
+/// Appends the line that names the columns.
+pub fn add_head(text: &mut Vec<u8>) -> Result<(), AllocError>
+    ensures { OnOk result (text.new.items ≡ text.old.items ++ head) }
+{
+    text.extend_from_slice(
+        b"#name\tstart\tend\trank\tscore\tscore_a_place\tplaces\tregion_start\tregion_end\trank_in_region\tletters\n",
+    )
+}
+
+fn choose<'a>(whole: bool, all: &'a [Interval], mask: &'a [Interval]) -> &'a [Interval]
+    ensures { result.now ≡ cond whole all.now mask.now }
+{
+    if whole { all } else { mask }
+}
+
+/// Lists the strongest stretches of one record after the other. Its buffers grow with the records.
+#[derive(Drop)]
+pub struct Ranker {
+    pub ln: Vec<u64>,
+    pub f: Vec<u64>,
+    pub work: Work,
+}
+
+impl Ranker {
+    pub fn new(alloc: Global) -> Self {
+        Ranker {
+            ln: Vec::new(alloc),
+            f: Vec::new(alloc),
+            work: Work::new(alloc),
+        }
+    }
+
+    /// Appends a line for each of the strongest stretches, by rank; or answers why the record is refused, and appends nothing then.
+    /// Fails where there is no memory.
+    pub fn add_ranking(
+        &mut self,
+        contig: &Record,
+        tables: &Tables,
+        wanted: Wanted,
+        text: &mut Vec<u8>,
+    ) -> Result<Result<(), Refusal>, AllocError>
+        ensures { let A = asked_of wanted contig.now tables.now in
+            IfOk result (Answers contig.now.name.now A (most wanted contig.now) text.old.items text.new.items) }
+    {
+        fill_units(tables.ln, &mut self.ln)?;
+        fill_units(tables.f, &mut self.f)?;
+        let n = contig.letters.len();
+        let all = [Interval {
+            start: 0,
+            end: n.min(2147483647) as u32,
+        }];
+        let request = Request {
+            sequence: contig.letters,
+            kmer: wanted.kmer,
+            window_size: wanted.window_size,
+            scoring: Scoring {
+                threshold: units(wanted.score_threshold),
+                ln: self.ln.as_slice(),
+                f: self.f.as_slice(),
+            },
+            regions: choose(wanted.whole, &all, contig.mask),
+            floor: wanted.floor,
+        };
+        self.work
+            .add_ranking(contig.name, &request, wanted.most.min(n), text)
+    }
+}
