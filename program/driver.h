@@ -44,6 +44,7 @@ void read_plan(char **argv);
 
 /* limits.c: what the process may use, by affinity and control groups. */
 void find_usable(uint64_t *cores, uint64_t *bytes);
+void check_processor(void); /* that it can run the proved program */
 
 /* signals.c. From hold_signals on, signals come by wait_ready alone. */
 extern int caught, caught_times; /* the signal that asked to end, or 0 */

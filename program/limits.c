@@ -1,6 +1,21 @@
 #include <sched.h>
+#ifdef __x86_64__
+#include <cpuid.h>
+#endif
 
 #include "driver.h"
+
+void check_processor(void) {
+#ifdef __x86_64__
+    /* Leaves of cpuid, and the bits of ecx: SSE3, SSSE3, CMPXCHG16B, SSE4.1, SSE4.2, POPCNT; LAHF. */
+    static const unsigned needed[2][2] = {{1, 0x00982201}, {0x80000001, 1}};
+    for (int i = 0; i < 2; i++) {
+        unsigned eax, ebx, ecx = 0, edx;
+        if (!__get_cpuid(needed[i][0], &eax, &ebx, &ecx, &edx) || (ecx & needed[i][1]) != needed[i][1])
+            fail(FAILED, "this processor is too old: cisternpea-proved is built for x86-64-v2");
+    }
+#endif
+}
 
 /* A number in a file of a control group, the first or the second there; UINT64_MAX if there is none ("max", -1). */
 static uint64_t number(const char *folder, const char *group, const char *name, bool second) {

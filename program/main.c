@@ -31,6 +31,7 @@ static void read_file(const char *path) {
 int main(int argc, char **argv) {
     (void)argc;
     hold_standard_files();
+    check_processor();
     read_plan(argv);
     refuse_own_input();
     size_workers();

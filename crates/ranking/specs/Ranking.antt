@@ -1,5 +1,5 @@
 -- What is written of a record's strongest stretches: a line each, by rank, below a head.
-use Rattle.std.specs.Prelude.{◌≡◌, ℕ, ◌+◌, ◌-◌, ◌/◌, ◌*◌, ◌^◌, min, max, Bool, cond, ◌&&◌, List, [], ◌∷◌, ◌++◌, map, take, drop, length, get_or, ltb, leb, ℤ, pos, negsuc, Result, Ok, Err}
+use Rattle.std.specs.Prelude.{◌≡◌, ℕ, ◌+◌, ◌-◌, ◌/◌, ◌*◌, ◌^◌, min, max, Bool, cond, ◌&&◌, List, [], ◌∷◌, ◌++◌, map, take, drop, length, get_or, ltb, leb, ℤ, pos, negsuc, Result, Ok, Err, Float}
 use Rattle.std.specs.List.{count_by}
 use Rattle.checks.specs.declared.refusal.Refusal.{Refusal}
 use Rattle.checks.specs.Refusal.{number}
@@ -74,12 +74,14 @@ ranking name A N =
 abbrev pub regions : Bool → ℕ → List Interval → List Interval
 regions whole n mask = cond whole (interval 0 (min n 2147483647) ∷ []) mask
 
-abbrev pub asked_of : Wanted → Record → Tables → Asked
-asked_of w r t =
-    asked r.letters.now w.kmer w.window_size (units w.score_threshold) (map units t.ln.now) (map units t.f.now)
-    (regions w.whole (length r.letters.now) r.mask.now) w.floor
+abbrev pub asked_for : Wanted → List ℕ → List Interval → List Float → List Float → Asked
+asked_for w sequence mask ln f =
+    asked sequence w.kmer w.window_size (units w.score_threshold) (map units ln) (map units f) (regions w.whole (length sequence) mask) w.floor
 
--- N; a record of n letters has fewer than n stretches apart from each other.
+abbrev pub asked_of : Wanted → Record → Tables → Asked
+asked_of w r t = asked_for w r.letters.now r.mask.now t.ln.now t.f.now
+
+-- N, or n if that is less: n letters never hold more than n stretches apart from each other.
 abbrev pub most : Wanted → Record → ℕ
 most w r = min w.most (length r.letters.now)
 
