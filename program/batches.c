@@ -111,7 +111,8 @@ void take_bytes(const uint8_t *bytes, size_t length) {
     before = bytes[length - 1];
     blank = blank && are_line_ends(bytes, length);
     if (current->last > 0 && current->size - current->last > batch_size) launch_to(current->last);
-    if (!begun && !blank && !missing && current->size > batch_size) launch_to(current->size); /* a worker says what it is */
+    /* No FASTA: a worker says what it is. */
+    if (!begun && !blank && !missing && current->size > batch_size) launch_to(current->size);
 }
 
 void launch_some(void) {
