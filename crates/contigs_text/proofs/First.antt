@@ -4,7 +4,7 @@ use Rattle.std.specs.Prelude.{Option, Result}
 use Rattle.std.specs.Io.KnownBytes.{Appends}
 use Rattle.std.proofs.KnownBytes.{Appends-nil}
 use Rattle.entries.specs.Outcome.{held, Sent, AllAppend, AllSent}
-use Rattle.forms.proofs.Outputs.{Writers, UpTo, upto_start, upto_more, upto_stop}
+use Rattle.forms.proofs.Writers.{Writers, UpTo, upto_start, upto_more, upto_stop}
 use Rattle.contigs_text.specs.Terms.Report.{to_first}
 
 first_all : (a b : Writers) (text : List ℕ) → UpTo 1 a b (to_first text) → AllAppend a b (to_first text)
