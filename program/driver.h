@@ -24,6 +24,7 @@ enum { REFUSED = 1, USAGE = 2, FAILED = 3, STOPPED = 4 };
 
 /* Bytes, but for the outputs; BATCH is the largest batch, and the build's. */
 enum { MOST_OUTPUTS = 12, CHUNK = 1 << 18, SMALLEST_BATCH = BATCH / 16, OWN_MEMORY = 4 << 20 };
+enum { BLOCK = 65280, PACKED = 1 << 16 }; /* of bgzip: its text, and the most that this takes packed */
 
 /* What the proved program makes of the command line. */
 struct plan {
@@ -70,8 +71,12 @@ void open_outputs(void); /* and writes their heads */
 size_t put(int file, const char *bytes, size_t length); /* fewer bytes: it failed, or a signal came */
 void put_output(size_t output, const char *bytes, size_t length);
 extern int numbers; /* what the workers wrote of them: an anonymous file */
-void keep_outputs(void); /* named ones get their names */
+void keep_outputs(void); /* at their ends; named ones get their names */
 void drop_outputs(void);
+
+/* bgzip.c */
+bool is_bgzip(const char *path); /* by its name */
+size_t pack_block(const uint8_t *text, size_t length, uint8_t packed[PACKED]);
 
 /* input.c: a file, unpacked. */
 extern const char *input_name, *input_fault; /* why its end is none, or null */

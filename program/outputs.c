@@ -8,6 +8,8 @@ int numbers;
 static struct {
     int file;
     char *path, *beside; /* null for standard output, numbers and what is no file */
+    uint8_t *block; /* where it is bgzip: the text of the next block */
+    size_t length; /* of that */
 } outputs[MOST_OUTPUTS];
 
 bool tell(const char *path, int file, struct stat *told) {
@@ -37,6 +39,7 @@ void refuse_own_input(void) {
 static void open_output(size_t i, const char *path) {
     struct stat there;
     bool exists = stat(path, &there) == 0;
+    if (is_bgzip(path) && (outputs[i].block = malloc(BLOCK)) == NULL) fail(FAILED, "no memory");
     if (exists && !S_ISREG(there.st_mode)) {
         outputs[i].file = open(path, O_WRONLY | O_CLOEXEC);
     } else {
@@ -95,7 +98,7 @@ static void cut(size_t length) {
     if (ftruncate(STDOUT_FILENO, here - (off_t)length) != 0) say("the end of the output may be half a record");
 }
 
-void put_output(size_t i, const char *bytes, size_t length) {
+static void put_whole(size_t i, const char *bytes, size_t length) {
     size_t done = put(outputs[i].file, bytes, length);
     int error = errno;
     if (done == length) return;
@@ -105,7 +108,34 @@ void put_output(size_t i, const char *bytes, size_t length) {
     fail(FAILED, "cannot write: %s", strerror(error));
 }
 
+/* Packs a block's text, and ends at a signal: the output would not be kept. */
+static void put_block(size_t i) {
+    uint8_t packed[PACKED];
+    put_whole(i, (char *)packed, pack_block(outputs[i].block, outputs[i].length, packed));
+    outputs[i].length = 0;
+    if (caught != 0) finish(FAILED);
+}
+
+void put_output(size_t i, const char *bytes, size_t length) {
+    if (outputs[i].block == NULL) {
+        put_whole(i, bytes, length);
+        return;
+    }
+    while (length > 0) {
+        size_t room = BLOCK - outputs[i].length, part = length < room ? length : room;
+        memcpy(outputs[i].block + outputs[i].length, bytes, part);
+        outputs[i].length += part;
+        if (part == room) put_block(i);
+        bytes += part;
+        length -= part;
+    }
+}
+
 void keep_outputs(void) {
+    for (size_t i = 0; i < plan.outputs_len; i++) {
+        if (outputs[i].length > 0) put_block(i);
+        if (outputs[i].block != NULL) put_block(i);
+    }
     for (size_t i = 0; i < plan.outputs_len; i++) {
         bool kept = close(outputs[i].file) == 0;
         if (kept && outputs[i].beside != NULL) kept = rename(outputs[i].beside, outputs[i].path) == 0;
