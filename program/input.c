@@ -6,10 +6,9 @@
 const char *input_name, *input_fault;
 uint64_t bytes_read;
 static int file;
-static uint8_t raw[CHUNK]; /* what is read and not yet taken: from begin to end */
-static size_t begin, end;
+static uint8_t raw[CHUNK];
+static z_stream z; /* its input, in raw, is what is read and not yet taken */
 static bool ended, gzip, inside, cut; /* no more can be read; it is a gzip file; in a member of it, which has no end */
-static z_stream z;
 static gz_header header;
 static uint8_t extra[3];
 static bool block, empty; /* the last member is a block of bgzip; it has no bytes */
@@ -35,30 +34,30 @@ bool is_plain(const char *path) {
     return plain;
 }
 
-/* Reads behind what is there. While it waits, workers that end are served, and idle ones get what there is. */
+/* Reads behind what is not yet taken. While it waits, workers that end are served, and idle ones get what there is. */
 static void read_raw(void) {
     ssize_t got;
-    if (begin == end) begin = end = 0;
+    memmove(raw, z.next_in, z.avail_in);
+    z.next_in = raw;
     do {
         while (!turn(file))
             if (lull) launch_some();
-        got = read(file, raw + end, CHUNK - end);
+        got = read(file, raw + z.avail_in, CHUNK - z.avail_in);
     } while (got < 0 && (errno == EINTR || errno == EAGAIN));
     if (got < 0) input_fault = strerror(errno);
     if (got <= 0) ended = true;
-    else end += (size_t)got, bytes_read += (uint64_t)got;
+    else z.avail_in += (uInt)got, bytes_read += (uint64_t)got;
 }
 
 void open_input(const char *path) {
     input_name = path == NULL ? "standard input" : path;
-    begin = end = 0;
+    z = (z_stream){.next_in = raw};
     ended = gzip = inside = cut = block = empty = false;
     input_fault = NULL;
     file = path == NULL ? STDIN_FILENO : open(path, O_RDONLY | O_CLOEXEC);
     if (file < 0) input_fault = strerror(errno), ended = true;
-    while (end < 2 && !ended) read_raw();
-    gzip = end >= 2 && is_gzip(raw);
-    z = (z_stream){0};
+    while (z.avail_in < 2 && !ended) read_raw();
+    gzip = z.avail_in >= 2 && is_gzip(raw);
     if (gzip && inflateInit2(&z, 16 + MAX_WBITS) != Z_OK) fail(FAILED, "no memory to read gzip");
 }
 
@@ -69,23 +68,14 @@ void close_input(void) {
 
 /* At the border of two members: false if there is none behind it. Zero bytes may fill a file up. */
 static bool next_member(void) {
-    for (;; begin++, block = false) {
-        while (end - begin < 2 && !ended) {
-            memmove(raw, raw + begin, end - begin);
-            end -= begin;
-            begin = 0;
-            read_raw();
-        }
-        if (end - begin >= 2 && is_gzip(raw + begin)) break;
-        if (begin == end) {
-            if (input_fault == NULL && block && !empty)
-                input_fault = "the file is cut short: bgzip's end block is missing";
-            return false;
-        }
-        if (raw[begin] != 0) {
-            input_fault = "bytes that are no gzip data follow its end";
-            return false;
-        }
+    for (;; z.next_in++, z.avail_in--) {
+        while (z.avail_in < 2 && !ended) read_raw();
+        if (z.avail_in >= 2 && is_gzip(z.next_in)) break;
+        if (z.avail_in > 0 && *z.next_in == 0) continue;
+        if (z.avail_in > 0) input_fault = "bytes that are no gzip data follow its end";
+        else if (input_fault == NULL && block && !empty)
+            input_fault = "the file is cut short: bgzip's end block is missing";
+        return false;
     }
     inflateReset(&z);
     header = (gz_header){.extra = extra, .extra_max = sizeof extra};
@@ -97,18 +87,15 @@ static bool is_block(void) { return header.extra != NULL && header.extra_len >= 
 
 /* Inflates to the bytes' end or that of the member. */
 static size_t inflate_some(uint8_t *bytes, size_t room) {
-    if (begin == end) read_raw();
-    if (begin == end) {
+    if (z.avail_in == 0) read_raw();
+    if (z.avail_in == 0) {
         if (input_fault == NULL) input_fault = "the file is cut short: its gzip data have no end";
         cut = true;
         return 0;
     }
-    z.next_in = raw + begin;
-    z.avail_in = (uInt)(end - begin);
     z.next_out = bytes;
     z.avail_out = (uInt)room;
     int result = inflate(&z, Z_NO_FLUSH);
-    begin = end - z.avail_in;
     if (z.avail_out < room) empty = false;
     if (result == Z_STREAM_END) {
         inside = false;
@@ -124,10 +111,10 @@ static size_t inflate_some(uint8_t *bytes, size_t room) {
 size_t read_input(uint8_t *bytes, size_t room) {
     size_t length = 0, checked = 0;
     if (!gzip) {
-        if (begin == end && !ended) read_raw();
-        length = end - begin;
-        memcpy(bytes, raw + begin, length); /* room is CHUNK */
-        begin = end;
+        if (z.avail_in == 0 && !ended) read_raw();
+        length = z.avail_in;
+        memcpy(bytes, z.next_in, length); /* room is CHUNK */
+        z.avail_in = 0;
         return length;
     }
     /* A member's check comes at its end. None of at most 64 KB, as bgzip's blocks are, is given before that; of another that is

@@ -1,32 +1,25 @@
 #include <sched.h>
-#ifdef __x86_64__
-#include <cpuid.h>
-#endif
 
 #include "driver.h"
 
+/* What has these two of x86-64-v2's sets of instructions has the others. */
 void check_processor(void) {
 #ifdef __x86_64__
-    /* Leaves of cpuid, and the bits of ecx: SSE3, SSSE3, CMPXCHG16B, SSE4.1, SSE4.2, POPCNT; LAHF. */
-    static const unsigned needed[2][2] = {{1, 0x00982201}, {0x80000001, 1}};
-    for (int i = 0; i < 2; i++) {
-        unsigned eax, ebx, ecx = 0, edx;
-        if (!__get_cpuid(needed[i][0], &eax, &ebx, &ecx, &edx) || (ecx & needed[i][1]) != needed[i][1])
-            fail(FAILED, "this processor is too old: cisternpea-proved is built for x86-64-v2");
-    }
+    if (!__builtin_cpu_supports("sse4.2") || !__builtin_cpu_supports("popcnt"))
+        fail(FAILED, "this processor is too old: cisternpea-proved is built for x86-64-v2");
 #endif
 }
 
-/* A number in a file of a control group, the first or the second there; UINT64_MAX if there is none ("max", -1). */
-static uint64_t number(const char *folder, const char *group, const char *name, bool second) {
-    char path[8192], text[64] = "", *from = text;
+/* The number in a file of a control group, and the second there; UINT64_MAX if there is none ("max", -1). */
+static uint64_t number(const char *folder, const char *group, const char *name, uint64_t *second) {
+    char path[8192];
+    uint64_t first = UINT64_MAX;
     snprintf(path, sizeof path, "/sys/fs/cgroup%s%s/%s", folder, group, name);
-    int file = open(path, O_RDONLY | O_CLOEXEC);
-    if (file < 0) return UINT64_MAX;
-    if (read(file, text, sizeof text - 1) < 0) *text = 0;
-    close(file);
-    if (second) from += strcspn(text, " ") + 1;
-    return *from >= '0' && *from <= '9' ? strtoull(from, NULL, 10) : UINT64_MAX;
+    FILE *file = fopen(path, "re");
+    if (file == NULL) return UINT64_MAX;
+    if (fscanf(file, "%" SCNu64 "%" SCNu64, &first, second) < 1) first = UINT64_MAX;
+    fclose(file);
+    return first;
 }
 
 static uint64_t smaller(uint64_t a, uint64_t b) { return a < b ? a : b; }
@@ -37,15 +30,14 @@ static void apply_group(const char *front, char *group, uint64_t *cores, uint64_
     bool v2 = strncmp(front, "0::", 3) == 0, v1_cpu = strstr(front, ":cpu") && !strstr(front, ":cpuset");
     for (char *slash = group + strlen(group); slash != NULL; slash = strrchr(group, '/')) {
         *slash = 0;
-        uint64_t quota = UINT64_MAX, period = UINT64_MAX;
-        if (v2) quota = number("", group, "cpu.max", false), period = number("", group, "cpu.max", true);
-        if (v1_cpu) quota = number("/cpu", group, "cpu.cfs_quota_us", false);
-        if (v1_cpu) period = number("/cpu", group, "cpu.cfs_period_us", false);
-        if (quota != UINT64_MAX && period != UINT64_MAX && period > 0)
-            *cores = smaller(*cores, (quota + period - 1) / period);
-        if (v2) *bytes = smaller(*bytes, number("", group, "memory.max", false));
+        uint64_t quota = UINT64_MAX, period = 0, none;
+        if (v2) quota = number("", group, "cpu.max", &period);
+        if (v2) *bytes = smaller(*bytes, number("", group, "memory.max", &none));
+        if (v1_cpu) quota = number("/cpu", group, "cpu.cfs_quota_us", &none);
+        if (v1_cpu) period = number("/cpu", group, "cpu.cfs_period_us", &none);
         if (strstr(front, ":memory:"))
-            *bytes = smaller(*bytes, number("/memory", group, "memory.limit_in_bytes", false));
+            *bytes = smaller(*bytes, number("/memory", group, "memory.limit_in_bytes", &none));
+        if (quota < UINT64_MAX && period > 0) *cores = smaller(*cores, quota / period + (quota % period > 0));
     }
 }
 
