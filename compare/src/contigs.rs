@@ -89,7 +89,7 @@ fn lines(records: &[Record]) -> Vec<u8> {
     text
 }
 
-/// The files of crates/contigs_cases, each with its title.
+/// The files of crates/cases/src/files.rt, each with its title.
 fn cases() -> Vec<(&'static str, Vec<u8>)> {
     let a = b"AAAAAAAAAAAA";
     // Two records, the first of 32,768 letters.
@@ -135,7 +135,7 @@ fn cases() -> Vec<(&'static str, Vec<u8>)> {
     ]
 }
 
-/// What crates/contigs_cases prints: for each case its title, its text, and how many bytes the text has.
+/// What crates/cases prints for files: for each case its title, its text, and how many bytes the text has.
 pub fn cases_text() -> Vec<u8> {
     let case = |(title, file): (&str, Vec<u8>)| {
         let text = text(&file);

@@ -50,7 +50,7 @@ compare copies SEED COUNT  masked copies, the port's against a plain one, on ran
 compare copies bench       seconds of both at 100,000,000 letters
 compare contigs SEED COUNT the program contigs on its cases and on random FASTA files, its text against the original's masks
 compare contigs text FILE  what contigs has to print for a file, by the original
-compare contigs cases      what crates/contigs_cases has to print, by the original
+compare contigs cases      what crates/cases has to print for files, by the original
 compare questions SEED COUNT  questions about a position, the port's answers against plain walks, on random batches
 compare questions bench    questions per second of both, 1,000,000 intervals in 2,000,000,000 letters
 compare tracks SEED COUNT  joined tracks, the port's against a plain join letter by letter, on random pairs

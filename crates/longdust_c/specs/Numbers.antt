@@ -11,8 +11,8 @@ use Rattle.tables.specs.declared.GcOption.TheVariants.{Uniform, Fixed, Auto}
 use Rattle.longdust.specs.declared.LongdustOptions.{LongdustOptions}
 use Rattle.masked_copy.specs.declared.Masking.{Masking}
 use Rattle.masked_copy.specs.declared.Masking.TheVariants.{LowerCase, Replace}
-use Rattle.tracks.specs.declared.Joined.{Joined}
-use Rattle.tracks.specs.declared.Joined.TheVariants.{Either, Both, Outside}
+use Rattle.join.specs.declared.Joined.{Joined}
+use Rattle.join.specs.declared.Joined.TheVariants.{Either, Both, Outside}
 
 -- A yes or no is a number, 0 for no.
 abbrev pub yes : ℕ → Bool

@@ -3,12 +3,12 @@
 
 ghost use Rattle.std.specs.Prelude.{◌≡◌, ◌<◌, length};
 ghost use Rattle.buffers.specs.Fill.{put};
-ghost use Rattle.tracks.specs.Tracks.{joined, joined_marks, refusal};
+ghost use Rattle.join.specs.Joining.{joined, joined_marks, refusal};
 ghost use Rattle.longdust_c.specs.Numbers.{kind_of, count_or};
 
 use crate::numbers::{kind_of, returned};
 use intervals::{Interval, MarksOut};
-use tracks::Track;
+use join::MarkedList;
 
 // The letters of our list and of theirs that are wanted, and the marks of our intervals, over the fronts of `list` and `list_marks`.
 #[unsafe(no_mangle)]
@@ -29,10 +29,10 @@ pub extern "C" fn longdust_join_tracks(
     ensures refused { 0 < refusal n ours.now marks.now theirs.now (length list.old) (length list_marks.old)
         → (list.new ≡ list.old) × (list_marks.new ≡ list_marks.old) }
 {
-    let ours = Track { list: ours, marks };
+    let ours = MarkedList { list: ours, marks };
     let mut out = MarksOut {
         list,
         marks: list_marks,
     };
-    returned(tracks::join_tracks(kind_of(kind), n, &ours, theirs, &mut out))
+    returned(join::join_tracks(kind_of(kind), n, &ours, theirs, &mut out))
 }

@@ -7,10 +7,10 @@ ghost use Rattle.longdust.specs.Call.{mask_count, mask_flag};
 ghost use Rattle.longdust_c.specs.Numbers.{gc_choice, xdrop_choice, masking_of, kind_of, count_or, flag, refusal_numbered};
 
 use checks::Refusal;
+use join::Joined;
 use longdust::Answer;
 use masked_copy::Masking;
 use tables::GcOption;
-use tracks::Joined;
 
 // The GC choice that two numbers stand for.
 pub fn gc_choice(gc_kind: u32, gc_value: f64) -> GcOption

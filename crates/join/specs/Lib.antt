@@ -1,4 +1,4 @@
 pub mod Stretches
-pub mod Tracks
+pub mod Joining
 pub mod Promised
 pub mod Terms

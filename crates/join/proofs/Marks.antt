@@ -7,9 +7,9 @@ use Rattle.intervals.specs.Interval.{interval, Holds}
 use Rattle.intervals.proofs.Order.{lt_or_le}
 use Rattle.intervals.proofs.Counted.{or_agrees, and_agrees, ltb_agrees, same_test}
 use Rattle.intervals.specs.Merge.{byte_of}
-use Rattle.tracks.specs.Tracks.{meet, forward, reverse, seen, marks_for}
-use Rattle.tracks.specs.Promised.{Gives}
-use Rattle.tracks.proofs.Every.{every, every_at}
+use Rattle.join.specs.Joining.{meet, forward, reverse, seen, marks_for}
+use Rattle.join.specs.Promised.{Gives}
+use Rattle.join.proofs.Every.{every, every_at}
 
 -- Intervals share a letter exactly when some letter lies in both.
 meet_agrees : (i j : Interval) → (meet i j ≡ true) ↔ ((x : ℕ) × Holds i x × Holds j x)

@@ -7,8 +7,8 @@ use Rattle.checks.proofs.Passing.{passes}
 use Rattle.intervals.specs.declared.Interval.{Interval}
 use Rattle.intervals.specs.Interval.{usual}
 use Rattle.intervals.proofs.Usual.{usual_agrees}
-use Rattle.tracks.specs.Tracks.{checks, refusal}
-use Rattle.tracks.specs.Terms.Sweep.{Ready}
+use Rattle.join.specs.Joining.{checks, refusal}
+use Rattle.join.specs.Terms.Sweep.{Ready}
 
 pub record Accepted (n : ℕ) (ours : List Interval) (ms : List ℕ) (theirs : List Interval) (list marks : ℕ) : Type 0 where
   pub few : n ≤ 2147483647

@@ -13,18 +13,18 @@ use Rattle.intervals.specs.declared.output.MarksOut.{MarksOut}
 use Rattle.intervals.proofs.Joining.{nonempty_some, nonempty_none}
 use Rattle.intervals.proofs.Order.{lt_or_le}
 use Rattle.intervals.proofs.Slice.{wrote_next}
-use Rattle.tracks.specs.Stretches.{stretches}
-use Rattle.tracks.specs.Tracks.{wanted, wanted_at, joined, joined_marks, marks_for}
+use Rattle.join.specs.Stretches.{stretches}
+use Rattle.join.specs.Joining.{wanted, wanted_at, joined, joined_marks, marks_for}
 use Rattle.intervals.specs.Terms.Leading.{ended}
-use Rattle.tracks.specs.Terms.Sweep.{sweep, piece_at, Ready}
-use Rattle.tracks.specs.declared.Joined.{Joined}
-use Rattle.tracks.specs.declared.Sweep.{Sweep}
-use Rattle.tracks.specs.declared.Piece.{Piece}
-use Rattle.tracks.proofs.Stretches.{stretches_none, stretches_grow}
-use Rattle.tracks.proofs.Room.{joined_room}
-use Rattle.tracks.proofs.Marks.{marks_split, marks_empty}
-use Rattle.tracks.proofs.Sides.{ended_early}
-use Rattle.tracks.proofs.Pieces.{Cut, cut}
+use Rattle.join.specs.Terms.Sweep.{sweep, piece_at, Ready}
+use Rattle.join.specs.declared.Joined.{Joined}
+use Rattle.join.specs.declared.Sweep.{Sweep}
+use Rattle.join.specs.declared.Piece.{Piece}
+use Rattle.join.proofs.Stretches.{stretches_none, stretches_grow}
+use Rattle.join.proofs.Room.{joined_room}
+use Rattle.join.proofs.Marks.{marks_split, marks_empty}
+use Rattle.join.proofs.Sides.{ended_early}
+use Rattle.join.proofs.Pieces.{Cut, cut}
 
 -- Up to where the sweep stands the list is some intervals that are written and one, [s, e) with the marks m, that may grow.
 pub record Sweeping (kind : Joined) (n : ℕ) (ours : List Interval) (ms : List ℕ) (theirs : List Interval)

@@ -6,8 +6,8 @@ ghost use Rattle.std.specs.Prelude.{◌≡◌, true, cond, map, ◌+◌, ◌%◌
 ghost use Rattle.buffers.specs.Fill.{put};
 ghost use Rattle.intervals.specs.Out.{SameOut};
 ghost use Rattle.checks.specs.Refusal.{number_of, count_of, count_unless};
-ghost use Rattle.tracks.specs.Tracks.{wanted, joined, joined_marks, too_short_of, refusal};
-ghost use Rattle.tracks.specs.Terms.Sweep.{side_of, ended_first, piece_at, Ready};
+ghost use Rattle.join.specs.Joining.{wanted, joined, joined_marks, too_short_of, refusal};
+ghost use Rattle.join.specs.Terms.Sweep.{side_of, ended_first, piece_at, Ready};
 
 use checks::{Refusal, below_sum, too_many_letters};
 use intervals::{Interval, MarksOut, is_usual};
@@ -22,7 +22,7 @@ pub enum Joined {
 
 /// A list with a byte of marks for each interval.
 #[derive(Clone, Copy)]
-pub struct Track<'a> {
+pub struct MarkedList<'a> {
     pub list: &'a [Interval],
     pub marks: &'a [u8],
 }
@@ -128,7 +128,13 @@ fn marks_at(marks: &[u8], i: usize, covers: bool) -> u8
 }
 
 // Joins our list and theirs, of the usual kind in n letters, with our marks, and returns how many intervals there are then.
-fn join_lists(kind: Joined, n: u32, ours: &Track, theirs: &[Interval], out: &mut MarksOut) -> usize
+fn join_lists(
+    kind: Joined,
+    n: u32,
+    ours: &MarkedList,
+    theirs: &[Interval],
+    out: &mut MarksOut,
+) -> usize
     requires { Ready n ours.now.list.now ours.now.marks.now theirs.now (length out.old.list.now) (length out.old.marks.now) }
     ensures list { out.new.list.now ≡ put (joined kind n ours.now.list.now theirs.now) out.old.list.now }
     ensures marks { out.new.marks.now ≡ put (joined_marks kind n ours.now.list.now ours.now.marks.now theirs.now) out.old.marks.now }
@@ -177,7 +183,7 @@ fn too_short(ours: usize, marks: usize, theirs: usize, list: usize, list_marks: 
 // The first check that fails.
 fn check(
     n: usize,
-    ours: &Track,
+    ours: &MarkedList,
     theirs: &[Interval],
     list: usize,
     list_marks: usize,
@@ -210,7 +216,7 @@ fn check(
 pub fn join_tracks(
     kind: Joined,
     n: usize,
-    ours: &Track,
+    ours: &MarkedList,
     theirs: &[Interval],
     out: &mut MarksOut,
 ) -> Result<usize, Refusal>

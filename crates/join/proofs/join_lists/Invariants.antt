@@ -1,6 +1,6 @@
 use Rattle.std.proofs.Common.{◌-◌}
-use Rattle.tracks.proofs.SweepSteps.{Sweeping}
-use Rattle.tracks.proofs.join_lists.Given as goal
+use Rattle.join.proofs.SweepSteps.{Sweeping}
+use Rattle.join.proofs.join_lists.Given as goal
 
 abbrev pub invariant-loop-sweep : goal.invariant-loop-sweep
 invariant-loop-sweep l =

@@ -4,7 +4,7 @@ use borrow.Author.Tests.{lt-ltb, le-ltb, le-leb, lt-leb}
 use Rattle.intervals.specs.declared.Interval.{Interval}
 use Rattle.intervals.specs.Interval.{interval}
 use Rattle.intervals.proofs.Slice.{list_next}
-use Rattle.tracks.specs.Terms.Sweep.{side, side_of, ended_first}
+use Rattle.join.specs.Terms.Sweep.{side, side_of, ended_first}
 
 module _ (ps : List Interval) (i : ℕ) where
   none_left : length ps ≤ i → drop i ps ≡ []

@@ -12,7 +12,7 @@ use Rattle.intervals.proofs.Covered.{append_covers, nonempty_covers}
 use Rattle.intervals.proofs.Counted.{covered_agrees}
 use Rattle.intervals.proofs.Saving.{save_canonical, save_covers}
 use Rattle.intervals.proofs.Theorems.{canonical_unique}
-use Rattle.tracks.specs.Stretches.{stretches}
+use Rattle.join.specs.Stretches.{stretches}
 
 ascending_ends : (n k lo e : ℕ) (is : List Interval) → n < e → Ascending n k lo is → EndsBelow e is
 ascending_ends n k lo e [] h a = tt

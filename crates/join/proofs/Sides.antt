@@ -5,11 +5,11 @@ use borrow.Author.Tests.{lt-ltb, le-ltb, le-leb, lt-leb}
 use Rattle.intervals.specs.declared.Interval.{Interval}
 use Rattle.intervals.specs.Interval.{interval, covered, Ascending}
 use Rattle.intervals.proofs.Order.{lt_or_le}
-use Rattle.tracks.specs.Tracks.{seen, marks_for}
+use Rattle.join.specs.Joining.{seen, marks_for}
 use Rattle.intervals.specs.Terms.Leading.{leading, ended}
-use Rattle.tracks.specs.Terms.Sweep.{side, side_of, ended_first}
-use Rattle.tracks.specs.declared.Side.{Side}
-use Rattle.tracks.proofs.Marks.{later, marks_part}
+use Rattle.join.specs.Terms.Sweep.{side, side_of, ended_first}
+use Rattle.join.specs.declared.Side.{Side}
+use Rattle.join.proofs.Marks.{later, marks_part}
 
 -- The first k intervals of the list end at x or before it, and s says how it goes on.
 pub record Goes (n : ℕ) (is : List Interval) (x k : ℕ) (s : Side) : Type 0 where

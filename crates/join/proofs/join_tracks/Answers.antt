@@ -1,8 +1,8 @@
 -- A request that was not refused.
 use Rattle.std.proofs.Common.{sym, length, arith}
-use Rattle.tracks.proofs.Refusals.{accepted}
-use Rattle.tracks.proofs.Room.{joined_room}
-use Rattle.tracks.proofs.join_tracks.Goals as goal
+use Rattle.join.proofs.Refusals.{accepted}
+use Rattle.join.proofs.Room.{joined_room}
+use Rattle.join.proofs.join_tracks.Goals as goal
 
 pub join_lists-requires : goal.join_lists-requires
 join_lists-requires c = (accepted (sym c.in_ok-check.ensures)).ready

@@ -2,9 +2,9 @@
 use Rattle.std.specs.Prelude.{ℕ, ◌+◌, ◌≤◌, min, Bool, true, false, cond, List, [], ◌∷◌, ltb, leb, length, drop}
 use Rattle.intervals.specs.declared.Interval.{Interval}
 use Rattle.intervals.specs.Interval.{Canonical}
-use Rattle.tracks.specs.declared.Side.{Side}
-use Rattle.tracks.specs.declared.Sweep.{Sweep}
-use Rattle.tracks.specs.declared.Piece.{Piece}
+use Rattle.join.specs.declared.Side.{Side}
+use Rattle.join.specs.declared.Sweep.{Sweep}
+use Rattle.join.specs.declared.Piece.{Piece}
 
 abbrev pub side : Bool → ℕ → Side
 side covers until = record { covers = covers; until = until }

@@ -3,9 +3,9 @@ use Rattle.std.proofs.Common.{◌≡◌, refl, List, [], ◌∷◌, ℕ}
 use Rattle.intervals.specs.declared.Interval.{Interval}
 use Rattle.intervals.specs.Interval.{interval, covered, usual_from}
 use Rattle.intervals.specs.Save.{staying, save}
-use Rattle.tracks.specs.Stretches.{stretches}
-use Rattle.tracks.specs.Tracks.{joined, joined_marks, marks_for, seen, refusal}
-use Rattle.tracks.specs.declared.Joined.TheVariants.{Either, Both, Outside}
+use Rattle.join.specs.Stretches.{stretches}
+use Rattle.join.specs.Joining.{joined, joined_marks, marks_for, seen, refusal}
+use Rattle.join.specs.declared.Joined.TheVariants.{Either, Both, Outside}
 
 abbrev ours : List Interval
 ours = interval 0 5 ∷ interval 9 12 ∷ []

@@ -6,12 +6,12 @@ use Rattle.intervals.specs.Interval.{Covers, covered, Ascending}
 use Rattle.intervals.specs.Save.{staying, save}
 use Rattle.intervals.proofs.Order.{lt_or_le}
 use Rattle.intervals.proofs.Saving.{save_touch, save_past}
-use Rattle.tracks.specs.Stretches.{stretches}
-use Rattle.tracks.specs.Tracks.{wanted, wanted_at, joined}
-use Rattle.tracks.specs.declared.Joined.{Joined}
-use Rattle.tracks.specs.declared.Joined.TheVariants.{Either, Both, Outside}
-use Rattle.tracks.proofs.Every.{every, every_at}
-use Rattle.tracks.proofs.Stretches.{stretches_canonical, stretches_covers}
+use Rattle.join.specs.Stretches.{stretches}
+use Rattle.join.specs.Joining.{wanted, wanted_at, joined}
+use Rattle.join.specs.declared.Joined.{Joined}
+use Rattle.join.specs.declared.Joined.TheVariants.{Either, Both, Outside}
+use Rattle.join.proofs.Every.{every, every_at}
+use Rattle.join.proofs.Stretches.{stretches_canonical, stretches_covers}
 
 abbrev one : Bool → ℕ
 one b = cond b 1 0

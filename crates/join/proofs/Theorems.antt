@@ -4,12 +4,12 @@ use mathlib.Core.Bool.{or-false, or_comm, and_comm}
 use Rattle.intervals.specs.declared.Interval.{Interval}
 use Rattle.intervals.specs.Interval.{covered, covered_in, Canonical}
 use Rattle.intervals.proofs.Counted.{covered_agrees, same_test, covered_empty, covered_more}
-use Rattle.tracks.specs.Stretches.{stretches}
-use Rattle.tracks.specs.Tracks.{wanted, wanted_at, joined, marks_for, joined_marks}
-use Rattle.tracks.specs.declared.Joined.{Joined}
-use Rattle.tracks.specs.declared.Joined.TheVariants.{Either, Both, Outside}
-use Rattle.tracks.proofs.Stretches.{stretches_canonical, stretches_covers, stretches_none, stretches_own, stretches_same}
-use Rattle.tracks.proofs.Sides.{own_marks}
+use Rattle.join.specs.Stretches.{stretches}
+use Rattle.join.specs.Joining.{wanted, wanted_at, joined, marks_for, joined_marks}
+use Rattle.join.specs.declared.Joined.{Joined}
+use Rattle.join.specs.declared.Joined.TheVariants.{Either, Both, Outside}
+use Rattle.join.proofs.Stretches.{stretches_canonical, stretches_covers, stretches_none, stretches_own, stretches_same}
+use Rattle.join.proofs.Sides.{own_marks}
 
 module _ (kind : Joined) (n : ℕ) (ours theirs : List Interval) where
   -- A list of the usual kind within n, whatever the two lists are.

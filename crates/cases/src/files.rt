@@ -1,7 +1,5 @@
 // What `contigs` prints for files at the bounds of the format and of the sizes: a title, the text, and how many bytes it has.
 
-#![tactic(auto)]
-
 use entries::Failed;
 use std::io::{Error, ErrorKind, Result, Write};
 
@@ -132,10 +130,9 @@ fn print_long_name(rt: &HostRuntime) -> Result<()> {
     Ok(())
 }
 
-fn main(rt: HostRuntime) -> Result<()> {
-    print_lines(&rt)?;
-    print_refusals(&rt)?;
-    print_sizes(&rt)?;
-    print_long_name(&rt)?;
-    Ok(())
+pub fn print_files(rt: &HostRuntime) -> Result<()> {
+    print_lines(rt)?;
+    print_refusals(rt)?;
+    print_sizes(rt)?;
+    print_long_name(rt)
 }

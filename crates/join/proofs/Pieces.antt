@@ -2,14 +2,14 @@
 use Rattle.std.proofs.Common.{ℕ, ◌%◌, ◌≤◌, ◌<◌, min, ◌≡◌, sym, ap, ap₂, ◌∙◌, Bool, true, cond, List, arith, length, drop, get_or}
 use Rattle.intervals.specs.declared.Interval.{Interval}
 use Rattle.intervals.specs.Interval.{interval, Canonical}
-use Rattle.tracks.specs.Tracks.{wanted, wanted_at, marks_for}
+use Rattle.join.specs.Joining.{wanted, wanted_at, marks_for}
 use Rattle.intervals.specs.Terms.Leading.{ended}
-use Rattle.tracks.specs.Terms.Sweep.{side_of, sweep, piece_at}
-use Rattle.tracks.specs.declared.Joined.{Joined}
-use Rattle.tracks.specs.declared.Sweep.{Sweep}
-use Rattle.tracks.specs.declared.Piece.{Piece}
-use Rattle.tracks.proofs.Marks.{marks_part}
-use Rattle.tracks.proofs.Sides.{goes}
+use Rattle.join.specs.Terms.Sweep.{side_of, sweep, piece_at}
+use Rattle.join.specs.declared.Joined.{Joined}
+use Rattle.join.specs.declared.Sweep.{Sweep}
+use Rattle.join.specs.declared.Piece.{Piece}
+use Rattle.join.proofs.Marks.{marks_part}
+use Rattle.join.proofs.Sides.{goes}
 
 pub record Cut (n : ℕ) (ours : List Interval) (ms : List ℕ) (theirs : List Interval) (x : ℕ) (p : Piece) : Type 0 where
   pub past : x < p.next.at

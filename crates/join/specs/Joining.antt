@@ -5,9 +5,9 @@ use Rattle.checks.specs.Tests.{too_many_letters}
 use Rattle.intervals.specs.declared.Interval.{Interval}
 use Rattle.intervals.specs.Interval.{covered, usual}
 use Rattle.intervals.specs.Merge.{byte_of}
-use Rattle.tracks.specs.Stretches.{stretches}
-use Rattle.tracks.specs.declared.Joined.{Joined}
-use Rattle.tracks.specs.declared.Joined.TheVariants.{Either, Both, Outside}
+use Rattle.join.specs.Stretches.{stretches}
+use Rattle.join.specs.declared.Joined.{Joined}
+use Rattle.join.specs.declared.Joined.TheVariants.{Either, Both, Outside}
 
 -- Whether a letter is wanted, by whether ours covers it and whether theirs does.
 abbrev pub wanted : Joined → Bool → Bool → Bool

@@ -1,7 +1,7 @@
 use Rattle.std.proofs.Common.{sym, ◌∙◌, arith}
-use Rattle.tracks.proofs.SweepSteps.{sweeping_start, sweeping_less, sweeping_index, sweeping_pass, sweeping_grow, sweeping_gap}
-use Rattle.tracks.proofs.SweepSteps.{sweeping_room, sweeping_marks_room, joined_list, joined_marks_are, joined_count}
-use Rattle.tracks.proofs.join_lists.Goals as goal
+use Rattle.join.proofs.SweepSteps.{sweeping_start, sweeping_less, sweeping_index, sweeping_pass, sweeping_grow, sweeping_gap}
+use Rattle.join.proofs.SweepSteps.{sweeping_room, sweeping_marks_room, joined_list, joined_marks_are, joined_count}
+use Rattle.join.proofs.join_lists.Goals as goal
 
 pub loop-sweep-init : goal.loop-sweep-init
 loop-sweep-init c = sweeping_start c.requires
