@@ -130,6 +130,7 @@ fn print_long_name(rt: &HostRuntime) -> Result<()> {
     Ok(())
 }
 
+/// Prints each case of a file: its title, its text, and how many bytes that has.
 pub fn print_files(rt: &HostRuntime) -> Result<()> {
     print_lines(rt)?;
     print_refusals(rt)?;

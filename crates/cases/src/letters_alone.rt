@@ -37,6 +37,7 @@ fn print_lines(rt: &HostRuntime) -> Result<()> {
     print_case(rt, b"# a line number\n", b"1 AAAAAAAAAAAAAAAAAAAA\n")
 }
 
+/// Prints each case of letters alone: its title, and its text.
 pub fn print_letters(rt: &HostRuntime) -> Result<()> {
     let mut letters = [b'A'; contig::LETTERS_ROOM];
     print_case(rt, b"# 20 letters A\n", &letters[..20])?;

@@ -2,7 +2,8 @@
 
 use std::fmt;
 
-/// Why a request is refused. The calls for C return minus its number.
+/// Why a request is refused; `text` says each in words. The calls for C return minus its number.
+/// 1 to 11 are the specification's checks, the others came with the requests; 14 and 15 are faults of a file (`fasta::Fault`).
 #[derive(Clone, Copy)]
 pub enum Refusal {
     KmerOutside = 1,
@@ -31,7 +32,7 @@ impl Refusal {
     ghost use Rattle.std.specs.Prelude.{◌≡◌};
     ghost use Rattle.checks.specs.Refusal.{number, text};
 
-    /// Its number, from 1 on.
+    /// Its number, 1 to 22.
     pub fn number(self) -> u32
         ensures { result ≡ number self }
     {

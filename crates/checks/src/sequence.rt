@@ -7,7 +7,7 @@ ghost use Rattle.checks.specs.Sequence.{sequence_checks};
 
 use crate::refusal::Refusal;
 
-/// The first refusal of a sequence, k-mer length k and window size w.
+/// The first check that fails of those that every call begins with: 1, 2, 13, 3, 4 and 5, for k-mer length k and window w in letters.
 pub fn check_sequence(sequence: &[u8], k: usize, w: usize) -> Result<(), Refusal>
     ensures { number_of result ≡ first (sequence_checks sequence.now k w) }
 {

@@ -16,22 +16,27 @@ use intervals::Interval;
 use longdust::{LongdustOptions, Tables};
 use report::Text;
 
-// The most letters that are taken, and room for one more, so that too many show; room for their intervals, and for the longest text.
+/// The most letters that are taken.
 pub const MOST_LETTERS: usize = 32768;
 
+/// Room for one letter more, so that too many show.
 pub const LETTERS_ROOM: usize = 32769;
 
+/// Room for the intervals of as many letters as are taken.
 pub const LIST_ROOM: usize = 4096;
 
+/// Room for the longest text, in bytes.
 pub const TEXT_ROOM: usize = 49167;
 
+/// A list to lend to `mask_letters`.
 pub fn no_intervals() -> [Interval; LIST_ROOM]
     ensures { list_room ≡ length result }
 {
     [Interval { start: 0, end: 0 }; LIST_ROOM]
 }
 
-/// Fills the tables and masks the letters by them, in work buffers that have exactly the paper's sizes. The intervals go to the front of the list; returns their number.
+/// Fills the tables and masks the letters by them, in work buffers that have exactly the paper's sizes.
+/// The intervals go to the front of the list, which has `LIST_ROOM` entries; returns their number, or refusal 2, 3, 11 (too many letters) or 13.
 pub fn mask_letters(letters: &[u8], list: &mut [Interval]) -> Result<usize, Refusal>
     requires { length list.old ≡ list_room }
     ensures refusal { number_of result ≡ contig_refusal letters.now }
@@ -47,7 +52,7 @@ pub fn mask_letters(letters: &[u8], list: &mut [Interval]) -> Result<usize, Refu
     longdust::process_in::<5000, 16384, MOST_LETTERS, LIST_ROOM>(letters, options, &tables, list)
 }
 
-// Writes what `track` prints for the letters.
+/// Writes what `track` prints for the letters; `refused size` for too many.
 pub fn write_answer(letters: &[u8], text: &mut Text)
     requires { AnswerFits text.old }
     ensures { Adds (printed letters.now) text.old text.new }
@@ -63,7 +68,7 @@ pub fn write_answer(letters: &[u8], text: &mut Text)
     }
 }
 
-// Writes what `track` prints for bytes that were read block by block: `held` has their letters, in a buffer that would show too many.
+/// Writes what `track` prints for bytes that were read block by block: `held` has their letters, in a buffer that would show too many.
 pub fn write_held(held: &Text, text: &mut Text)
     requires room { most_letters < length held.now.bytes.now }
     requires fits { AnswerFits text.old }
@@ -73,7 +78,7 @@ pub fn write_held(held: &Text, text: &mut Text)
     write_answer(held.written(), text);
 }
 
-// Writes what `track` prints for all bytes that it reads.
+/// Writes what `track` prints for all bytes that it reads.
 pub fn write_text(bytes: &[u8], text: &mut Text)
     requires { AnswerFits text.old }
     ensures { Adds (text_of bytes.now) text.old text.new }

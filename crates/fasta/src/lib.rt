@@ -1,4 +1,4 @@
-// A reader of FASTA files over a lent slice: a cursor by value whose step answers the next record, nothing at the end, or the fault.
+// A reader of FASTA files over a lent slice: a cursor whose step answers the next record, nothing at the end, or the fault.
 
 #![tactic(auto)]
 
@@ -7,35 +7,46 @@ ghost use Rattle.fasta.specs.Contents.{contents_of, fault_of};
 ghost use Rattle.fasta.specs.Steps.{fault_number_of, bytes_of, Told};
 ghost use Rattle.fasta.specs.Terms.Lengths.{empty_lines, name_length, line_length, lines_length};
 
+/// Some bytes of a file in a row, by their places in it.
 #[derive(Clone, Copy)]
 pub struct Part {
+    /// The first byte's place, from 0.
     pub start: usize,
+    /// One past the last byte's.
     pub end: usize,
 }
 
+/// Where a reader stands: what is before is read.
 #[derive(Clone, Copy)]
 pub struct Cursor {
+    /// The next byte's place, from 0.
     pub at: usize,
 }
 
-// A record: where its name and its lines stand, and the cursor after it.
+/// A record of a file.
 #[derive(Clone, Copy)]
 pub struct Found {
+    /// Its name: from after `>` up to a blank, a tab or the line's end.
     pub name: Part,
+    /// Its lines of letters, with their line ends.
     pub lines: Part,
+    /// The cursor after it.
     pub next: Cursor,
 }
 
-// Why a file is refused: letters before the first name, or an empty name.
+/// Why a file is refused.
 #[derive(Clone, Copy)]
 pub enum Fault {
+    /// Letters stand before the first name.
     LettersFirst = 14,
+    /// A name is empty.
     EmptyName = 15,
 }
 
 impl Fault {
     ghost use Rattle.fasta.specs.Steps.{fault_number};
 
+    /// Its number, 14 or 15.
     pub fn number(self) -> u32
         ensures { result ≡ fault_number self }
     {
@@ -44,13 +55,14 @@ impl Fault {
 }
 
 impl Cursor {
+    /// At the first byte.
     pub fn new() -> Self
         ensures { result.at ≡ 0 }
     {
         Cursor { at: 0 }
     }
 
-    // The next record of the file from the cursor on, if there is one; a cursor past the file is at its end.
+    /// The next record of the file from the cursor on; none at the end of the file, and from past it.
     #[tactic(auto, using(crate::proofs::Stepping::of_steps))]
     pub fn next(self, file: &[u8]) -> Result<Option<Found>, Fault>
         ensures { Told file.now self.at result }
@@ -84,7 +96,7 @@ impl Cursor {
     }
 }
 
-// A `loop`: it ends in two ways, and a `while let` does not tell which it was.
+/// The first fault of a file, none if it has none.
 pub fn first_fault(file: &[u8]) -> Option<Fault>
     ensures { fault_number_of result ≡ fault_of (contents_of file.now) }
 {
@@ -98,7 +110,7 @@ pub fn first_fault(file: &[u8]) -> Option<Fault>
     }
 }
 
-// The bytes of a part, as far as the file has them.
+/// The bytes of a part, as far as the file has them.
 pub fn bytes(file: &[u8], part: Part) -> &[u8]
     ensures { result.now ≡ bytes_of part file.now }
 {

@@ -6,14 +6,14 @@ ghost use Rattle.std.specs.Prelude.{◌≡◌};
 ghost use Rattle.std.specs.Float.Ieee.{to_signed};
 ghost use Rattle.floats.specs.Binary64.{near_zero};
 
-// Whether |x| < 1e-9: two comparisons, so that the answer is no for not-a-number.
+/// Whether |x| < 1e-9, as the backward scan asks. Two comparisons: the answer is no for not-a-number.
 pub fn near_zero(x: f64) -> bool
     ensures { result ≡ near_zero x }
 {
     (x < 1e-9) & (x > -1e-9)
 }
 
-// Rust's `x as i32`: cut towards zero, the ends of the range beyond it, 0 for not-a-number.
+/// Rust's `x as i32`, by which max_test is cut: towards zero, the ends of the range beyond it, 0 for not-a-number.
 pub fn to_i32(x: f64) -> i32
     ensures { result ≡ to_signed 31 x }
 {

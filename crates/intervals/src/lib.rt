@@ -4,7 +4,7 @@
 
 mod output;
 
-ghost use Rattle.std.specs.Prelude.{◌≡◌, ◌+◌, ◌-◌, ◌≤◌, ◌<◌, min, max, length, take, get_or};
+ghost use Rattle.std.specs.Prelude.{◌≡◌, ◌+◌, ◌-◌, ◌≤◌, ◌<◌, min, max, length, take, slice_index_or};
 ghost use Rattle.buffers.specs.Fill.{put};
 ghost use Rattle.intervals.specs.Out.{SameOut};
 ghost use Rattle.intervals.specs.Interval.{interval, usual_entry, usual};
@@ -15,11 +15,13 @@ ghost use Rattle.intervals.specs.Terms.Pick.{picked, Picks};
 
 pub use output::MarksOut;
 
-/// The letters from `start` up to `end`, which is not included.
+/// The letters from `start` up to `end`, counted from 0.
 #[repr(C)]
 #[derive(Clone, Copy)]
 pub struct Interval {
+    /// Its first letter.
     pub start: u32,
+    /// One past its last letter.
     pub end: u32,
 }
 
@@ -57,8 +59,8 @@ fn count_staying(list: &[Interval], start: u32) -> usize
     0
 }
 
-// Saves [start, end) to the list of the first `count` entries, and answers how many there are then.
-// A list and a count: the run's state goes in and out by value, so it cannot hold a lent list.
+/// Saves [start, end) to the list of the first `count` entries, joined with those that it overlaps or touches at the list's end.
+/// Returns how many intervals there are then.
 #[tactic(auto, using(crate::proofs::SaveSteps::of_save))]
 pub fn save_interval(list: &mut [Interval], count: usize, start: u32, end: u32) -> usize
     requires count_in_bounds { count ≤ length list.old }
@@ -77,13 +79,16 @@ pub fn save_interval(list: &mut [Interval], count: usize, start: u32, end: u32) 
     k + 1
 }
 
-// An interval with its marks: whether an interval of the forward list, and one of the reverse list, joined into it.
-// Its ends stand beside them: the definitions of the merge compare and move each end alone.
+/// An interval with its marks. Its ends stand beside them: the definitions of the merge compare and move each end alone.
 #[derive(Clone, Copy)]
 pub struct Marked {
+    /// Its first letter.
     pub start: u32,
+    /// One past its last letter.
     pub end: u32,
+    /// Whether an interval of the forward list joined into it.
     pub forward: bool,
+    /// Whether an interval of the reverse list joined into it.
     pub reverse: bool,
 }
 
@@ -120,18 +125,21 @@ impl Marked {
     }
 }
 
-// The interval that a merge takes next. Then the forward list remains from `forward` on, and of the reverse list the first `reverse`.
+// The interval that a merge takes next, and what is left then.
 #[derive(Clone, Copy)]
 struct Picked {
     part: Marked,
+    // The forward list is left from this index on.
     forward: usize,
+    // Of the reverse list so many are left, its first ones.
     reverse: usize,
 }
 
 // Takes interval i of the forward list.
 fn pick_forward(forward: &[Interval], i: usize, j: usize) -> Picked
     requires { i < length forward.now }
-    ensures { result ≡ picked (from_forward (get_or forward.now i (interval 0 0))) (i + 1) j }
+    ensures { result
+        ≡ picked (from_forward (slice_index_or forward.now i (interval 0 0))) (i + 1) j }
 {
     let part = Marked {
         start: forward[i].start,
@@ -148,8 +156,12 @@ fn pick_forward(forward: &[Interval], i: usize, j: usize) -> Picked
 
 // Takes interval j - 1 of the reverse list, as seen from the other end of n letters.
 fn pick_reverse(reverse: &[Interval], i: usize, j: usize, n: u32) -> Picked
-    requires { Inside n reverse.now × (0 < j) × (j ≤ length reverse.now) }
-    ensures { result ≡ picked (from_reverse (flip n (get_or reverse.now (j - 1) (interval 0 0)))) i (j - 1) }
+    requires inside { Inside n reverse.now }
+    requires some { 0 < j }
+    requires j_in_bounds { j ≤ length reverse.now }
+    ensures { result
+        ≡ picked (from_reverse (flip n (slice_index_or reverse.now (j - 1) (interval 0 0))))
+        i (j - 1) }
 {
     let last = j - 1;
     let part = Marked {
@@ -166,10 +178,11 @@ fn pick_reverse(reverse: &[Interval], i: usize, j: usize, n: u32) -> Picked
 }
 
 // Takes the one of these two that starts first; of equal starts the reverse list's.
-// Two lists and where the merge stands in each: on what is left of them a step would answer two slices beside its interval.
 fn pick(forward: &[Interval], i: usize, reverse: &[Interval], j: usize, n: u32) -> Picked
-    requires inside { Inside n reverse.now × (j ≤ length reverse.now) }
-    requires i_in_bounds { (i ≤ length forward.now) × (0 < (length forward.now - i) + j) }
+    requires inside { Inside n reverse.now }
+    requires j_in_bounds { j ≤ length reverse.now }
+    requires i_in_bounds { i ≤ length forward.now }
+    requires some_left { 0 < (length forward.now - i) + j }
     ensures { Picks forward.now i reverse.now j n result }
 {
     if j == 0 {
@@ -184,7 +197,8 @@ fn pick(forward: &[Interval], i: usize, reverse: &[Interval], j: usize, n: u32) 
     pick_reverse(reverse, i, j, n)
 }
 
-/// Joins the forward list and the reverse list, this one read backwards in n letters, with marks, and returns how many intervals there are then.
+/// Joins the lists of both strands, the reverse one read backwards in n letters, and writes the joined list with its marks.
+/// Returns how many intervals there are then.
 pub fn merge_intervals(
     forward: &[Interval],
     reverse: &[Interval],
@@ -192,8 +206,10 @@ pub fn merge_intervals(
     out: &mut MarksOut,
 ) -> usize
     requires inside { Inside n reverse.now }
-    requires room { length (merge forward.now (backwards n reverse.now)) ≤ length out.old.list.now }
-    requires marks_room { length (merge forward.now (backwards n reverse.now)) ≤ length out.old.marks.now }
+    requires room { length (merge forward.now (backwards n reverse.now))
+        ≤ length out.old.list.now }
+    requires marks_room { length (merge forward.now (backwards n reverse.now))
+        ≤ length out.old.marks.now }
     ensures merged { WroteMarked (merge_marked forward.now (backwards n reverse.now))
         out.old.list.now out.new.list.now out.old.marks.now out.new.marks.now result }
     ensures same { SameOut out.old out.new }

@@ -10,6 +10,7 @@ use crate::Interval;
 #[derive(Drop)]
 pub struct MarksOut<'a> {
     pub list: &'a mut [Interval],
+    /// A byte for each interval: 1 forward, 2 reverse, 3 both.
     pub marks: &'a mut [u8],
 }
 
@@ -17,13 +18,17 @@ impl<'a> MarksOut<'a> {
     ghost use Rattle.intervals.specs.Out.{SameOut};
 
     /// Puts an interval and its mark after the first `count` entries if it has a letter, and returns how many there are then.
-    // The count is no field: a caller lends a list and marks, and is told how many there are.
     #[tactic(auto, using(crate::proofs::Pushing::of_push))]
     pub fn push(&mut self, count: usize, interval: Interval, mark: u8) -> usize
-        requires room { count + length (nonempty interval.start interval.end) ≤ length self.old.list.now }
-        requires marks_room { count + length (nonempty interval.start interval.end) ≤ length self.old.marks.now }
-        ensures list { self.new.list.now ≡ put_at count (nonempty interval.start interval.end) self.old.list.now }
-        ensures marks { self.new.marks.now ≡ put_at count (map (λ _. mark) (nonempty interval.start interval.end)) self.old.marks.now }
+        requires room { count + length (nonempty interval.start interval.end)
+            ≤ length self.old.list.now }
+        requires marks_room { count + length (nonempty interval.start interval.end)
+            ≤ length self.old.marks.now }
+        ensures list { self.new.list.now
+            ≡ put_at count (nonempty interval.start interval.end) self.old.list.now }
+        ensures marks { self.new.marks.now
+            ≡ put_at count (map (λ _. mark) (nonempty interval.start interval.end))
+            self.old.marks.now }
         ensures count { result ≡ count + length (nonempty interval.start interval.end) }
         ensures same { SameOut self.old self.new }
     {

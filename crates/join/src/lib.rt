@@ -2,7 +2,7 @@
 
 #![tactic(auto)]
 
-ghost use Rattle.std.specs.Prelude.{◌≡◌, true, cond, map, ◌+◌, ◌%◌, ◌≤◌, ◌<◌, length, drop, get_or, OnOk, OnErr, IfOk};
+ghost use Rattle.std.specs.Prelude.{◌≡◌, true, if◌then◌else◌, map, ◌+◌, ◌%◌, ◌≤◌, ◌<◌, length, drop, slice_index_or, OnOk, OnErr, IfOk};
 ghost use Rattle.buffers.specs.Fill.{put};
 ghost use Rattle.intervals.specs.Out.{SameOut};
 ghost use Rattle.checks.specs.Refusal.{number_of, count_of, count_unless};
@@ -12,15 +12,18 @@ ghost use Rattle.join.specs.Terms.Sweep.{side_of, ended_first, piece_at, Ready};
 use checks::{Refusal, below_sum, too_many_letters};
 use intervals::{Interval, MarksOut, is_usual};
 
-// The letters that are wanted: in either list, in both, in ours and outside theirs.
+/// Which letters of two lists are wanted.
 #[derive(Clone, Copy)]
 pub enum Joined {
+    /// Those in ours or in theirs.
     Either,
+    /// Those in ours and in theirs.
     Both,
+    /// Those in ours and outside theirs.
     Outside,
 }
 
-/// A list with a byte of marks for each interval.
+/// Our list, with a byte of marks for each interval: of the byte the two lowest bits count.
 #[derive(Clone, Copy)]
 pub struct MarkedList<'a> {
     pub list: &'a [Interval],
@@ -37,16 +40,16 @@ fn wanted(kind: Joined, ours: bool, theirs: bool) -> bool
     }
 }
 
-// How a list goes on from a letter: whether it covers it, and up to where that stays so.
-// `covers` is a yes or no beside a letter that is there either way, so an `Option` would have to hold it twice.
+// How a list goes on from a letter.
 #[derive(Clone, Copy)]
 struct Side {
+    // Whether the list covers the letter.
     covers: bool,
+    // Up to which letter that stays so.
     until: u32,
 }
 
-// Of n letters; the first i intervals end at `at` or before it.
-// A list and where the sweep stands in it, as `ended` below: the sweep is a value, and a track's marks are read at the same place.
+// The side of a list at letter `at` of n: its first i intervals end there or before it.
 #[tactic(auto, using(crate::proofs::PieceSteps::of_side))]
 fn side_at(list: &[Interval], i: usize, at: u32, n: u32) -> Side
     ensures { result ≡ side_of n (drop i list.now) at }
@@ -78,19 +81,25 @@ fn ended(list: &[Interval], i: usize, at: u32) -> usize
     }
 }
 
-// Where a sweep over both lists stands: at a letter, and how many intervals of each end there or before it.
+// Where a sweep over both lists stands.
 #[derive(Clone, Copy)]
 struct Sweep {
+    // The letter at which it stands.
     at: u32,
+    // How many of our intervals end there or before it.
     ours: usize,
+    // How many of theirs do.
     theirs: usize,
 }
 
-// The next piece of letters, up to where the sweep stands then: whether ours covers them, and whether theirs does.
+// The next piece of letters: all of them are covered in the same way.
 #[derive(Clone, Copy)]
 struct Piece {
+    // Whether our list covers them.
     ours: bool,
+    // Whether theirs does.
     theirs: bool,
+    // Where the sweep stands after them.
     next: Sweep,
 }
 
@@ -119,7 +128,7 @@ fn next_piece(ours: &[Interval], theirs: &[Interval], n: u32, sweep: Sweep) -> P
 // The two marks of our interval i where it covers the piece, else none.
 fn marks_at(marks: &[u8], i: usize, covers: bool) -> u8
     requires { covers ≡ true → i < length marks.now }
-    ensures { result ≡ cond covers (get_or marks.now i 0 % 4) 0 }
+    ensures { result ≡ (if covers then slice_index_or marks.now i 0 % 4 else 0) }
 {
     if covers {
         return marks[i] & 3;
@@ -135,9 +144,13 @@ fn join_lists(
     theirs: &[Interval],
     out: &mut MarksOut,
 ) -> usize
-    requires { Ready n ours.now.list.now ours.now.marks.now theirs.now (length out.old.list.now) (length out.old.marks.now) }
-    ensures list { out.new.list.now ≡ put (joined kind n ours.now.list.now theirs.now) out.old.list.now }
-    ensures marks { out.new.marks.now ≡ put (joined_marks kind n ours.now.list.now ours.now.marks.now theirs.now) out.old.marks.now }
+    requires { Ready n ours.now.list.now ours.now.marks.now theirs.now
+        (length out.old.list.now) (length out.old.marks.now) }
+    ensures list { out.new.list.now
+        ≡ put (joined kind n ours.now.list.now theirs.now) out.old.list.now }
+    ensures marks { out.new.marks.now
+        ≡ put (joined_marks kind n ours.now.list.now ours.now.marks.now theirs.now)
+        out.old.marks.now }
     ensures count { result ≡ length (joined kind n ours.now.list.now theirs.now) }
     ensures same { SameOut out.old out.new }
 {
@@ -151,7 +164,6 @@ fn join_lists(
     let mut end = 0;
     let mut seen: u8 = 0;
     let mut count = 0;
-    // The sweep moves from piece to piece, so no range counts its turns.
     while sweep.at < n {
         let at = sweep.at;
         let i = sweep.ours;
@@ -188,7 +200,8 @@ fn check(
     list: usize,
     list_marks: usize,
 ) -> Result<(), Refusal>
-    ensures { number_of result ≡ refusal n ours.now.list.now ours.now.marks.now theirs.now list list_marks }
+    ensures { number_of result
+        ≡ refusal n ours.now.list.now ours.now.marks.now theirs.now list list_marks }
 {
     if too_many_letters(n) {
         return Err(Refusal::TooManyLetters);
@@ -211,8 +224,8 @@ fn check(
     Ok(())
 }
 
-/// Joins our track and their list, both in n letters: the list of the wanted letters, and its marks beside it.
-/// Returns the number of intervals.
+/// Joins our list and theirs, both of the usual kind in n letters: writes the list of the wanted letters, and its marks beside it.
+/// `out` has as many entries as both lists together, or more. Returns the number of intervals, or refusal 10, 16 or 11.
 pub fn join_tracks(
     kind: Joined,
     n: usize,
@@ -220,17 +233,23 @@ pub fn join_tracks(
     theirs: &[Interval],
     out: &mut MarksOut,
 ) -> Result<usize, Refusal>
-    ensures count { IfOk result (λ count. count ≡ length (joined kind n ours.now.list.now theirs.now)) }
+    ensures count { IfOk result (λ count.
+        count ≡ length (joined kind n ours.now.list.now theirs.now)) }
     ensures values { count_of result
-        ≡ count_unless (refusal n ours.now.list.now ours.now.marks.now theirs.now (length out.old.list.now) (length out.old.marks.now))
+        ≡ count_unless (refusal n ours.now.list.now ours.now.marks.now theirs.now
+        (length out.old.list.now) (length out.old.marks.now))
         (length (joined kind n ours.now.list.now theirs.now)) }
     ensures room { IfOk result (λ count. count ≤ length out.old.list.now) }
-    ensures list { OnOk result (out.new.list.now ≡ put (joined kind n ours.now.list.now theirs.now) out.old.list.now) }
-    ensures marks { OnOk result
-        (out.new.marks.now ≡ put (joined_marks kind n ours.now.list.now ours.now.marks.now theirs.now) out.old.marks.now) }
+    ensures list { OnOk result (out.new.list.now
+        ≡ put (joined kind n ours.now.list.now theirs.now) out.old.list.now) }
+    ensures marks { OnOk result (out.new.marks.now
+        ≡ put (joined_marks kind n ours.now.list.now ours.now.marks.now theirs.now)
+        out.old.marks.now) }
     ensures refusal { number_of result
-        ≡ refusal n ours.now.list.now ours.now.marks.now theirs.now (length out.old.list.now) (length out.old.marks.now) }
-    ensures err { OnErr result ((out.new.list.now ≡ out.old.list.now) × (out.new.marks.now ≡ out.old.marks.now)) }
+        ≡ refusal n ours.now.list.now ours.now.marks.now theirs.now
+        (length out.old.list.now) (length out.old.marks.now) }
+    ensures same_list { OnErr result (out.new.list.now ≡ out.old.list.now) }
+    ensures same_marks { OnErr result (out.new.marks.now ≡ out.old.marks.now) }
     ensures same { SameOut out.old out.new }
 {
     check(n, ours, theirs, out.list.len(), out.marks.len())?;

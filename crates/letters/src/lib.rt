@@ -27,6 +27,7 @@ fn encode(b: u8) -> u8
     }
 }
 
+/// Writes the codes of the letters to the front of `encoded`, which has n entries or more: A C G T U are 0 1 2 3 3, any other byte 4.
 #[tactic(auto, using(crate::proofs::Codes::of_codes))]
 pub fn encode_sequence(sequence: &[u8], encoded: &mut [u8])
     requires { length sequence.now ≤ length encoded.old }
@@ -44,6 +45,7 @@ fn complement(c: u8) -> u8
     if c < 4 { 3 - c } else { c }
 }
 
+/// Writes the codes of the reverse complement to the front of `reversed`, which has n entries or more.
 #[tactic(auto, using(crate::proofs::Codes::of_reverse_complements))]
 pub fn reverse_complement_encoded_sequence(encoded: &[u8], reversed: &mut [u8])
     requires { length encoded.now ≤ length reversed.old }
@@ -55,8 +57,8 @@ pub fn reverse_complement_encoded_sequence(encoded: &[u8], reversed: &mut [u8])
     }
 }
 
-// The codes of the reverse complement, straight from the letters.
-// A twin of the one above: a strand that is masked alone has one buffer for codes.
+/// Writes the codes of the letters' reverse complement to the front of `encoded`, which has n entries or more.
+// A twin of the two above: a strand that is masked alone has one buffer for codes.
 #[tactic(auto, using(crate::proofs::ReverseCodes::of_reverse_codes))]
 pub fn encode_reverse_complement(sequence: &[u8], encoded: &mut [u8])
     requires { length sequence.now ≤ length encoded.old }
@@ -68,7 +70,7 @@ pub fn encode_reverse_complement(sequence: &[u8], encoded: &mut [u8])
     }
 }
 
-// How many k-mers there are.
+/// How many k-mers of k letters there are: 4^k.
 #[tactic(auto, using(crate::proofs::Powers::of_four))]
 pub fn n_kmers(k: usize) -> usize
     requires { k ≤ 12 }
@@ -77,7 +79,7 @@ pub fn n_kmers(k: usize) -> usize
     1usize << (2 * k)
 }
 
-// Whether a slice of `len` counts is too short for all k-mers, also where there are more of these than a number can say.
+/// Whether a slice of `len` counts is too short for all k-mers, also where there are more of these than a number can say.
 #[tactic(auto, using(crate::proofs::Powers::of_four))]
 pub fn below_n_kmers(len: usize, k: usize) -> bool
     ensures { result ≡ nat_lt len (4 ^ k) }
@@ -88,22 +90,24 @@ pub fn below_n_kmers(len: usize, k: usize) -> bool
     len < 1usize << (2 * k)
 }
 
-// The last letters of a strand: the k-mer that they pack, and how many of them in a row have codes below 4.
-// `next` keeps the k-mer below 4^12, and takes any: a ghost field would ask it of all.
+/// The last letters of a strand, read one by one.
 #[derive(Clone, Copy)]
 pub struct Kmer {
+    /// The k-mer that they pack: two bits a letter, the newest lowest.
     pub value: u32,
+    /// How many of them in a row have codes below 4, up to the newest.
     pub run: usize,
 }
 
 impl Kmer {
+    /// Before the first letter.
     pub fn new() -> Self
         ensures { result ≡ no_letter }
     {
         Self { value: 0, run: 0 }
     }
 
-    // The state after one letter more, with the code b.
+    /// After one letter more, whose code is b.
     #[tactic(auto, using(crate::proofs::Rolling::of_kmers))]
     pub fn next(mut self, b: u8, k: usize) -> Self
         requires { (k ≤ 12) × (self.run < 4294967296) }
@@ -119,7 +123,7 @@ impl Kmer {
         self
     }
 
-    // The newest place as a queue entry.
+    /// The newest place as a queue entry: the k-mer shifted once, and 1 if the place is ambiguous.
     #[tactic(auto, using(crate::proofs::Rolling::of_kmers))]
     pub fn entry(self, k: usize) -> u32
         requires { self.value < 16777216 }
@@ -129,7 +133,7 @@ impl Kmer {
     }
 }
 
-// The k-mer of a queue entry, none if its place is ambiguous.
+/// The k-mer of a queue entry; none if its place is ambiguous.
 #[tactic(auto, using(crate::proofs::Entries::by_lowest_bit))]
 pub fn kmer_of(entry: u32) -> Option<usize>
     ensures place { decode entry ≡ place_of result }
@@ -155,6 +159,7 @@ fn gc_count(encoded: &[u8]) -> usize
     encoded.iter().filter(|c| **c == 1 || **c == 2).count()
 }
 
+/// The share of C and G among the codes below 4, for GC auto: 0.0 if there is none.
 #[tactic(auto, unfolding(crate::specs::Gc::gc_of))]
 pub fn compute_gc_content(encoded: &[u8]) -> f64
     ensures { result ≡ gc_of encoded.now }

@@ -20,20 +20,28 @@ pub use one_strand::StrandSpace;
 pub use refusals::{check, xdrop_bad};
 use tables::GcOption;
 
-// The options of a request, with the Rust's names.
+/// The options of a request, with the Rust's names.
 #[derive(Clone, Copy)]
 pub struct LongdustOptions {
+    /// w, the most places of a stretch: k + 1 to 65,535.
     pub window_size: usize,
+    /// T, what each place of a stretch has to gain: finite, above 0.
     pub score_threshold: f64,
+    /// k, the letters of a k-mer: 1 to 12.
     pub kmer: usize,
+    /// The share of C and G by which the f table is filled.
     pub gc: GcOption,
+    /// A backward scan stops this many times T below its best score, 1 or more; with none, w times T.
     pub xdrop: Option<u32>,
+    /// How often a k-mer stands in the window before a letter is searched from: 2 or more.
     pub min_start_cnt: u16,
+    /// Whether only the oldest candidate is tried.
     pub approx: bool,
+    /// Whether the reverse complement is left out.
     pub forward_only: bool,
 }
 
-// The Rust's own defaults.
+/// The Rust's own defaults.
 impl Default for LongdustOptions {
     ghost is_default = { λ r. r ≡ defaults };
 
@@ -52,22 +60,25 @@ impl Default for LongdustOptions {
     }
 }
 
-// The answer to an accepted request: how many intervals its mask has, and the flag.
-// A count alone: the mask stands at the front of the list that the caller lent.
+/// The answer to an accepted request. The mask stands at the front of the list that the caller lent.
 #[derive(Clone, Copy)]
 pub struct Answer {
+    /// How many intervals the mask has.
     pub count: usize,
+    /// The flag: T <= 16, ln entries 1 to w within 0 to 16, f entries 1 to w within 0 to 1,048,576.
     pub in_range: bool,
 }
 
-// The two tables, filled.
+/// The two tables, filled.
 #[derive(Clone, Copy)]
 pub struct Tables<'a> {
+    /// ln n for n = 0 to w: w + 1 entries or more.
     pub ln: &'a [f64],
+    /// f of l places for l = 0 to w + 1: w + 2 entries or more.
     pub f: &'a [f64],
 }
 
-// How many entries each lent buffer has.
+/// How many entries each lent buffer has, for check 11.
 #[derive(Clone, Copy)]
 pub struct Lent {
     pub ln: usize,

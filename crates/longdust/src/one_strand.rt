@@ -12,22 +12,28 @@ use intervals::Interval;
 use letters::below_n_kmers;
 use scans::{ForwardPosition, Setup};
 
-/// The buffers that one strand is lent, and where its list goes. With n letters, k-mers of k, a window of w:
-/// w, 4^k, 4^k, w and n entries, and (n + 1) / (k + 1) for the list.
+/// The work space that one strand is lent, whatever it holds, and where its list goes: for n letters, k-mers of k, a window of w.
 #[derive(Drop)]
 pub struct StrandSpace<'a> {
+    /// The window's places as entries: w of them.
     pub queue: &'a mut [u32],
+    /// How often each k-mer stands in the window: 4^k counts.
     pub window_counts: &'a mut [u16],
+    /// How often each k-mer stands in a scan: 4^k counts.
     pub scan_counts: &'a mut [u16],
+    /// The candidates of a scan: w of them.
     pub candidates: &'a mut [ForwardPosition],
+    /// The strand's codes: n of them.
     pub codes: &'a mut [u8],
+    /// The strand's intervals: room for (n + 1) / (k + 1).
     pub list: &'a mut [Interval],
 }
 
-// Whether a lent buffer is shorter than listed.
+/// Check 11 for one strand: a lent buffer is shorter than listed.
 #[tactic(auto, unfolding(crate::specs::Strand::strand_too_short))]
 pub fn strand_too_short(n: usize, k: usize, w: usize, tables: &Tables, space: &StrandSpace) -> bool
-    ensures { result ≡ strand_too_short n k w (strand_lends tables.now.ln.now tables.now.f.now space.now) }
+    ensures { let t = tables.now in
+        result ≡ strand_too_short n k w (strand_lends t.ln.now t.f.now space.now) }
 {
     below_sum(tables.ln.len(), w, 1)
         | below_sum(tables.f.len(), w, 2)
@@ -39,7 +45,7 @@ pub fn strand_too_short(n: usize, k: usize, w: usize, tables: &Tables, space: &S
         | below_intervals(space.list.len(), n, k)
 }
 
-// The strand's codes, over the front of `codes`.
+/// Writes the strand's codes to the front of `codes`, which has n entries or more.
 pub fn encode_strand(sequence: &[u8], reverse: bool, codes: &mut [u8])
     requires { length sequence.now ≤ length codes.old }
     ensures { codes.new ≡ put (strand_codes reverse sequence.now) codes.old }
@@ -51,14 +57,15 @@ pub fn encode_strand(sequence: &[u8], reverse: bool, codes: &mut [u8])
     }
 }
 
-// The run of an accepted request on the n codes in the front of its space: the flag, and the strand's list.
+/// Runs an accepted request on the n codes in the front of its space: writes the strand's list, and answers its count and the flag.
 pub fn mask_strand(
     options: LongdustOptions,
     n: usize,
     tables: &Tables,
     space: &mut StrandSpace,
 ) -> Answer
-    requires { StrandAdmitted options n (strand_lends tables.now.ln.now tables.now.f.now space.old) }
+    requires { let t = tables.now in
+        StrandAdmitted options n (strand_lends t.ln.now t.f.now space.old) }
     ensures ran { StrandRan options n (strand_lends tables.now.ln.now tables.now.f.now space.old)
         (strand_lends tables.now.ln.now tables.now.f.now space.new) result }
     ensures same_space { SameStrandSpace space.old space.new }

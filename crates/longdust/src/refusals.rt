@@ -16,6 +16,7 @@ use letters::below_n_kmers;
 use mask::Workspace;
 use tables::GcOption;
 
+/// Check 7: a fixed GC is not a number, or outside 0 to 1.
 #[tactic(auto, unfolding(crate::specs::Checks::gc_bad))]
 pub fn gc_bad(gc: GcOption) -> bool
     ensures { result ≡ gc_bad gc }
@@ -23,6 +24,7 @@ pub fn gc_bad(gc: GcOption) -> bool
     matches!(gc, GcOption::Fixed(x) if !((0.0 <= x) & (x <= 1.0)))
 }
 
+/// Check 9: xdrop is 0.
 #[tactic(auto, unfolding(crate::specs::Checks::xdrop_bad))]
 pub fn xdrop_bad(xdrop: Option<u32>) -> bool
     ensures { result ≡ xdrop_bad xdrop }
@@ -30,6 +32,7 @@ pub fn xdrop_bad(xdrop: Option<u32>) -> bool
     matches!(xdrop, Some(l) if l == 0)
 }
 
+// Check 11: a lent buffer is shorter than listed.
 #[tactic(auto, unfolding(crate::specs::Checks::too_short_of))]
 fn too_short(n: usize, k: usize, w: usize, lent: Lent) -> bool
     ensures { result ≡ too_short_of n k w lent }
@@ -48,7 +51,7 @@ fn too_short(n: usize, k: usize, w: usize, lent: Lent) -> bool
         | below_intervals(lent.marks, n, k)
 }
 
-// How many entries the lent buffers have.
+/// How many entries the lent buffers have.
 pub fn lent(ln: usize, f: usize, codes: usize, work: &Workspace, out: &MarksOut) -> Lent
     ensures { result ≡ lent_by ln f codes work.now out.now }
 {
@@ -68,7 +71,7 @@ pub fn lent(ln: usize, f: usize, codes: usize, work: &Workspace, out: &MarksOut)
     }
 }
 
-// The first check that fails, where it is known whether a lent buffer is too short.
+/// The first check that fails, where it is known whether a lent buffer is too short.
 pub fn check_request(
     options: LongdustOptions,
     sequence: &[u8],
@@ -98,7 +101,7 @@ pub fn check_request(
     Ok(())
 }
 
-// The first check of a masking call that fails.
+/// The first check of a masking call that fails.
 pub fn check(options: LongdustOptions, sequence: &[u8], lent: Lent) -> Result<(), Refusal>
     ensures { number_of result ≡ refusal options sequence.now lent }
 {

@@ -1,6 +1,6 @@
 // The run of an accepted request: its numbers, its flag, and its mask.
 
-ghost use Rattle.std.specs.Prelude.{◌≡◌, ◌&&◌, ◌-◌, ◌<◌, length, ltb};
+ghost use Rattle.std.specs.Prelude.{◌≡◌, ◌&&◌, ◌-◌, ◌<◌, length, nat_lt};
 ghost use Rattle.scans.specs.Range.{table_in_range, in_range};
 ghost use Rattle.scans.specs.Terms.Shape.{usual_to};
 ghost use Rattle.intervals.specs.Out.{SameOut};
@@ -27,10 +27,11 @@ fn table_in_range(table: &[f64], w: usize, high: f64) -> bool
     table[1..w + 1].iter().all(|x| (0.0 <= *x) & (*x <= high))
 }
 
-// The flag.
+/// The flag: whether T and the table entries 1 to w are in the specification's ranges.
 #[tactic(auto, unfolding(scans::specs::Range::in_range, crate::specs::Mask::setup))]
 pub fn in_range(options: LongdustOptions, ln: &[f64], f: &[f64]) -> bool
-    requires { (options.window_size < length ln.now) × (options.window_size < length f.now) }
+    requires ln_long { options.window_size < length ln.now }
+    requires f_long { options.window_size < length f.now }
     ensures { result ≡ in_range (setup options ln.now f.now) }
 {
     let ln_ok = table_in_range(ln, options.window_size, LN_END);
@@ -40,8 +41,10 @@ pub fn in_range(options: LongdustOptions, ln: &[f64], f: &[f64]) -> bool
 
 // Whether the tables are in range and of the usual shape. The shape is tested only for sequences longer than the window, where the test is little of the work.
 fn usual_tables(in_range: bool, n: usize, w: usize, ln: &[f64], f: &[f64]) -> bool
-    requires { (0 < w) × (w < length ln.now) × (w < length f.now) }
-    ensures { result ≡ (in_range && (ltb w n && usual_to ln.now f.now (w - 1))) }
+    requires some { 0 < w }
+    requires ln_long { w < length ln.now }
+    requires f_long { w < length f.now }
+    ensures { result ≡ (in_range && (nat_lt w n && usual_to ln.now f.now (w - 1))) }
 {
     if !in_range {
         return false;
@@ -52,11 +55,12 @@ fn usual_tables(in_range: bool, n: usize, w: usize, ln: &[f64], f: &[f64]) -> bo
     scans::is_usual(ln, f, w)
 }
 
-// The numbers that a run over n letters goes by.
+/// The numbers that a run over n letters goes by; `flag` is the request's.
 // The tables come as two slices: of a slice it is known that its floats are of 64 bits, of `Tables` it is not.
 pub fn prepare(options: LongdustOptions, flag: bool, n: usize, ln: &[f64], f: &[f64]) -> Params
     requires bounds { Bounds options }
-    requires window_size_in_bounds { (options.window_size < length ln.now) × (options.window_size < length f.now) }
+    requires ln_long { options.window_size < length ln.now }
+    requires f_long { options.window_size < length f.now }
     requires in_range_value { flag ≡ in_range (setup options ln.now f.now) }
     ensures { Prepared options ln.now f.now result }
 {
@@ -75,7 +79,7 @@ pub fn prepare(options: LongdustOptions, flag: bool, n: usize, ln: &[f64], f: &[
     }
 }
 
-// The run of an accepted request on its codes, by filled tables: the flag, and the mask.
+/// Runs an accepted request on its codes, by filled tables: writes the mask to `out`, and answers its count and the flag.
 pub fn mask_encoded(
     options: LongdustOptions,
     codes: &[u8],
@@ -83,7 +87,9 @@ pub fn mask_encoded(
     work: &mut Workspace,
     out: &mut MarksOut,
 ) -> Answer
-    requires { Admitted options (length codes.now) (lengths (lends tables.now.ln.now tables.now.f.now codes.now work.old out.old)) }
+    requires { let t = tables.now in
+        Admitted options (length codes.now)
+        (lengths (lends t.ln.now t.f.now codes.now work.old out.old)) }
     ensures ran { Ran options codes.now
         (lends tables.now.ln.now tables.now.f.now codes.now work.old out.old)
         (lends tables.now.ln.now tables.now.f.now codes.now work.new out.new) result }

@@ -9,7 +9,7 @@ ghost use Rattle.longdust_c.specs.Numbers.{masking_of, count_or};
 use crate::numbers::{masking_of, returned};
 use intervals::Interval;
 
-// The sequence over the front of `copy`, its letters masked that an interval of the list holds.
+/// `masked_copy::masked_copy` on numbers and slices. Returns the number of bytes copied, or minus refusal 12 or 11.
 #[unsafe(no_mangle)]
 pub extern "C" fn longdust_masked_copy(
     sequence: &[u8],
@@ -21,7 +21,8 @@ pub extern "C" fn longdust_masked_copy(
     ensures number { let masking = masking_of lower_case replacement in
         result ≡ count_or (refusal masking sequence.now copy.old) (length sequence.now) }
     ensures accepted { let masking = masking_of lower_case replacement in
-        refusal masking sequence.now copy.old ≡ 0 → copy.new ≡ put (copy_of masking list.now sequence.now) copy.old }
+        refusal masking sequence.now copy.old ≡ 0
+        → copy.new ≡ put (copy_of masking list.now sequence.now) copy.old }
     ensures refused { let masking = masking_of lower_case replacement in
         0 < refusal masking sequence.now copy.old → copy.new ≡ copy.old }
 {

@@ -13,7 +13,7 @@ use longdust::LongdustOptions;
 use mask::Workspace;
 use scans::ForwardPosition;
 
-// `longdust::process` in the same way: it fills the tables first.
+/// `longdust::process` on numbers and slices. Returns the interval count, or minus the refusal's number, and sets the flag.
 #[unsafe(no_mangle)]
 pub extern "C" fn longdust_process(
     sequence: &[u8],

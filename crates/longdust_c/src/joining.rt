@@ -10,7 +10,8 @@ use crate::numbers::{kind_of, returned};
 use intervals::{Interval, MarksOut};
 use join::MarkedList;
 
-// The letters of our list and of theirs that are wanted, and the marks of our intervals, over the fronts of `list` and `list_marks`.
+/// `join::join_tracks` on numbers and slices: kind 0 either, 1 both, any other ours outside theirs.
+/// Returns the number of intervals, or minus refusal 10, 16 or 11.
 #[unsafe(no_mangle)]
 pub extern "C" fn longdust_join_tracks(
     kind: u32,
@@ -21,13 +22,23 @@ pub extern "C" fn longdust_join_tracks(
     list: &mut [Interval],
     list_marks: &mut [u8],
 ) -> i64
-    ensures number { result ≡ count_or (refusal n ours.now marks.now theirs.now (length list.old) (length list_marks.old))
-        (length (joined (kind_of kind) n ours.now theirs.now)) }
-    ensures accepted { refusal n ours.now marks.now theirs.now (length list.old) (length list_marks.old) ≡ 0
-        → (list.new ≡ put (joined (kind_of kind) n ours.now theirs.now) list.old)
-        × (list_marks.new ≡ put (joined_marks (kind_of kind) n ours.now marks.now theirs.now) list_marks.old) }
-    ensures refused { 0 < refusal n ours.now marks.now theirs.now (length list.old) (length list_marks.old)
-        → (list.new ≡ list.old) × (list_marks.new ≡ list_marks.old) }
+    ensures number { let number = refusal n ours.now marks.now theirs.now
+        (length list.old) (length list_marks.old) in
+        result ≡ count_or number (length (joined (kind_of kind) n ours.now theirs.now)) }
+    ensures list { let number = refusal n ours.now marks.now theirs.now
+        (length list.old) (length list_marks.old) in
+        number ≡ 0 → list.new ≡ put (joined (kind_of kind) n ours.now theirs.now) list.old }
+    ensures marks { let number = refusal n ours.now marks.now theirs.now
+        (length list.old) (length list_marks.old) in
+        number ≡ 0
+        → list_marks.new
+        ≡ put (joined_marks (kind_of kind) n ours.now marks.now theirs.now) list_marks.old }
+    ensures same_list { let number = refusal n ours.now marks.now theirs.now
+        (length list.old) (length list_marks.old) in
+        0 < number → list.new ≡ list.old }
+    ensures same_marks { let number = refusal n ours.now marks.now theirs.now
+        (length list.old) (length list_marks.old) in
+        0 < number → list_marks.new ≡ list_marks.old }
 {
     let ours = MarkedList { list: ours, marks };
     let mut out = MarksOut {

@@ -1,4 +1,5 @@
-// The calls for C and Rust hosts: on numbers and slices, each slice a pointer and its number of elements (include/longdust.h). So some have more than seven parameters.
+// The calls for C and Rust hosts: on numbers and slices, each slice a pointer and its number of elements. So some have more than seven parameters.
+// include/longdust.h says for each argument what it is, its size and its limits. Each call returns a count, or minus a refusal's number.
 
 #![tactic(auto)]
 

@@ -13,7 +13,7 @@ use longdust::{LongdustOptions, Tables};
 use mask::Workspace;
 use scans::ForwardPosition;
 
-// `longdust::process_tables` on numbers and slices: answers the interval count or minus the refusal number, and sets the flag.
+/// `longdust::process_tables` on numbers and slices. Returns the interval count, or minus the refusal's number, and sets the flag.
 #[unsafe(no_mangle)]
 pub extern "C" fn longdust_process_tables(
     sequence: &[u8],

@@ -9,7 +9,7 @@ ghost use Rattle.longdust_c.specs.Numbers.{count_or};
 use crate::numbers::returned;
 use intervals::{Interval, MarksOut};
 
-/// The mask and its marks over the fronts of `list` and `marks`, from the lists of both strands of n letters.
+/// `longdust::merge_strands` on numbers and slices. Returns the number of intervals, or minus refusal 10, 16 or 11.
 #[unsafe(no_mangle)]
 pub extern "C" fn longdust_merge_strands(
     n: usize,
@@ -18,13 +18,21 @@ pub extern "C" fn longdust_merge_strands(
     list: &mut [Interval],
     marks: &mut [u8],
 ) -> i64
-    ensures number { result ≡ count_or (merging_refusal n forward.now reverse.now (length list.old) (length marks.old))
+    ensures number { result
+        ≡ count_or (merging_refusal n forward.now reverse.now (length list.old) (length marks.old))
         (length (strands_merged n forward.now reverse.now)) }
-    ensures accepted { merging_refusal n forward.now reverse.now (length list.old) (length marks.old) ≡ 0
-        → (list.new ≡ put (ranges (strands_merged n forward.now reverse.now)) list.old)
-        × (marks.new ≡ put (marks_of (strands_merged n forward.now reverse.now)) marks.old) }
-    ensures refused { 0 < merging_refusal n forward.now reverse.now (length list.old) (length marks.old)
-        → (list.new ≡ list.old) × (marks.new ≡ marks.old) }
+    ensures list { merging_refusal n forward.now reverse.now
+        (length list.old) (length marks.old) ≡ 0
+        → list.new ≡ put (ranges (strands_merged n forward.now reverse.now)) list.old }
+    ensures marks { merging_refusal n forward.now reverse.now
+        (length list.old) (length marks.old) ≡ 0
+        → marks.new ≡ put (marks_of (strands_merged n forward.now reverse.now)) marks.old }
+    ensures same_list { 0 < merging_refusal n forward.now reverse.now
+        (length list.old) (length marks.old)
+        → list.new ≡ list.old }
+    ensures same_marks { 0 < merging_refusal n forward.now reverse.now
+        (length list.old) (length marks.old)
+        → marks.new ≡ marks.old }
 {
     let mut out = MarksOut { list, marks };
     returned(longdust::merge_strands(forward, reverse, n, &mut out))

@@ -12,7 +12,7 @@ use longdust::Answer;
 use masked_copy::Masking;
 use tables::GcOption;
 
-// The GC choice that two numbers stand for.
+/// The GC choice that two numbers stand for.
 pub fn gc_choice(gc_kind: u32, gc_value: f64) -> GcOption
     ensures { result ≡ gc_choice gc_kind gc_value }
 {
@@ -24,7 +24,7 @@ pub fn gc_choice(gc_kind: u32, gc_value: f64) -> GcOption
     }
 }
 
-// The xdrop that two numbers stand for.
+/// The xdrop that two numbers stand for.
 pub fn xdrop_choice(xdrop_set: u32, xdrop_length: u32) -> Option<u32>
     ensures { result ≡ xdrop_choice xdrop_set xdrop_length }
 {
@@ -34,7 +34,7 @@ pub fn xdrop_choice(xdrop_set: u32, xdrop_length: u32) -> Option<u32>
     }
 }
 
-// How masked letters are shown.
+/// How masked letters are shown.
 pub fn masking_of(lower_case: u32, replacement: u8) -> Masking
     ensures { result ≡ masking_of lower_case replacement }
 {
@@ -44,7 +44,7 @@ pub fn masking_of(lower_case: u32, replacement: u8) -> Masking
     }
 }
 
-// Which letters of two tracks are wanted.
+/// Which letters of two lists are wanted: 0 those of either, 1 of both, any other ours outside theirs.
 pub fn kind_of(kind: u32) -> Joined
     ensures { result ≡ kind_of kind }
 {
@@ -55,14 +55,14 @@ pub fn kind_of(kind: u32) -> Joined
     }
 }
 
-// Minus the refusal's number.
+/// Minus the refusal's number.
 pub fn minus_number(refusal: Refusal) -> i64
     ensures { result ≡ neg_ℤ (pos (number refusal)) }
 {
     -(refusal.number() as i64)
 }
 
-// The count, or minus the refusal's number.
+/// The count, or minus the refusal's number.
 pub fn returned(answer: Result<usize, Refusal>) -> i64
     requires { IfOk answer (λ count. count < 2 ^ 63) }
     ensures { result ≡ count_or (number_of answer) (count_of answer) }
@@ -73,7 +73,7 @@ pub fn returned(answer: Result<usize, Refusal>) -> i64
     }
 }
 
-// The count of a mask and its flag, or minus the refusal's number and no flag.
+/// The count of a mask and its flag, or minus the refusal's number and no flag.
 pub fn returned_mask(answer: Result<Answer, Refusal>, in_range: &mut u32) -> i64
     requires { IfOk answer (λ mask. mask.count < 2 ^ 63) }
     ensures number { result ≡ count_or (number_of answer) (mask_count answer) }
@@ -91,7 +91,7 @@ pub fn returned_mask(answer: Result<Answer, Refusal>, in_range: &mut u32) -> i64
     }
 }
 
-// The refusal that has this number.
+/// The refusal that has this number.
 pub fn refusal_numbered(number: u32) -> Option<Refusal>
     ensures { result ≡ refusal_numbered number }
 {

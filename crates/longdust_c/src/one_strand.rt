@@ -10,7 +10,8 @@ use intervals::Interval;
 use longdust::{LongdustOptions, StrandSpace, Tables};
 use scans::ForwardPosition;
 
-/// `longdust::process_strand` on numbers and slices: answers the interval count of the sequence's own strand, or of its reverse complement, or minus the refusal number, and sets the flag.
+/// `longdust::process_strand` on numbers and slices: of the sequence's own strand, or where `reverse` is not 0 of its reverse complement.
+/// Returns the strand's interval count, or minus the refusal's number, and sets the flag.
 #[unsafe(no_mangle)]
 pub extern "C" fn longdust_strand(
     sequence: &[u8],

@@ -9,7 +9,7 @@ use crate::numbers::returned;
 use intervals::Interval;
 use questions::{Answer, Question};
 
-// A summary of the list and a result for each question, over the fronts of `summary` and `results`.
+/// `questions::answer_questions` on slices. Returns the number of questions, or minus refusal 10, 16, 11 or 17.
 #[unsafe(no_mangle)]
 pub extern "C" fn longdust_questions(
     n: usize,
@@ -19,11 +19,18 @@ pub extern "C" fn longdust_questions(
     results: &mut [Answer],
 ) -> i64
     ensures number { result
-        ≡ count_or (refusal n list.now questions.now (length summary.old) (length results.old)) (length questions.now) }
-    ensures accepted { refusal n list.now questions.now (length summary.old) (length results.old) ≡ 0
-        → (summary.new ≡ put (summary_of n list.now) summary.old) × (results.new ≡ put (results_of list.now questions.now) results.old) }
-    ensures refused { 0 < refusal n list.now questions.now (length summary.old) (length results.old)
-        → (summary.new ≡ summary.old) × (results.new ≡ results.old) }
+        ≡ count_or (refusal n list.now questions.now (length summary.old) (length results.old))
+        (length questions.now) }
+    ensures summary { refusal n list.now questions.now (length summary.old) (length results.old) ≡ 0
+        → summary.new ≡ put (summary_of n list.now) summary.old }
+    ensures results { refusal n list.now questions.now (length summary.old) (length results.old) ≡ 0
+        → results.new ≡ put (results_of list.now questions.now) results.old }
+    ensures same_summary { 0 < refusal n list.now questions.now
+        (length summary.old) (length results.old)
+        → summary.new ≡ summary.old }
+    ensures same_results { 0 < refusal n list.now questions.now
+        (length summary.old) (length results.old)
+        → results.new ≡ results.old }
 {
     returned(questions::answer_questions(n, list, questions, summary, results))
 }

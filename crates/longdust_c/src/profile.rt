@@ -12,7 +12,7 @@ use crate::numbers::{returned, xdrop_choice};
 use longdust::LongdustOptions;
 use tables::GcOption;
 
-// The mask of the sequence over the front of `out`, each interval as its start and its end, four bytes each, lowest first.
+/// `small::write_mask` on numbers and byte slices. Returns the number of intervals, or minus the refusal's number.
 #[unsafe(no_mangle)]
 pub extern "C" fn longdust_small(
     sequence: &[u8],
@@ -26,11 +26,16 @@ pub extern "C" fn longdust_small(
     forward_only: u32,
     out: &mut [u8],
 ) -> i64
-    ensures number { let options = small_options kmer window_size score_threshold xdrop_set xdrop_length min_start_cnt approx forward_only in
-        result ≡ count_or (refusal options sequence.now (length out.old)) (length (filled_mask options sequence.now)) }
-    ensures accepted { let options = small_options kmer window_size score_threshold xdrop_set xdrop_length min_start_cnt approx forward_only in
-        refusal options sequence.now (length out.old) ≡ 0 → out.new ≡ put (bytes_of (filled_mask options sequence.now)) out.old }
-    ensures refused { let options = small_options kmer window_size score_threshold xdrop_set xdrop_length min_start_cnt approx forward_only in
+    ensures number { let options = small_options kmer window_size score_threshold
+        xdrop_set xdrop_length min_start_cnt approx forward_only in
+        result ≡ count_or (refusal options sequence.now (length out.old))
+        (length (filled_mask options sequence.now)) }
+    ensures accepted { let options = small_options kmer window_size score_threshold
+        xdrop_set xdrop_length min_start_cnt approx forward_only in
+        refusal options sequence.now (length out.old) ≡ 0
+        → out.new ≡ put (bytes_of (filled_mask options sequence.now)) out.old }
+    ensures refused { let options = small_options kmer window_size score_threshold
+        xdrop_set xdrop_length min_start_cnt approx forward_only in
         0 < refusal options sequence.now (length out.old) → out.new ≡ out.old }
 {
     let options = LongdustOptions {

@@ -7,12 +7,15 @@ ghost use Rattle.longdust_c.specs.Numbers.{count_or};
 
 use crate::numbers::minus_number;
 
-// Fills the front of `tallies` for all sequences of m letters over A C G T N, and sets how many are refused.
+/// `short_sequences::short_sequences` on numbers and slices: sets how many sequences are refused.
+/// Returns how many there are, or minus refusal 22 or 11; then `refused` is 0.
 #[unsafe(no_mangle)]
 pub extern "C" fn longdust_short_sequences(m: usize, tallies: &mut [u32], refused: &mut u32) -> i64
     ensures number { result ≡ count_or (refusal m tallies.old) (5 ^ m) }
-    ensures accepted { refusal m tallies.old ≡ 0 → (refused.new ≡ refused_of m) × (tallies.new ≡ put (tallies_of m) tallies.old) }
-    ensures refused_request { 0 < refusal m tallies.old → (refused.new ≡ 0) × (tallies.new ≡ tallies.old) }
+    ensures refused { refusal m tallies.old ≡ 0 → refused.new ≡ refused_of m }
+    ensures tallies { refusal m tallies.old ≡ 0 → tallies.new ≡ put (tallies_of m) tallies.old }
+    ensures none_refused { 0 < refusal m tallies.old → refused.new ≡ 0 }
+    ensures same_tallies { 0 < refusal m tallies.old → tallies.new ≡ tallies.old }
 {
     match short_sequences::short_sequences(m, tallies) {
         Ok(tallied) => {

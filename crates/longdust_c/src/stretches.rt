@@ -10,7 +10,8 @@ ghost use Rattle.longdust_c.specs.Numbers.{count_or};
 use crate::numbers::minus_number;
 use strongest::{Request, Scoring};
 
-// The best stretch up to `place` within the budget of steps: answers the steps or minus the refusal number, and sets start, score and gap.
+/// `strongest::strongest_stretch` on numbers and slices: sets start, score and gap, to 0 where the request is refused.
+/// Returns the steps made, or minus the refusal's number.
 #[unsafe(no_mangle)]
 pub extern "C" fn longdust_strongest_stretch(
     sequence: &[u8],
@@ -27,15 +28,42 @@ pub extern "C" fn longdust_strongest_stretch(
     score: &mut i64,
     gap: &mut u64,
 ) -> i64
-    ensures number { let Q = asked sequence.now kmer window_size place budget threshold ln.now f.now in
+    ensures number { let Q = asked sequence.now kmer window_size place budget
+        threshold ln.now f.now in
         result ≡ count_or (refusal Q (length codes.old) (length scan_counts.old)) (steps Q) }
-    ensures accepted { let Q = asked sequence.now kmer window_size place budget threshold ln.now f.now in
+    ensures start { let Q = asked sequence.now kmer window_size place budget
+        threshold ln.now f.now in
+        refusal Q (length codes.old) (length scan_counts.old) ≡ 0 → start.new ≡ best_start Q }
+    ensures score { let Q = asked sequence.now kmer window_size place budget
+        threshold ln.now f.now in
+        refusal Q (length codes.old) (length scan_counts.old) ≡ 0 → score.new ≡ best_score Q }
+    ensures gap { let Q = asked sequence.now kmer window_size place budget
+        threshold ln.now f.now in
+        refusal Q (length codes.old) (length scan_counts.old) ≡ 0 → gap.new ≡ best_gap Q }
+    ensures codes { let Q = asked sequence.now kmer window_size place budget
+        threshold ln.now f.now in
         refusal Q (length codes.old) (length scan_counts.old) ≡ 0
-        → (start.new ≡ best_start Q) × (score.new ≡ best_score Q) × (gap.new ≡ best_gap Q)
-        × Free (length sequence.now) codes.old codes.new × Free (4 ^ kmer) scan_counts.old scan_counts.new }
-    ensures refused { let Q = asked sequence.now kmer window_size place budget threshold ln.now f.now in
+        → Free (length sequence.now) codes.old codes.new }
+    ensures scan_counts { let Q = asked sequence.now kmer window_size place budget
+        threshold ln.now f.now in
+        refusal Q (length codes.old) (length scan_counts.old) ≡ 0
+        → Free (4 ^ kmer) scan_counts.old scan_counts.new }
+    ensures no_start { let Q = asked sequence.now kmer window_size place budget
+        threshold ln.now f.now in
+        0 < refusal Q (length codes.old) (length scan_counts.old) → start.new ≡ 0 }
+    ensures no_score { let Q = asked sequence.now kmer window_size place budget
+        threshold ln.now f.now in
+        0 < refusal Q (length codes.old) (length scan_counts.old) → score.new ≡ pos 0 }
+    ensures no_gap { let Q = asked sequence.now kmer window_size place budget
+        threshold ln.now f.now in
+        0 < refusal Q (length codes.old) (length scan_counts.old) → gap.new ≡ 0 }
+    ensures same_codes { let Q = asked sequence.now kmer window_size place budget
+        threshold ln.now f.now in
+        0 < refusal Q (length codes.old) (length scan_counts.old) → codes.new ≡ codes.old }
+    ensures same_counts { let Q = asked sequence.now kmer window_size place budget
+        threshold ln.now f.now in
         0 < refusal Q (length codes.old) (length scan_counts.old)
-        → (start.new ≡ 0) × (score.new ≡ pos 0) × (gap.new ≡ 0) × (codes.new ≡ codes.old) × (scan_counts.new ≡ scan_counts.old) }
+        → scan_counts.new ≡ scan_counts.old }
 {
     let request = Request {
         sequence,

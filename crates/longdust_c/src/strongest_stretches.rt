@@ -12,7 +12,7 @@ use intervals::Interval;
 use strongest::Scoring;
 use strongest_list::{LinkedPlace, Request, Tile};
 
-// The letters and scores of the strongest stretches inside the regions, over the fronts of `list` and `scores`.
+/// `strongest_list::strongest_stretches` on numbers and slices. Returns the number of stretches, or minus the refusal's number.
 #[unsafe(no_mangle)]
 pub extern "C" fn longdust_strongest_stretches(
     sequence: &[u8],
@@ -30,31 +30,59 @@ pub extern "C" fn longdust_strongest_stretches(
     list: &mut [Interval],
     scores: &mut [i64],
 ) -> i64
-    ensures number { let A = asked sequence.now kmer window_size threshold ln.now f.now regions.now floor in
-        result ≡ count_or (refusal A (length codes.old) (length newest.old) (length places.old) (length tiles.old))
+    ensures number { let A = asked sequence.now kmer window_size threshold
+        ln.now f.now regions.now floor in
+        result ≡ count_or
+        (refusal A (length codes.old) (length newest.old) (length places.old) (length tiles.old))
         (length (entries A list.old scores.old)) }
-    ensures list { let A = asked sequence.now kmer window_size threshold ln.now f.now regions.now floor in
+    ensures list { let A = asked sequence.now kmer window_size threshold
+        ln.now f.now regions.now floor in
         refusal A (length codes.old) (length newest.old) (length places.old) (length tiles.old) ≡ 0
         → list.new ≡ put (letters_of A (entries A list.old scores.old)) list.old }
-    ensures scores { let A = asked sequence.now kmer window_size threshold ln.now f.now regions.now floor in
+    ensures scores { let A = asked sequence.now kmer window_size threshold
+        ln.now f.now regions.now floor in
         refusal A (length codes.old) (length newest.old) (length places.old) (length tiles.old) ≡ 0
         → scores.new ≡ put (scores_of A (entries A list.old scores.old)) scores.old }
-    ensures codes { let A = asked sequence.now kmer window_size threshold ln.now f.now regions.now floor in
+    ensures codes { let A = asked sequence.now kmer window_size threshold
+        ln.now f.now regions.now floor in
         refusal A (length codes.old) (length newest.old) (length places.old) (length tiles.old) ≡ 0
         → Free (length sequence.now) codes.old codes.new }
-    ensures newest { let A = asked sequence.now kmer window_size threshold ln.now f.now regions.now floor in
+    ensures newest { let A = asked sequence.now kmer window_size threshold
+        ln.now f.now regions.now floor in
         refusal A (length codes.old) (length newest.old) (length places.old) (length tiles.old) ≡ 0
         → Free (4 ^ kmer) newest.old newest.new }
-    ensures places { let A = asked sequence.now kmer window_size threshold ln.now f.now regions.now floor in
+    ensures places { let A = asked sequence.now kmer window_size threshold
+        ln.now f.now regions.now floor in
         refusal A (length codes.old) (length newest.old) (length places.old) (length tiles.old) ≡ 0
         → Free (n_places A) places.old places.new }
-    ensures tiles { let A = asked sequence.now kmer window_size threshold ln.now f.now regions.now floor in
+    ensures tiles { let A = asked sequence.now kmer window_size threshold
+        ln.now f.now regions.now floor in
         refusal A (length codes.old) (length newest.old) (length places.old) (length tiles.old) ≡ 0
         → Free (n_tiles A) tiles.old tiles.new }
-    ensures refused { let A = asked sequence.now kmer window_size threshold ln.now f.now regions.now floor in
+    ensures same_codes { let A = asked sequence.now kmer window_size threshold
+        ln.now f.now regions.now floor in
         0 < refusal A (length codes.old) (length newest.old) (length places.old) (length tiles.old)
-        → (codes.new ≡ codes.old) × (newest.new ≡ newest.old) × (places.new ≡ places.old) × (tiles.new ≡ tiles.old)
-        × (list.new ≡ list.old) × (scores.new ≡ scores.old) }
+        → codes.new ≡ codes.old }
+    ensures same_newest { let A = asked sequence.now kmer window_size threshold
+        ln.now f.now regions.now floor in
+        0 < refusal A (length codes.old) (length newest.old) (length places.old) (length tiles.old)
+        → newest.new ≡ newest.old }
+    ensures same_places { let A = asked sequence.now kmer window_size threshold
+        ln.now f.now regions.now floor in
+        0 < refusal A (length codes.old) (length newest.old) (length places.old) (length tiles.old)
+        → places.new ≡ places.old }
+    ensures same_tiles { let A = asked sequence.now kmer window_size threshold
+        ln.now f.now regions.now floor in
+        0 < refusal A (length codes.old) (length newest.old) (length places.old) (length tiles.old)
+        → tiles.new ≡ tiles.old }
+    ensures same_list { let A = asked sequence.now kmer window_size threshold
+        ln.now f.now regions.now floor in
+        0 < refusal A (length codes.old) (length newest.old) (length places.old) (length tiles.old)
+        → list.new ≡ list.old }
+    ensures same_scores { let A = asked sequence.now kmer window_size threshold
+        ln.now f.now regions.now floor in
+        0 < refusal A (length codes.old) (length newest.old) (length places.old) (length tiles.old)
+        → scores.new ≡ scores.old }
 {
     let request = Request {
         sequence,

@@ -13,7 +13,7 @@ ghost use Rattle.longdust_c.specs.Numbers.{table_options, count_or, flag as flag
 use crate::numbers::{gc_choice, minus_number};
 use longdust::LongdustOptions;
 
-/// The tables of the options over the fronts of `ln` and `f`; answers 0 or minus the refusal number, and sets the flag.
+/// `longdust::fill_tables` on numbers and slices. Returns 0, or minus the refusal's number, and sets the flag.
 #[unsafe(no_mangle)]
 pub extern "C" fn longdust_fill_tables(
     sequence: &[u8],
@@ -27,18 +27,47 @@ pub extern "C" fn longdust_fill_tables(
     codes: &mut [u8],
     in_range: &mut u32,
 ) -> i64
-    ensures number { let options = table_options kmer window_size score_threshold gc_kind gc_value in
-        result ≡ count_or (filling_refusal options (length sequence.now) (length ln.old) (length f.old) (length codes.old)) 0 }
-    ensures flag { let options = table_options kmer window_size score_threshold gc_kind gc_value in
-        in_range.new ≡ flag_number (flag_unless (filling_refusal options (length sequence.now) (length ln.old) (length f.old) (length codes.old))
+    ensures number { let options = table_options kmer window_size score_threshold
+        gc_kind gc_value in
+        let number = filling_refusal options (length sequence.now)
+        (length ln.old) (length f.old) (length codes.old) in
+        result ≡ count_or number 0 }
+    ensures flag { let options = table_options kmer window_size score_threshold
+        gc_kind gc_value in
+        let number = filling_refusal options (length sequence.now)
+        (length ln.old) (length f.old) (length codes.old) in
+        in_range.new ≡ flag_number (flag_unless number
         (in_range_of (setup options (ln_filled options) (f_filled options sequence.now)))) }
-    ensures accepted { let options = table_options kmer window_size score_threshold gc_kind gc_value in
-        filling_refusal options (length sequence.now) (length ln.old) (length f.old) (length codes.old) ≡ 0
-        → (ln.new ≡ put (ln_filled options) ln.old) × (f.new ≡ put (f_filled options sequence.now) f.old)
-        × Free (length sequence.now) codes.old codes.new }
-    ensures refused { let options = table_options kmer window_size score_threshold gc_kind gc_value in
-        0 < filling_refusal options (length sequence.now) (length ln.old) (length f.old) (length codes.old)
-        → (ln.new ≡ ln.old) × (f.new ≡ f.old) × (codes.new ≡ codes.old) }
+    ensures ln { let options = table_options kmer window_size score_threshold
+        gc_kind gc_value in
+        let number = filling_refusal options (length sequence.now)
+        (length ln.old) (length f.old) (length codes.old) in
+        number ≡ 0 → ln.new ≡ put (ln_filled options) ln.old }
+    ensures f { let options = table_options kmer window_size score_threshold
+        gc_kind gc_value in
+        let number = filling_refusal options (length sequence.now)
+        (length ln.old) (length f.old) (length codes.old) in
+        number ≡ 0 → f.new ≡ put (f_filled options sequence.now) f.old }
+    ensures codes { let options = table_options kmer window_size score_threshold
+        gc_kind gc_value in
+        let number = filling_refusal options (length sequence.now)
+        (length ln.old) (length f.old) (length codes.old) in
+        number ≡ 0 → Free (length sequence.now) codes.old codes.new }
+    ensures same_ln { let options = table_options kmer window_size score_threshold
+        gc_kind gc_value in
+        let number = filling_refusal options (length sequence.now)
+        (length ln.old) (length f.old) (length codes.old) in
+        0 < number → ln.new ≡ ln.old }
+    ensures same_f { let options = table_options kmer window_size score_threshold
+        gc_kind gc_value in
+        let number = filling_refusal options (length sequence.now)
+        (length ln.old) (length f.old) (length codes.old) in
+        0 < number → f.new ≡ f.old }
+    ensures same_codes { let options = table_options kmer window_size score_threshold
+        gc_kind gc_value in
+        let number = filling_refusal options (length sequence.now)
+        (length ln.old) (length f.old) (length codes.old) in
+        0 < number → codes.new ≡ codes.old }
 {
     let options = LongdustOptions {
         window_size,

@@ -17,11 +17,14 @@ fn words(refusal: Option<Refusal>) -> &'static str
     }
 }
 
-/// The text of the refusal that has this number, empty if none has it, over the front of `text`; answers its bytes.
+/// Writes the text of the refusal that has this number to the front of `text`: none if no refusal has it.
+/// Returns how many bytes it has, or minus refusal 11.
 #[unsafe(no_mangle)]
 pub extern "C" fn longdust_refusal_text(number: u32, text: &mut [u8]) -> i64
-    ensures number { result ≡ count_or (text_refusal number (length text.old)) (length (text_numbered number)) }
-    ensures accepted { text_refusal number (length text.old) ≡ 0 → text.new ≡ put (text_numbered number) text.old }
+    ensures number { result
+        ≡ count_or (text_refusal number (length text.old)) (length (text_numbered number)) }
+    ensures accepted { text_refusal number (length text.old) ≡ 0
+        → text.new ≡ put (text_numbered number) text.old }
     ensures refused { 0 < text_refusal number (length text.old) → text.new ≡ text.old }
 {
     let words = words(refusal_numbered(number)).as_bytes();

@@ -15,19 +15,27 @@ ghost use Rattle.mask.specs.Terms.Both.{Held, other_intervals, Runs, StrandRoom,
 use intervals::{Interval, MarksOut};
 use scans::{ForwardPosition, Setup};
 
-// The buffers that the runs over both strands are lent, and the list of each.
+/// The work space of the runs over both strands, whatever it holds, and the list of each strand: for n letters, k-mers of k,
+/// a window of w, and R = (n + 1) / (k + 1).
 #[derive(Drop)]
 pub struct Workspace<'a> {
+    /// The window's places as entries: w of them.
     pub queue: &'a mut [u32],
+    /// How often each k-mer stands in the window: 4^k counts.
     pub window_counts: &'a mut [u16],
+    /// How often each k-mer stands in a scan: 4^k counts.
     pub scan_counts: &'a mut [u16],
+    /// The candidates of a scan: w of them.
     pub candidates: &'a mut [ForwardPosition],
+    /// The codes of the reverse complement: n of them.
     pub reverse_codes: &'a mut [u8],
+    /// The sequence's own intervals: room for R.
     pub forward_list: &'a mut [Interval],
+    /// The reverse complement's intervals: room for R.
     pub reverse_list: &'a mut [Interval],
 }
 
-/// The list of a strand of codes, in its own positions, in the front of `list`; returns how many intervals it has.
+/// Writes the list of a strand of codes, in its own positions, to the front of `list`; returns how many intervals it has.
 // The run gets the front of each buffer.
 pub fn strand_list(
     setup: &Setup,
@@ -39,8 +47,9 @@ pub fn strand_list(
     list: &mut [Interval],
 ) -> usize
     requires runs { Runs setup.now (length codes.now) }
-    requires room { StrandRoom setup.now.params (length codes.now) (length queue.old)
-        (length window_counts.old) (length scan_counts.old) (length candidates.old) (length list.old) }
+    requires room { StrandRoom setup.now.params (length codes.now)
+        (length queue.old) (length window_counts.old) (length scan_counts.old)
+        (length candidates.old) (length list.old) }
     ensures list { Held (intervals_of (as_setup setup.now) codes.now) list.new result }
     ensures queue { Free setup.now.params.window_size queue.old queue.new }
     ensures window_counts { Free (4 ^ setup.now.params.kmer) window_counts.old window_counts.new }
@@ -66,7 +75,8 @@ pub fn strand_list(
 fn forward_strand(setup: &Setup, codes: &[u8], work: &mut Workspace) -> usize
     requires runs { Runs setup.now (length codes.now) }
     requires room { ForwardRoom setup.now.params (length codes.now) work.old }
-    ensures list { Held (intervals_of (as_setup setup.now) codes.now) work.new.forward_list.now result }
+    ensures list { Held (intervals_of (as_setup setup.now) codes.now)
+        work.new.forward_list.now result }
     ensures freed { Freed setup.now.params (length codes.now) work.old work.new }
     ensures same_buffers { SameBuffers work.old work.new }
 {
@@ -86,8 +96,7 @@ fn forward_strand(setup: &Setup, codes: &[u8], work: &mut Workspace) -> usize
     )
 }
 
-// The list of the reverse complement, in the front of `reverse_list`; returns how many intervals it has. A forward-only run has none.
-// What both strands do is `strand_list`; which of the buffers each lends it is all that is left here.
+/// Writes the list of the reverse complement to the front of `reverse_list`; returns how many intervals it has. A forward-only run has none.
 pub fn reverse_strand(
     setup: &Setup,
     forward_only: bool,
@@ -96,7 +105,8 @@ pub fn reverse_strand(
 ) -> usize
     requires runs { Runs setup.now (length codes.now) }
     requires room { ReverseRoom setup.now.params (length codes.now) work.old }
-    ensures list { Held (other_intervals (as_setup setup.now) forward_only codes.now) work.new.reverse_list.now result }
+    ensures list { Held (other_intervals (as_setup setup.now) forward_only codes.now)
+        work.new.reverse_list.now result }
     ensures forward { work.new.forward_list.now ≡ work.old.forward_list.now }
     ensures freed { Freed setup.now.params (length codes.now) work.old work.new }
     ensures same_buffers { SameBuffers work.old work.new }
@@ -122,7 +132,7 @@ pub fn reverse_strand(
     )
 }
 
-// Both strands on buffers of at least the listed sizes; returns how many intervals the mask has.
+/// Masks a sequence of codes: writes the mask and its marks to `out`, of R entries or more, and returns how many intervals it has.
 pub fn both_strands(
     setup: &Setup,
     forward_only: bool,

@@ -10,10 +10,12 @@ ghost use Rattle.masked_copy.specs.Copy.{shown, copy_of, replacement_bad, refusa
 use checks::Refusal;
 use intervals::Interval;
 
-// How a masked letter is shown.
+/// How a masked letter is shown.
 #[derive(Clone, Copy)]
 pub enum Masking {
+    /// In lower case.
     LowerCase,
+    /// As this byte: N or X, else refusal 12.
     Replace(u8),
 }
 
@@ -83,8 +85,8 @@ fn check(sequence: &[u8], masking: Masking, copy: &[u8]) -> Result<(), Refusal>
     Ok(())
 }
 
-/// Fills the front of `copy` with the sequence, its letters masked that an interval of the list, whose order is free, holds.
-/// Returns the number of bytes copied.
+/// Copies the sequence to the front of `copy`, each letter that an interval of the list holds masked. The list's order is free.
+/// Returns the number of bytes copied, n, or refusal 12 or 11.
 pub fn masked_copy(
     sequence: &[u8],
     list: &[Interval],
@@ -93,7 +95,8 @@ pub fn masked_copy(
 ) -> Result<usize, Refusal>
     ensures ok { OnOk result (copy.new ≡ put (copy_of masking list.now sequence.now) copy.old) }
     ensures count { IfOk result (λ n. n ≡ length sequence.now) }
-    ensures values { count_of result ≡ count_unless (refusal masking sequence.now copy.old) (length sequence.now) }
+    ensures values { count_of result
+        ≡ count_unless (refusal masking sequence.now copy.old) (length sequence.now) }
     ensures refusal { number_of result ≡ refusal masking sequence.now copy.old }
     ensures err { OnErr result (copy.new ≡ copy.old) }
 {

@@ -18,21 +18,26 @@ use intervals::{Interval, is_usual};
 // The letters of a block: the summary has an entry for each.
 const BLOCK: u32 = 1024;
 
-/// A question about a range of letters, from `from` up to `to`, which is not included.
-/// Its kind: 0 nearest to letter `from`, 1 wholly within, 2 both inside and outside, 3 the masked share.
+/// A question about a range of letters.
 #[repr(C)]
 #[derive(Clone, Copy)]
 pub struct Question {
+    /// 0: the interval nearest to letter `from`. 1: the intervals wholly within the range. 2: those with letters both inside
+    /// and outside it. 3: the range's masked share.
     pub kind: u32,
+    /// The range's first letter, counted from 0.
     pub from: u32,
+    /// One past its last letter. A question of kind 0 does not read it.
     pub to: u32,
 }
 
-/// An interval's index and a distance, the first index and a count, or a share and its remainder.
+/// What a question is answered; 4,294,967,295 and 0 where there is no such interval.
 #[repr(C)]
 #[derive(Clone, Copy)]
 pub struct Answer {
+    /// Kind 0 the interval's index, 1 and 2 the first one's, 3 the share in ten-thousandths.
     pub first: u32,
+    /// Kind 0 its distance in letters, 1 and 2 how many intervals, 3 the share's remainder.
     pub second: u32,
 }
 
@@ -118,7 +123,8 @@ impl<'a> UsualList<'a> {
     // The intervals wholly within the range: those that begin at its start or later, up to the first whose end lies past its end.
     #[tactic(auto, using(crate::proofs::RangeSteps::of_within))]
     fn intervals_within(&self, range: Interval) -> Option<Answer>
-        ensures { unwrap_or result none ≡ all_that (within range.start range.end) self.now.list.now }
+        ensures { unwrap_or result none
+            ≡ all_that (within range.start range.end) self.now.list.now }
     {
         let first = self.first_from(range.start);
         let past = self.first_past(range.end);
@@ -135,7 +141,8 @@ impl<'a> UsualList<'a> {
     #[tactic(auto, using(crate::proofs::RangeSteps::of_partly))]
     fn intervals_partly(&self, range: Interval) -> Option<Answer>
         requires nonempty { range.start < range.end }
-        ensures { unwrap_or result none ≡ all_that (partly range.start range.end) self.now.list.now }
+        ensures { unwrap_or result none
+            ≡ all_that (partly range.start range.end) self.now.list.now }
     {
         let left = self.first_past(range.start);
         let right = self.first_past(range.end);
@@ -207,7 +214,8 @@ impl<'a> UsualList<'a> {
     #[tactic(auto, using(crate::proofs::Blocks::of_parts))]
     fn masked_letters(&self, summary: &[u32], range: Interval) -> u32
         requires summed { Summed self.now.list.now summary.now range.end }
-        requires in_order { (range.start ≤ range.end) × (range.end ≤ 2147483647) }
+        requires in_order { range.start ≤ range.end }
+        requires end_in_bounds { range.end ≤ 2147483647 }
         ensures { result ≡ covered_in self.now.list.now range.start range.end }
     {
         let first = range.start.div_ceil(BLOCK);
@@ -231,7 +239,8 @@ impl<'a> UsualList<'a> {
     #[tactic(auto, using(crate::proofs::Share::of_share))]
     fn masked_share(&self, summary: &[u32], range: Interval) -> Answer
         requires summed { Summed self.now.list.now summary.now range.end }
-        requires nonempty { (range.start < range.end) × (range.end ≤ 2147483647) }
+        requires nonempty { range.start < range.end }
+        requires end_in_bounds { range.end ≤ 2147483647 }
         ensures { result ≡ share range.start range.end self.now.list.now }
     {
         let parts = 10000 * (self.masked_letters(summary, range) as usize);
@@ -288,10 +297,12 @@ fn letters_inside(range: Interval, interval: Interval) -> u32
     end.saturating_sub(start)
 }
 
-// The covered letters of a range, and the first interval whose end lies past the range's.
+// What a walk over a range found.
 #[derive(Clone, Copy)]
 struct Walked {
+    // The range's covered letters.
     letters: u32,
+    // The first interval whose end lies past the range's.
     next: usize,
 }
 
@@ -327,8 +338,8 @@ fn count_blocks(n: usize) -> usize
     n.div_ceil(BLOCK as usize)
 }
 
-/// Answers a batch of questions about a list of intervals in n letters: the summary is built, and a result written for each question.
-/// Returns the number of questions answered.
+/// Answers a batch of questions about a list of the usual kind in n letters: a result is written for each question, in order.
+/// The summary is built first: an entry for each 1,024 letters, n / 1,024 rounded up. Returns the number of questions, or refusal 10, 16, 11 or 17.
 pub fn answer_questions(
     n: usize,
     list: &[Interval],
@@ -338,11 +349,15 @@ pub fn answer_questions(
 ) -> Result<usize, Refusal>
     ensures count { IfOk result (λ count. count ≡ length questions.now) }
     ensures values { count_of result
-        ≡ count_unless (refusal n list.now questions.now (length summary.old) (length results.old)) (length questions.now) }
+        ≡ count_unless (refusal n list.now questions.now (length summary.old) (length results.old))
+        (length questions.now) }
     ensures summary { OnOk result (summary.new ≡ put (summary_of n list.now) summary.old) }
-    ensures results { OnOk result (results.new ≡ put (results_of list.now questions.now) results.old) }
-    ensures refusal { number_of result ≡ refusal n list.now questions.now (length summary.old) (length results.old) }
-    ensures err { OnErr result ((summary.new ≡ summary.old) × (results.new ≡ results.old)) }
+    ensures results { OnOk result
+        (results.new ≡ put (results_of list.now questions.now) results.old) }
+    ensures refusal { number_of result
+        ≡ refusal n list.now questions.now (length summary.old) (length results.old) }
+    ensures same_summary { OnErr result (summary.new ≡ summary.old) }
+    ensures same_results { OnErr result (results.new ≡ results.old) }
 {
     let list = UsualList::new(n, list)?;
     let blocks = count_blocks(n);

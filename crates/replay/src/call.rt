@@ -10,23 +10,29 @@ use longdust::{Answer, LongdustOptions, Tables};
 use mask::Workspace;
 use scans::ForwardPosition;
 
-// A request that is lent slices has k at most 6, w at most 64 and n at most 200: room for its tables, letters and intervals.
+// A request that is lent slices has k at most 6, w at most 64 and n at most 200.
+
+/// Room for its ln table.
 pub const LN_ROOM: usize = 65;
 
+/// Room for its f table.
 pub const F_ROOM: usize = 66;
 
+/// Room for its letters.
 pub const LETTERS_ROOM: usize = 200;
 
+/// Room for its intervals.
 pub const LIST_ROOM: usize = 100;
 
 // What a record names in place of the short slice where all are empty.
 const ALL_EMPTY: u32 = 13;
 
-// How many entries slice `number` of the call has: as many as listed, one less if it is the short one, none if all
-// are empty; at most `room`.
+/// How many entries slice `number` of the call has: as many as listed, one less if it is the short one, none if all
+/// are empty; at most `room`.
 #[tactic(auto, unfolding(crate::specs::Call::size))]
 pub fn entries(number: u32, short: u32, listed: usize, room: usize) -> usize
-    ensures { (result ≡ size number short listed room) × (result ≤ room) }
+    ensures value { result ≡ size number short listed room }
+    ensures in_bounds { result ≤ room }
 {
     if short == ALL_EMPTY {
         return 0;
@@ -45,7 +51,7 @@ fn fills(lent: bool, k: usize, w: usize) -> bool
     !lent & (k <= 12) & (w <= 64)
 }
 
-// Fills the tables by their formulas where the record lends none, which `lent` says, a yes or no.
+/// Fills the tables by their formulas, unless the record lends them.
 pub fn fill_tables(
     lent: bool,
     sequence: &[u8],
@@ -53,7 +59,9 @@ pub fn fill_tables(
     ln: &mut [f64],
     f: &mut [f64],
 )
-    requires { (length sequence.now ≤ 200) × (length ln.old ≡ 65) × (length f.old ≡ 66) }
+    requires few { length sequence.now ≤ 200 }
+    requires ln_len { length ln.old ≡ 65 }
+    requires f_len { length f.old ≡ 66 }
     ensures { Formulas lent options sequence.now ln.old f.old ln.new f.new }
 {
     if !fills(lent, options.kmer, options.window_size) {
@@ -73,6 +81,7 @@ fn some_candidates() -> [ForwardPosition; 64] {
     }; 64]
 }
 
+/// A list full of arbitrary intervals.
 pub fn some_intervals() -> [Interval; LIST_ROOM]
     ensures { length result ≡ 100 }
 {
@@ -82,7 +91,7 @@ pub fn some_intervals() -> [Interval; LIST_ROOM]
     }; LIST_ROOM]
 }
 
-// The answer to a request by these tables, on buffers full of arbitrary numbers, so that it cannot rest on zeros.
+/// The answer to a request by these tables, on buffers full of arbitrary numbers, so that it cannot rest on zeros.
 pub fn answer(
     short: u32,
     sequence: &[u8],

@@ -85,13 +85,12 @@ fn replay(rt: &impl Print, text: &[u8]) -> io::Result<()> {
 }
 
 // Reads until the list is full, the reader ends or a read fails, and answers how many bytes that is.
-// A loop of its own: `contigs` reads on after an interruption and tells of a failure, and `track` keeps the letters alone.
 fn read_list<R: Read>(reader: &mut R, list: &mut [u8]) -> usize
     ensures prefix_len { IsPrefixLen result list.new }
-    ensures bytes { Consumes (R.remaining reader.old) (R.remaining reader.new) (take result list.new) }
+    ensures bytes { Consumes (R.remaining reader.old) (R.remaining reader.new)
+        (take result list.new) }
 {
     let mut count = 0;
-    // No `for`: each read says how far the next turn begins.
     while count < list.len() {
         match reader.read(&mut list[count..]) {
             Ok(n) => {

@@ -1,6 +1,6 @@
 // The recorded answer, compared with the port's.
 
-ghost use Rattle.std.specs.Prelude.{◌≡◌, ◌&&◌, ltb, eqb, length, get_or};
+ghost use Rattle.std.specs.Prelude.{◌≡◌, ◌&&◌, nat_lt, ◌==◌, length, slice_index_or};
 ghost use Rattle.intervals.specs.Interval.{interval};
 ghost use Rattle.replay.specs.Words.{Follows};
 
@@ -11,8 +11,8 @@ use longdust::Answer;
 
 // Whether entry i of a list is there and is [start, end].
 fn has(list: &[Interval], i: usize, start: u32, end: u32) -> bool
-    ensures { let L = list.now in
-        result ≡ (ltb i (length L) && (eqb (get_or L i (interval 0 0)).start start && eqb (get_or L i (interval 0 0)).end end)) }
+    ensures { let L = list.now in let here = slice_index_or L i (interval 0 0) in
+        result ≡ (nat_lt i (length L) && ((here.start == start) && (here.end == end))) }
 {
     list.get(i)
         .is_some_and(|interval| interval.start == start && interval.end == end)
@@ -20,7 +20,7 @@ fn has(list: &[Interval], i: usize, start: u32, end: u32) -> bool
 
 // Whether entry i of the marks is there and is `mark`.
 fn has_mark(marks: &[u8], i: usize, mark: u32) -> bool
-    ensures { result ≡ (ltb i (length marks.now) && eqb (get_or marks.now i 0) mark) }
+    ensures { result ≡ (nat_lt i (length marks.now) && (slice_index_or marks.now i 0 == mark)) }
 {
     marks.get(i).is_some_and(|entry| *entry as u32 == mark)
 }
@@ -45,7 +45,7 @@ fn intervals(
     Ok(same)
 }
 
-// Reads the recorded answer, refusal, flag, count, intervals and marks; whether the answer is the recorded one.
+/// Reads the recorded answer, refusal, flag, count, intervals and marks. Returns whether the answer is the recorded one.
 #[tactic(auto, using(crate::proofs::Following::following))]
 pub fn compare(
     words: &mut Words,

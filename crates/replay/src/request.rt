@@ -8,13 +8,13 @@ use crate::words::{self, Malformed, Words};
 use longdust::LongdustOptions;
 use tables::GcOption;
 
-// What stands before the tables and the letters: `short` is the number of the short slice, `lent` whether tables are lent.
-// `short` is a number, as the list has it: the sizes of the slices compare it with each slice's own (`call::entries`).
-// `lent` is a yes or no on which no value hangs: an enum of two names would say no more.
+/// What stands before the tables and the letters of a record.
 #[derive(Clone, Copy)]
 pub struct Request {
     pub options: LongdustOptions,
+    /// The number of the slice that is lent one entry short: 0 for none, 13 where all are empty.
     pub short: u32,
+    /// Whether the record lends tables.
     pub lent: bool,
 }
 
@@ -39,11 +39,12 @@ fn gc(kind: u32, fixed: f64) -> GcOption
     }
 }
 
-// Reads the words before the tables.
+/// Reads the words before the tables.
 #[tactic(auto, using(crate::proofs::Following::following))]
 pub fn head(words: &mut Words) -> Result<Request, Malformed>
     ensures follows { Follows words.old.rest.now words.new.rest.now }
-    ensures lengths { IfOk result (λ r. (r.options.kmer ≤ 4294967295) × (r.options.window_size ≤ 4294967295)) }
+    ensures kmer { IfOk result (λ r. r.options.kmer ≤ 4294967295) }
+    ensures window_size { IfOk result (λ r. r.options.window_size ≤ 4294967295) }
 {
     let kmer = words.number(u32::MAX)? as usize;
     let window_size = words.number(u32::MAX)? as usize;
@@ -91,7 +92,7 @@ fn table(words: &mut Words, table: &mut [f64]) -> Result<(), Malformed>
     Ok(())
 }
 
-// Reads both tables.
+/// Reads both tables.
 #[tactic(auto, using(crate::proofs::Following::following))]
 pub fn tables(words: &mut Words, ln: &mut [f64], f: &mut [f64]) -> Result<(), Malformed>
     ensures { Follows words.old.rest.now words.new.rest.now }
@@ -107,7 +108,7 @@ fn letter(byte: u8) -> u8
     if byte == b'~' { 200 } else { byte }
 }
 
-// Reads how many letters there are, which it answers, and the letters.
+/// Reads how many letters there are, which it answers, and the letters.
 #[tactic(auto, using(crate::proofs::Following::following))]
 pub fn sequence(words: &mut Words, letters: &mut [u8]) -> Result<usize, Malformed>
     ensures follows { Follows words.old.rest.now words.new.rest.now }

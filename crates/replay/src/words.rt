@@ -1,20 +1,22 @@
 // The words of the list. Every word is followed by one byte, a space or at the end of a line a newline.
 
-ghost use Rattle.std.specs.Prelude.{◌≡◌, ◌≤◌, ◌<◌, ◌+◌, true, cond, length, take, drop, get_or, nat_eq, IfOk, OnOk, OnErr, IfSome};
+ghost use Rattle.std.specs.Prelude.{◌≡◌, ◌≤◌, ◌<◌, ◌+◌, true, if◌then◌else◌, length, take, drop, slice_index_or, nat_eq, IfOk, OnOk, OnErr, IfSome};
 ghost use Rattle.std.specs.Option.{unwrap_or};
 ghost use Rattle.replay.specs.Words.{digit_of, ends_word, Reads, ReadsNumber, ReadsBits, ReadsFloat, Follows};
 
 use std::num::f64_from_bits_with_nan;
 
-// The list does not have its form; the number that a word began with, 0 where none was read: it is printed as it is.
+/// The list does not have its form.
 #[derive(Clone, Copy)]
 pub struct Malformed {
+    /// The number that the word began with, 0 where none was read. It is printed as it is.
     pub number: u32,
 }
 
+/// No number was read.
 pub const MALFORMED: Malformed = Malformed { number: 0 };
 
-// The words that are left.
+/// The words that are left.
 #[derive(Clone, Copy)]
 pub struct Words<'a> {
     rest: &'a [u8],
@@ -40,24 +42,26 @@ fn ends_word(byte: u8) -> bool
 }
 
 impl<'a> Words<'a> {
+    /// All words of a text.
     pub fn new(text: &'a [u8]) -> Self
         ensures { result.rest.now ≡ text.now }
     {
         Words { rest: text }
     }
 
+    /// Whether no word is left.
     pub fn is_empty(&self) -> bool
         ensures { result ≡ nat_eq (length self.now.rest.now) 0 }
     {
         self.rest.is_empty()
     }
 
-    // The next n bytes, as a word.
+    /// The next n bytes, as a word.
     pub fn bytes(&mut self, n: usize) -> Result<&'a [u8], Malformed>
         ensures length { IfOk result (λ word. length word.now ≡ n) }
         ensures word { IfOk result (λ word. word.now ≡ take n self.old.rest.now) }
         ensures rest { OnOk result (self.new.rest.now ≡ drop (n + 1) self.old.rest.now) }
-        ensures ended { OnOk result (ends_word (get_or self.old.rest.now n 0) ≡ true) }
+        ensures ended { OnOk result (ends_word (slice_index_or self.old.rest.now n 0) ≡ true) }
         ensures err { OnErr result (self.new.rest.now ≡ self.old.rest.now) }
     {
         let rest = self.rest;
@@ -79,7 +83,7 @@ impl<'a> Words<'a> {
         }
     }
 
-    // A decimal number of at most `most`.
+    /// The next word, a decimal number of at most `most`.
     pub fn number(&mut self, most: u32) -> Result<u32, Malformed>
         ensures most { IfOk result (λ n. n ≤ most) }
         ensures ok { IfOk result (λ n. ReadsNumber self.old.rest.now self.new.rest.now n) }
@@ -107,9 +111,10 @@ impl<'a> Words<'a> {
         Err(MALFORMED)
     }
 
-    // A number that is 0 or 1.
+    /// The next word, 0 or 1.
     pub fn flag(&mut self) -> Result<bool, Malformed>
-        ensures ok { IfOk result (λ set. ReadsNumber self.old.rest.now self.new.rest.now (cond set 1 0)) }
+        ensures ok { IfOk result (λ set.
+            ReadsNumber self.old.rest.now self.new.rest.now (if set then 1 else 0)) }
         ensures err { OnErr result (self.new.rest.now ≡ self.old.rest.now) }
         ensures follows { Follows self.old.rest.now self.new.rest.now }
     {
@@ -133,7 +138,7 @@ impl<'a> Words<'a> {
         Ok(bits << (4 * (16 - word.len())))
     }
 
-    // The float of the next bits; those of a not-a-number all give the same one.
+    /// The float of the next bits; those of a not-a-number all give the same one.
     pub fn float(&mut self) -> Result<f64, Malformed>
         ensures ok { IfOk result (λ x. ReadsFloat self.old.rest.now self.new.rest.now x) }
         ensures follows { Follows self.old.rest.now self.new.rest.now }

@@ -159,10 +159,12 @@ module _ (m : ℕ) where
               let k : c < length d = omega (arith, long, sequence_size m i h) in
               (k, rw a.tallies_are (omega (arith, done, tally_most m (take i (sequences_of m)) c (omega (arith, long)))))
 
-      pub letters_fit : i < 390625 → IfSome o (λ c. (c < length d) × (get_or d c 0 < 4294967295))
-      letters_fit few =
-          some_weaker o (λ c. (c < length d) × (get_or d c 0 ≤ i)) (λ c. (c < length d) × (get_or d c 0 < 4294967295))
-          (λ c k. (k.0, omega arith)) letters_inside
+      pub letters_fit : IfSome o (λ c. c < length d)
+      letters_fit = some_weaker o (λ c. (c < length d) × (get_or d c 0 ≤ i)) (λ c. c < length d) (λ c k. k.0) letters_inside
+
+      pub tally_fits : i < 390625 → IfSome o (λ c. get_or d c 0 < 4294967295)
+      tally_fits few =
+          some_weaker o (λ c. (c < length d) × (get_or d c 0 ≤ i)) (λ c. get_or d c 0 < 4294967295) (λ c k. omega (arith, k.1)) letters_inside
 
       pub refused_small : refused + one_if_refused o ≤ i + 1
       refused_small = omega (arith, done, count_most is_refused (take i (sequences_of m)), a.refused_are, one o)

@@ -2,7 +2,7 @@
 
 #![tactic(auto)]
 
-ghost use Rattle.std.specs.Prelude.{◌≡◌, IsTrue, not, [], ◌+◌, ◌^◌, ◌≤◌, ◌<◌, length, get_or, IfOk, OnOk, OnErr, IfSome};
+ghost use Rattle.std.specs.Prelude.{◌≡◌, IsTrue, not, [], ◌+◌, ◌^◌, ◌≤◌, ◌<◌, length, slice_index_or, IfOk, OnOk, OnErr, IfSome};
 ghost use Rattle.intervals.specs.Interval.{Canonical, Wrote, covered_in};
 ghost use Rattle.short_sequences.specs.Sequences.{sequences_of, has_sequence};
 ghost use Rattle.short_sequences.specs.Tallies.{short_options, refusal_of, mask_of, tallies_over, tallies_of, refused_of, refusal};
@@ -15,19 +15,22 @@ use checks::{Refusal, below_sum};
 use intervals::Interval;
 use longdust::{LongdustOptions, Tables};
 
-// The most letters, and room for what their runs need.
+/// The most letters of a sequence.
 pub const MOST_LETTERS: usize = 8;
 
+// Room for what the runs over so many letters need.
 const LN_ROOM: usize = 9;
 
 const F_ROOM: usize = 10;
 
 const LIST_ROOM: usize = 4;
 
-/// How many sequences there are, and how many of them are refused.
+/// What was tallied.
 #[derive(Clone, Copy)]
 pub struct Tallied {
+    /// How many sequences there are: 5^m.
     pub sequences: usize,
+    /// How many of them are refused.
     pub refused: u32,
 }
 
@@ -54,11 +57,10 @@ fn count_sequences(m: usize) -> usize
 }
 
 // Fills the slice with the sequence of that index among all of its size: the index in base five.
-// The bound on the letters is asked here and below and is of no type: they are a slice, which `longdust` takes as it is.
 fn write_letters(index: usize, letters: &mut [u8])
     requires letters_len_bound { length letters.old ≤ 8 }
     requires index_bound { index < 5 ^ length letters.old }
-    ensures { letters.new ≡ get_or (sequences_of (length letters.old)) index [] }
+    ensures { letters.new ≡ slice_index_or (sequences_of (length letters.old)) index [] }
 {
     let mut share = count_sequences(letters.len());
     let mut rest = index;
@@ -74,7 +76,8 @@ fn write_letters(index: usize, letters: &mut [u8])
 /// Returns whether there is one, m being 1 to 8 and `letters` having room for it; if not, nothing is written.
 pub fn nth_sequence(m: usize, index: usize, letters: &mut [u8]) -> bool
     ensures answer { result ≡ has_sequence m index (length letters.old) }
-    ensures sequence { IsTrue result → letters.new ≡ put (get_or (sequences_of m) index []) letters.old }
+    ensures sequence { IsTrue result
+        → letters.new ≡ put (slice_index_or (sequences_of m) index []) letters.old }
     ensures same { IsTrue (not result) → letters.new ≡ letters.old }
 {
     if (m < 1) | (MOST_LETTERS < m) | (letters.len() < m) {
@@ -124,7 +127,6 @@ fn count_letters(list: &[Interval], n: usize) -> usize
 }
 
 // How many letters the run masks; none if the letters are refused.
-// A `match`: with `ok`, its two cases would be told apart again in the proof.
 fn run_letters(letters: &[u8], tables: &Tables) -> Option<usize>
     requires letters_len_bound { length letters.now ≤ 8 }
     requires filled { Filled tables.now.ln.now tables.now.f.now }
@@ -140,7 +142,8 @@ fn run_letters(letters: &[u8], tables: &Tables) -> Option<usize>
 // ---- All runs of a size.
 // Counts an outcome under its letters; a refused one is not, and 1 is returned for it.
 fn count_outcome(outcome: Option<usize>, tallies: &mut [u32]) -> u32
-    requires { IfSome outcome (λ letters. (letters < length tallies.old) × (get_or tallies.old letters 0 < 4294967295)) }
+    requires inside { IfSome outcome (λ letters. letters < length tallies.old) }
+    requires room { IfSome outcome (λ letters. slice_index_or tallies.old letters 0 < 4294967295) }
     ensures value { result ≡ one_if_refused outcome }
     ensures tallies_after { tallies.new ≡ counted outcome tallies.old }
 {
@@ -158,7 +161,7 @@ fn run_index(index: usize, letters: &mut [u8], tables: &Tables) -> Option<usize>
     requires letters_len_bound { length letters.old ≤ 8 }
     requires index_bound { index < 5 ^ length letters.old }
     requires filled { Filled tables.now.ln.now tables.now.f.now }
-    ensures { result ≡ outcome_of (get_or (sequences_of (length letters.old)) index []) }
+    ensures { result ≡ outcome_of (slice_index_or (sequences_of (length letters.old)) index []) }
 {
     write_letters(index, letters);
     run_letters(letters, tables)
@@ -183,7 +186,8 @@ fn tally_all(sequences: usize, letters: &mut [u8], tables: &Tables, tallies: &mu
 
 // The tallies in a slice of m + 1 entries; answers how many sequences are refused.
 fn tally(m: usize, sequences: usize, tallies: &mut [u32]) -> u32
-    requires m_bound { (m ≤ 8) × (sequences ≡ 5 ^ m) }
+    requires m_bound { m ≤ 8 }
+    requires sequences_value { sequences ≡ 5 ^ m }
     requires tallies_len { length tallies.old ≡ m + 1 }
     ensures value { result ≡ refused_of m }
     ensures tallies_after { tallies.new ≡ tallies_of m }
@@ -210,11 +214,15 @@ fn check(m: usize, tallies: &[u32]) -> Result<(), Refusal>
     Ok(())
 }
 
-/// Fills the front of `tallies`: entry c is how many sequences of m letters over A C G T N lead to c masked letters.
+/// Fills the front of `tallies`, m + 1 entries: entry c is how many sequences of m letters over A C G T N lead to c masked letters.
+/// m is 1 to 8, else refusal 22; with too few entries 11.
 pub fn short_sequences(m: usize, tallies: &mut [u32]) -> Result<Tallied, Refusal>
-    ensures tallied { IfOk result (λ tallied. (tallied.sequences ≡ 5 ^ m) × (tallied.refused ≡ refused_of m)) }
-    ensures sequences { count_by (λ (t : Tallied). t.sequences) result ≡ count_unless (refusal m tallies.old) (5 ^ m) }
-    ensures refused { count_by (λ (t : Tallied). t.refused) result ≡ count_unless (refusal m tallies.old) (refused_of m) }
+    ensures all_counted { IfOk result (λ tallied. tallied.sequences ≡ 5 ^ m) }
+    ensures refused_counted { IfOk result (λ tallied. tallied.refused ≡ refused_of m) }
+    ensures sequences { count_by (λ (t : Tallied). t.sequences) result
+        ≡ count_unless (refusal m tallies.old) (5 ^ m) }
+    ensures refused { count_by (λ (t : Tallied). t.refused) result
+        ≡ count_unless (refusal m tallies.old) (refused_of m) }
     ensures few { IfOk result (λ tallied. tallied.sequences ≤ 390625) }
     ensures tallies { OnOk result (tallies.new ≡ put (tallies_of m) tallies.old) }
     ensures refusal { number_of result ≡ refusal m tallies.old }

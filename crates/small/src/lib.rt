@@ -2,7 +2,7 @@
 
 #![tactic(auto)]
 
-ghost use Rattle.std.specs.Prelude.{◌≡◌, ◌*◌, ◌≤◌, ◌<◌, ltb, length, IfOk, OnOk, OnErr};
+ghost use Rattle.std.specs.Prelude.{◌≡◌, ◌*◌, ◌≤◌, ◌<◌, nat_lt, length, IfOk, OnOk, OnErr};
 ghost use Rattle.buffers.specs.Fill.{put};
 ghost use Rattle.checks.specs.Tests.{most_intervals};
 ghost use Rattle.small.specs.Profile.{not_uniform, outside, refusal};
@@ -18,13 +18,16 @@ use intervals::Interval;
 use longdust::{LongdustOptions, Tables};
 use tables::GcOption;
 
-// The profile's bounds, and the most intervals that its letters can have.
+/// The largest k-mer length of the profile, in letters.
 pub const MOST_KMER: usize = 6;
 
+/// The largest window of the profile, in letters.
 pub const MOST_WINDOW: usize = 4096;
 
+/// The most letters of the profile.
 pub const MOST_LETTERS: usize = 4096;
 
+// The most intervals that so many letters can have.
 const LIST_ROOM: usize = 2048;
 
 // ---- The checks.
@@ -49,7 +52,7 @@ fn outside(options: LongdustOptions, n: usize) -> bool
 
 // Whether an output of so many bytes is too short for R intervals.
 fn below_bytes(room: usize, n: usize, k: usize) -> bool
-    ensures { result ≡ ltb room (8 * most_intervals n k) }
+    ensures { result ≡ nat_lt room (8 * most_intervals n k) }
 {
     checks::below_intervals(room / 8, n, k)
 }
@@ -79,7 +82,7 @@ fn check(sequence: &[u8], options: LongdustOptions, room: usize) -> Result<(), R
 }
 
 // ---- The bytes.
-// Writes start and end, four bytes each, lowest first: a list's entry is two numbers, and no method writes both.
+// Writes start and end, four bytes each, lowest first.
 fn write_pair(interval: Interval, out: &mut [u8])
     requires { length out.old ≡ 8 }
     ensures { out.new ≡ pair_bytes interval }
@@ -104,7 +107,8 @@ fn write_list(list: &[Interval], out: &mut [u8])
 #[tactic(auto, using(crate::proofs::Filling::filled))]
 fn fill_read(letters: &[u8], options: LongdustOptions, ln: &mut [f64], f: &mut [f64])
     requires asked { Asked options letters.now }
-    requires ln_len { (length ln.old ≡ 4097) × (length f.old ≡ 4098) }
+    requires ln_len { length ln.old ≡ 4097 }
+    requires f_len { length f.old ≡ 4098 }
     ensures { Serve options letters.now ln.new f.new }
 {
     let n = letters.len();
@@ -136,8 +140,9 @@ fn mask_letters(letters: &[u8], options: LongdustOptions, list: &mut [Interval])
     ).unwrap_or(0)
 }
 
-/// Writes the mask of the sequence to the front of `out`, each interval as its start and its end, four bytes each, lowest first.
-/// Returns the number of intervals written.
+/// Writes the mask of the sequence to the front of `out`, each interval as its start and its end, four bytes each, lowest first:
+/// 8 (n + 1) / (k + 1) bytes suffice. Returns the number of intervals written.
+/// Refusals: 1 to 6, 8, 9, 13; 21 for a request outside the profile, with GC that is not uniform too; 11.
 pub fn write_mask(
     sequence: &[u8],
     options: LongdustOptions,
@@ -145,9 +150,11 @@ pub fn write_mask(
 ) -> Result<usize, Refusal>
     ensures count { IfOk result (λ count. count ≡ length (filled_mask options sequence.now)) }
     ensures values { count_of result
-        ≡ count_unless (refusal options sequence.now (length out.old)) (length (filled_mask options sequence.now)) }
+        ≡ count_unless (refusal options sequence.now (length out.old))
+        (length (filled_mask options sequence.now)) }
     ensures few { IfOk result (λ count. count ≤ 2048) }
-    ensures bytes { OnOk result (out.new ≡ put (bytes_of (filled_mask options sequence.now)) out.old) }
+    ensures bytes { OnOk result
+        (out.new ≡ put (bytes_of (filled_mask options sequence.now)) out.old) }
     ensures refusal { number_of result ≡ refusal options sequence.now (length out.old) }
     ensures err { OnErr result (out.new ≡ out.old) }
 {

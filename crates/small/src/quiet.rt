@@ -11,7 +11,10 @@ use longdust::LongdustOptions;
 
 // Whether a k-mer stands at `least` places of a strand.
 fn repeats(codes: &[u8], k: usize, least: u16) -> bool
-    requires { (k ≤ 12) × (4 ^ k ≤ 4096) × (length codes.now ≤ 4096) × (0 < least) }
+    requires k_bound { k ≤ 12 }
+    requires kmers_bound { 4 ^ k ≤ 4096 }
+    requires few { length codes.now ≤ 4096 }
+    requires least_bound { 0 < least }
     ensures { result ≡ false → Few least (places k codes.now) }
 {
     let mut counts = [0u16; 4096];
@@ -26,7 +29,7 @@ fn repeats(codes: &[u8], k: usize, least: u16) -> bool
     false
 }
 
-// Whether no letter of a strand that is scanned is searched from.
+/// Whether no letter of a strand that is scanned is searched from; then there is no mask.
 #[tactic(auto, using(crate::proofs::Repeating::quiet))]
 pub fn is_quiet(sequence: &[u8], options: LongdustOptions) -> bool
     requires { Asked options sequence.now }

@@ -22,23 +22,32 @@ use crate::scores::{Reading, gap_of};
 use checks::Refusal;
 use letters::{encode_sequence, n_kmers};
 
-// What is asked: of a sequence, the stretches of a window's places up to `place`, `budget` of them at most, by k, T and the tables.
+/// Which stretches are read, and by what they are scored.
 #[derive(Clone, Copy)]
 pub struct Request<'a> {
+    /// The letters.
     pub sequence: &'a [u8],
+    /// k, 1 to 12.
     pub kmer: usize,
+    /// The most places that a stretch has.
     pub window_size: usize,
+    /// The last place of all stretches.
     pub place: usize,
+    /// How many stretches are read at most, 1 or more.
     pub budget: usize,
     pub scoring: Scoring<'a>,
 }
 
-/// The first place of the best stretch read, its score, the steps made, and the gap.
+/// The best stretch of those read.
 #[derive(Clone, Copy)]
 pub struct Strongest {
+    /// Its first place.
     pub start: usize,
+    /// Its score in units of 2^-32.
     pub score: i64,
+    /// How many stretches were read.
     pub steps: usize,
+    /// By how much one that was not read can score more, in units of 2^-32.
     pub gap: u64,
 }
 
@@ -50,11 +59,17 @@ fn read_places(
     codes: &mut [u8],
     scan_counts: &mut [u16],
 ) -> Reading
-    requires kmer_nonzero { (0 < request.now.kmer) × (request.now.kmer ≤ 12) × (0 < steps) × (steps ≤ end) × (steps ≤ 65535)
-        × (end ≤ length request.now.sequence.now) × (length request.now.sequence.now ≤ length codes.old)
-        × (4 ^ request.now.kmer ≤ length scan_counts.old) }
-    requires narrow { Narrow request.now.scoring.threshold request.now.scoring.ln.now request.now.scoring.f.now steps }
-    ensures { ReadsPlaces request.now.sequence.now request.now.kmer end steps request.now.scoring.threshold request.now.scoring.ln.now request.now.scoring.f.now result
+    requires kmer_nonzero { 0 < request.now.kmer }
+    requires kmer_small { request.now.kmer ≤ 12 }
+    requires some_steps { 0 < steps }
+    requires steps_inside { steps ≤ end }
+    requires steps_small { steps ≤ 65535 }
+    requires end_inside { end ≤ length request.now.sequence.now }
+    requires codes_room { length request.now.sequence.now ≤ length codes.old }
+    requires counts_room { 4 ^ request.now.kmer ≤ length scan_counts.old }
+    requires narrow { let s = request.now.scoring in Narrow s.threshold s.ln.now s.f.now steps }
+    ensures { let r = request.now in let s = r.scoring in
+        ReadsPlaces r.sequence.now r.kmer end steps s.threshold s.ln.now s.f.now result
         codes.old codes.new scan_counts.old scan_counts.new }
 {
     let kmer = request.kmer;
@@ -69,18 +84,22 @@ fn read_places(
     places.search_back(&request.scoring, &mut scan_counts[..size])
 }
 
-/// Of the stretches up to `place`, at most `budget` of them, the best one, and by how much those unread can be better.
-/// T, tables, score and gap are in units of 2^-32. `codes` and `scan_counts` are work space: n bytes and 4^k counts, whatever they hold.
+/// Of the stretches that end at `place` the best one, and by how much those unread can score more: at most `budget` are read, the shortest first.
+/// `codes` and `scan_counts` are work space: n bytes and 4^k counts, whatever they hold. Refusals: 1 to 5, 10, 11, 13, 18, 19, 20.
 pub fn strongest_stretch(
     request: &Request,
     codes: &mut [u8],
     scan_counts: &mut [u16],
 ) -> Result<Strongest, Refusal>
-    ensures found { IfOk result (Found (asked_of request.now) codes.old codes.new scan_counts.old scan_counts.new) }
-    ensures refusal { number_of result ≡ refusal (asked_of request.now) (length codes.old) (length scan_counts.old) }
+    ensures found { IfOk result
+        (Found (asked_of request.now) codes.old codes.new scan_counts.old scan_counts.new) }
+    ensures refusal { number_of result
+        ≡ refusal (asked_of request.now) (length codes.old) (length scan_counts.old) }
     ensures values { count_by (λ (s : Strongest). s.steps) result
-        ≡ count_unless (refusal (asked_of request.now) (length codes.old) (length scan_counts.old)) (steps (asked_of request.now)) }
-    ensures err { OnErr result ((codes.new ≡ codes.old) × (scan_counts.new ≡ scan_counts.old)) }
+        ≡ count_unless (refusal (asked_of request.now) (length codes.old) (length scan_counts.old))
+        (steps (asked_of request.now)) }
+    ensures same_codes { OnErr result (codes.new ≡ codes.old) }
+    ensures same_counts { OnErr result (scan_counts.new ≡ scan_counts.old) }
 {
     check(request, codes.len(), scan_counts.len())?;
     let end = request.place + 1;

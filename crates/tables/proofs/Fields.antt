@@ -139,7 +139,7 @@ at_suc (suc x) t p h =
     ∙ ap₂ (λ (a k : ℕ). odd 53 false a k 1074) (let e : 4503599627370496 + t ≡ t + 4503599627370496 = omega arith in e) (let e : x ≡ suc x - 1 = omega arith in e)
 
 -- ---- a float above zero and below infinity, by its bits as the code masks them
-module _ (x : Float) (float : fits binary64 x ≡ true) (positive : T (lt zero64 x)) (finite : T (lt x infinity)) where
+module _ (x : Float) (float : fits binary64 x ≡ true) (positive : lt zero64 x ≡ true) (finite : lt x infinity ≡ true) where
   abbrev b : ℕ
   b = to_bits binary64 x
 
@@ -147,7 +147,7 @@ module _ (x : Float) (float : fits binary64 x ≡ true) (positive : T (lt zero64
   back = of_bits-to_bits binary64 x (subst T (sym float) tt)
 
   parts : Fields b
-  parts = fields b (rw back positive) (rw back finite)
+  parts = fields b (rw back (subst T (sym positive) tt)) (rw back (subst T (sym finite) tt))
 
   pub digits_some : bit_and (to_bits binary64 x / 4503599627370496) 2047 ≡ 0 → 0 < bit_and (to_bits binary64 x) 4503599627370495
   digits_some e = rw (digits b) (parts.some (sym (field b) ∙ e))

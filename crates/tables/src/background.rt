@@ -66,7 +66,7 @@ fn calculate_f_gc(k: usize, gc: f64) -> Density
     }
 }
 
-// The classes for a GC choice.
+/// The classes of k-mers for a GC choice; the codes count for GC auto alone.
 #[tactic(auto, unfolding(crate::specs::Density::density))]
 pub fn classes(k: usize, gc: GcOption, codes: &[u8]) -> Density
     requires { k ≤ 12 }

@@ -9,9 +9,10 @@ ghost use Rattle.tables.specs.Tables.{ln_table};
 use crate::exponential::exp_neg;
 use crate::{Density, logarithm};
 
-// ln n for n = 0 .. w, in w + 1 entries.
+/// ln n for n = 0 .. w, filled.
 #[derive(Clone, Copy)]
 pub struct LnTable<'a> {
+    /// w + 1 entries.
     pub entries: &'a [f64],
     ghost filled: { entries.now ≡ ln_table (length entries.now - 1) },
 }
@@ -77,10 +78,11 @@ fn f_class(lambda: f64, ln: LnTable) -> f64
     }
 }
 
-// f at the length l.
+/// f at length l, in places: the score that so many places have by chance, over the classes of k-mers. 0.0 for l = 0.
 #[tactic(auto, using(crate::proofs::Terms::of_classes))]
 pub fn calculate_f_internal(k: usize, l: u32, d: Density, ln: LnTable) -> f64
-    requires { (k ≤ 12) × (d.classes ≤ 13) }
+    requires k_bound { k ≤ 12 }
+    requires classes_bound { d.classes ≤ 13 }
     ensures { result ≡ f_of k d l }
 {
     if l == 0 {

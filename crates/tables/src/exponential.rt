@@ -15,6 +15,7 @@ fn times(n: usize, b: f64, x: f64) -> f64
     y
 }
 
+/// base to the power n, by n multiplications from 1.0, as the specification's powi.
 #[tactic(auto, unfolding(crate::specs::Exp::powi))]
 pub fn powi(base: f64, n: usize) -> f64
     ensures { result ≡ powi base n }
@@ -33,14 +34,13 @@ fn series(v: f64) -> f64
     h
 }
 
-// exp(-v).
+/// exp(-v) by the specification's formula, for 0 <= v < 30; for another v what the formula gives.
 #[tactic(auto, using(crate::proofs::ExpLoop::exp_loop), unfolding(crate::specs::Exp::exp_neg))]
 pub fn exp_neg(v: f64) -> f64
     ensures { result ≡ exp_neg v }
 {
     let mut rest = v;
     let mut a: usize = 0;
-    // Two tests end the loop, and what it counted is used after it.
     while (a < 30) & (rest >= 1.0) {
         rest -= 1.0;
         a += 1;

@@ -17,27 +17,33 @@ mod logarithm;
 pub use background::classes;
 use expected::LnTable;
 
-// The GC choice: the share of C and G among the letters, from which each k-mer's expected number follows.
+/// The share of C and G among the letters, from which each k-mer's expected number follows.
 #[derive(Clone, Copy)]
 pub enum GcOption {
+    /// Half: all k-mers are expected equally often.
     Uniform,
+    /// This share, 0 to 1; else refusal 7.
     Fixed(f64),
+    /// The letters' own share.
     Auto,
 }
 
-// Classes of k-mers: how much more often than 1 in 4^k a k-mer of the class is expected, and how
-// many k-mers the class has. Entries from `classes` on are 0. Two arrays of thirteen, as the specification has the record.
+/// Classes of k-mers. Entries from `classes` on are 0.
 #[derive(Clone, Copy)]
 pub struct Density {
+    /// How much more often than 1 in 4^k a k-mer of the class is expected.
     pub ratio: [f64; 13],
+    /// How many k-mers the class has.
     pub count: [f64; 13],
+    /// How many classes there are, at most 13.
     pub classes: usize,
 }
 
-// ln n for n = 0 .. w, each entry from 1 on within 2^-45 of the true logarithm.
+/// Writes ln n for n = 0 .. w to the front of `ln`, w + 1 entries. From 1 on each is within 2^-45 of the true logarithm.
 #[tactic(auto, using(crate::proofs::Tables::ln_filled))]
 pub fn fill_ln(ln: &mut [f64], w: usize)
-    requires { (w ≤ 65535) × (w + 1 ≤ length ln.old) }
+    requires w_bound { w ≤ 65535 }
+    requires ln_room { w + 1 ≤ length ln.old }
     ensures ln_after { ln.new ≡ put (ln_table w) ln.old }
     ensures within { EntriesWithin w ln.new }
 {
@@ -46,11 +52,14 @@ pub fn fill_ln(ln: &mut [f64], w: usize)
     }
 }
 
-// f l for l = 0 .. w + 1, ln being filled up to w.
+/// Writes f of l places for l = 0 .. w + 1 to the front of `f`, w + 2 entries, by the classes; `ln` is filled up to w.
 #[tactic(auto, using(crate::proofs::Tables::f_filled))]
 pub fn fill_f(f: &mut [f64], ln: &[f64], k: usize, w: usize, d: Density)
-    requires k_bound { (k ≤ 12) × (w ≤ 65535) × (d.classes ≤ 13) }
-    requires w_in_bounds { (w + 2 ≤ length f.old) × (take (w + 1) ln.now ≡ ln_table w) }
+    requires k_bound { k ≤ 12 }
+    requires w_bound { w ≤ 65535 }
+    requires classes_bound { d.classes ≤ 13 }
+    requires f_room { w + 2 ≤ length f.old }
+    requires ln_filled { take (w + 1) ln.now ≡ ln_table w }
     ensures { f.new ≡ put (f_table k w d) f.old }
 {
     let ln = LnTable {
@@ -61,11 +70,13 @@ pub fn fill_f(f: &mut [f64], ln: &[f64], k: usize, w: usize, d: Density)
     }
 }
 
-// Both tables, with the classes of a GC choice.
+/// Fills both tables for a GC choice: w + 1 entries of `ln`, w + 2 of `f`. The codes count for GC auto alone.
 #[tactic(auto, using(crate::proofs::Tables::filled))]
 pub fn fill_tables(ln: &mut [f64], f: &mut [f64], k: usize, w: usize, gc: GcOption, codes: &[u8])
-    requires k_bound { (k ≤ 12) × (w ≤ 65535) }
-    requires w_in_bounds { (w + 1 ≤ length ln.old) × (w + 2 ≤ length f.old) }
+    requires k_bound { k ≤ 12 }
+    requires w_bound { w ≤ 65535 }
+    requires ln_room { w + 1 ≤ length ln.old }
+    requires f_room { w + 2 ≤ length f.old }
     ensures ln_after { ln.new ≡ put (ln_table w) ln.old }
     ensures f_after { f.new ≡ put (f_table k w (density k gc codes.now)) f.old }
 {
@@ -73,11 +84,13 @@ pub fn fill_tables(ln: &mut [f64], f: &mut [f64], k: usize, w: usize, gc: GcOpti
     fill_f(f, ln, k, w, classes(k, gc, codes));
 }
 
-// Both tables for uniform GC, whose one class no letter changes.
+/// Fills both tables for uniform GC, whose one class no letter changes.
 #[tactic(auto, unfolding(crate::specs::Density::density))]
 pub fn fill_uniform(ln: &mut [f64], f: &mut [f64], k: usize, w: usize)
-    requires k_bound { (k ≤ 12) × (w ≤ 65535) }
-    requires w_in_bounds { (w + 1 ≤ length ln.old) × (w + 2 ≤ length f.old) }
+    requires k_bound { k ≤ 12 }
+    requires w_bound { w ≤ 65535 }
+    requires ln_room { w + 1 ≤ length ln.old }
+    requires f_room { w + 2 ≤ length f.old }
     ensures ln_after { ln.new ≡ put (ln_table w) ln.old }
     ensures f_after { f.new ≡ put (f_table k w (uniform k)) f.old }
 {

@@ -1,6 +1,6 @@
 // ln of any float, from its bits.
 
-ghost use Rattle.std.specs.Prelude.{◌≡◌, ◌^◌, ◌<◌, false, T};
+ghost use Rattle.std.specs.Prelude.{◌≡◌, ◌^◌, ◌<◌, false, IsTrue};
 ghost use Rattle.std.specs.Float.{binary64};
 ghost use Rattle.std.specs.Float.Ieee.{lt, minus, odd, of_int};
 ghost use Rattle.floats.specs.Binary64.{zero64};
@@ -54,7 +54,9 @@ fn ln_scaled(m: f64, a: u32, b: u32) -> f64
 // ln of q * 2^k times the smallest float above 0, which is 2^-1074.
 #[tactic(auto, using(crate::proofs::Significand::of_digits))]
 fn ln_digits(q: u64, k: u32) -> f64
-    requires { (0 < q) × (q < 2 ^ 53) × (k < 2046) }
+    requires some { 0 < q }
+    requires q_bound { q < 2 ^ 53 }
+    requires k_bound { k < 2046 }
     ensures { result ≡ ln_of (odd 53 false q k 1074) }
 {
     let z = u64::leading_zeros(q) - 11;
@@ -65,8 +67,8 @@ fn ln_digits(q: u64, k: u32) -> f64
 // ln of a finite float above 0.
 #[tactic(auto, using(crate::proofs::Fields::by_bits))]
 fn ln_finite(x: f64) -> f64
-    requires positive { T (lt zero64 x) }
-    requires finite { T (lt x infinity) }
+    requires positive { IsTrue (lt zero64 x) }
+    requires finite { IsTrue (lt x infinity) }
     ensures { result ≡ ln_of x }
 {
     let b = x.to_bits();
@@ -79,6 +81,7 @@ fn ln_finite(x: f64) -> f64
     }
 }
 
+/// ln x by the specification's formula: minus infinity for zeros, infinity for infinity, else not-a-number for what is not above 0.
 #[tactic(auto, using(crate::proofs::LnCases::cases))]
 pub fn ln(x: f64) -> f64
     ensures { result ≡ ln_of x }

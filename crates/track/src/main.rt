@@ -13,12 +13,12 @@ use std::io::{ErrorKind, Read, Result};
 
 const BLOCK: usize = 65536;
 
-// Reads until the reader ends or there is no more room; the text holds then the letters of the bytes that left the reader. A loop has
-// to be shown to end: this one would after 2^64 - 1 reads.
-// A loop of its own: `contigs` and `replay` keep all bytes.
+// Reads until the reader ends or there is no more room; the text then holds the letters of the bytes that left the reader.
+// The loop has to be shown to end: it would after 2^64 - 1 reads.
 fn read_letters<R: Read>(reader: &mut R, letters: &mut Text) -> Result<()>
     requires { length letters.old.bytes.now ≡ letters_room }
-    ensures held { OnOk result ((bytes : List ℕ) × Consumes (R.remaining reader.old) (R.remaining reader.new) bytes
+    ensures held { OnOk result ((bytes : List ℕ)
+        × Consumes (R.remaining reader.old) (R.remaining reader.new) bytes
         × Held bytes letters.new.bytes.now letters.new.len) }
     ensures room { OnOk result (length letters.new.bytes.now ≡ letters_room) }
 {

@@ -12,7 +12,7 @@ returns-then-i-forward c =
     reverse_only c.args.forward.now c.args.reverse.now c.if-i-forward.true (omega arith) (omega arith) c.pick_reverse.ensures
 
 pub overflow_sub-n : goal.overflow_sub-n
-overflow_sub-n c = (inside_at c.args.n c.args.reverse.now (c.args.j - 1) c.requires.inside.0 (omega arith)).1
+overflow_sub-n c = (inside_at c.args.n c.args.reverse.now (c.args.j - 1) c.requires.inside (omega arith)).1
 
 pub returns-then-forward-i : goal.returns-then-forward-i
 returns-then-forward-i c =

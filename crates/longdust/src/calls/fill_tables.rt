@@ -48,7 +48,7 @@ fn check(
 
 /// Fills `ln` and `f` for the options' k, w, threshold and GC, as `process` does; the other options are not read.
 /// The letters count where GC is their own share, else any will do, and none. They are not checked.
-/// Returns the flag.
+/// Returns the flag, or refusal 1, 4, 5, 6, 7 or 11.
 pub fn fill_tables(
     sequence: &[u8],
     options: LongdustOptions,
@@ -57,15 +57,20 @@ pub fn fill_tables(
     codes: &mut [u8],
 ) -> Result<bool, Refusal>
     ensures refusal { number_of result
-        ≡ filling_refusal options (length sequence.now) (length ln.old) (length f.old) (length codes.old) }
+        ≡ filling_refusal options (length sequence.now)
+        (length ln.old) (length f.old) (length codes.old) }
     ensures flag { flag_by (λ flag. flag) result
-        ≡ flag_unless (filling_refusal options (length sequence.now) (length ln.old) (length f.old) (length codes.old))
+        ≡ flag_unless
+        (filling_refusal options (length sequence.now)
+        (length ln.old) (length f.old) (length codes.old))
         (in_range (setup options (ln_filled options) (f_filled options sequence.now))) }
     ensures ln { OnOk result (ln.new ≡ put (ln_filled options) ln.old) }
     ensures within { OnOk result (EntriesWithin options.window_size ln.new) }
     ensures f { OnOk result (f.new ≡ put (f_filled options sequence.now) f.old) }
     ensures codes { OnOk result (Free (length sequence.now) codes.old codes.new) }
-    ensures err { OnErr result ((ln.new ≡ ln.old) × (f.new ≡ f.old) × (codes.new ≡ codes.old)) }
+    ensures same_ln { OnErr result (ln.new ≡ ln.old) }
+    ensures same_f { OnErr result (f.new ≡ f.old) }
+    ensures same_codes { OnErr result (codes.new ≡ codes.old) }
 {
     let w = options.window_size;
     check(options, sequence.len(), ln.len(), f.len(), codes.len())?;

@@ -38,7 +38,8 @@ fn check(
 }
 
 /// Joins the lists of both strands of n letters, each in its own positions, into the mask and its marks.
-/// Returns the number of intervals. With no interval in `reverse` it is the mask of a forward-only request.
+/// `out` has as many entries as both lists together, or more. Returns the number of intervals, or refusal 10, 16 or 11.
+/// With no interval in `reverse` it is the mask of a forward-only request.
 pub fn merge_strands(
     forward: &[Interval],
     reverse: &[Interval],
@@ -46,13 +47,19 @@ pub fn merge_strands(
     out: &mut MarksOut,
 ) -> Result<usize, Refusal>
     ensures refusal { number_of result
-        ≡ merging_refusal n forward.now reverse.now (length out.old.list.now) (length out.old.marks.now) }
+        ≡ merging_refusal n forward.now reverse.now
+        (length out.old.list.now) (length out.old.marks.now) }
     ensures count { count_of result
-        ≡ count_unless (merging_refusal n forward.now reverse.now (length out.old.list.now) (length out.old.marks.now))
+        ≡ count_unless
+        (merging_refusal n forward.now reverse.now
+        (length out.old.list.now) (length out.old.marks.now))
         (length (strands_merged n forward.now reverse.now)) }
-    ensures list { OnOk result (out.new.list.now ≡ put (ranges (strands_merged n forward.now reverse.now)) out.old.list.now) }
-    ensures marks { OnOk result (out.new.marks.now ≡ put (marks_of (strands_merged n forward.now reverse.now)) out.old.marks.now) }
-    ensures err { OnErr result ((out.new.list.now ≡ out.old.list.now) × (out.new.marks.now ≡ out.old.marks.now)) }
+    ensures list { OnOk result (out.new.list.now
+        ≡ put (ranges (strands_merged n forward.now reverse.now)) out.old.list.now) }
+    ensures marks { OnOk result (out.new.marks.now
+        ≡ put (marks_of (strands_merged n forward.now reverse.now)) out.old.marks.now) }
+    ensures same_list { OnErr result (out.new.list.now ≡ out.old.list.now) }
+    ensures same_marks { OnErr result (out.new.marks.now ≡ out.old.marks.now) }
     ensures same { SameOut out.old out.new }
 {
     check(forward, reverse, n, out.list.len(), out.marks.len())?;

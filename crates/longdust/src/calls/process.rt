@@ -12,7 +12,7 @@ use checks::Refusal;
 use intervals::MarksOut;
 use mask::Workspace;
 
-/// Fills `ln` and `f` for the options and the sequence, and masks by them as `process_tables` does.
+/// Fills `ln` and `f`, w + 1 and w + 2 entries, for the options and the sequence, and masks by them as `process_tables` does.
 pub fn process(
     sequence: &[u8],
     options: LongdustOptions,

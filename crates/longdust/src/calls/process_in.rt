@@ -15,21 +15,28 @@ use scans::ForwardPosition;
 
 /// Masks `letters` by filled tables, in work buffers of its own: W places, K counts, N letters and R intervals.
 /// No request needs more than their bounds below.
-/// The intervals go to the front of the list; returns their number.
+/// The intervals go to the front of the list; returns their number, or a refusal as `process_tables`.
 pub fn process_in<const W: usize, const K: usize, const N: usize, const R: usize>(
     letters: &[u8],
     options: LongdustOptions,
     tables: &Tables,
     list: &mut [Interval],
 ) -> Result<usize, Refusal>
-    requires { (W ≤ 65535) × (K ≤ 16777216) × (N ≤ 2147483647) × (R ≤ 1073741824) }
-    ensures refusal { number_of result ≡ refusal options letters.now
-        (lent_sizes W K N R (length tables.now.ln.now) (length tables.now.f.now) (length list.old)) }
-    ensures values { count_of result ≡ count_unless (refusal options letters.now
-        (lent_sizes W K N R (length tables.now.ln.now) (length tables.now.f.now) (length list.old)))
-        (length (mask_by options letters.now tables.now.ln.now tables.now.f.now)) }
-    ensures list { IfOk result (Wrote (mask_by options letters.now tables.now.ln.now tables.now.f.now) list.old list.new) }
-    ensures shape { OnOk result (Canonical (length letters.now) options.kmer (mask_by options letters.now tables.now.ln.now tables.now.f.now)) }
+    requires w_bound { W ≤ 65535 }
+    requires k_bound { K ≤ 16777216 }
+    requires n_bound { N ≤ 2147483647 }
+    requires r_bound { R ≤ 1073741824 }
+    ensures refusal { let t = tables.now in
+        number_of result ≡ refusal options letters.now
+        (lent_sizes W K N R (length t.ln.now) (length t.f.now) (length list.old)) }
+    ensures values { let t = tables.now in
+        count_of result ≡ count_unless (refusal options letters.now
+        (lent_sizes W K N R (length t.ln.now) (length t.f.now) (length list.old)))
+        (length (mask_by options letters.now t.ln.now t.f.now)) }
+    ensures list { IfOk result
+        (Wrote (mask_by options letters.now tables.now.ln.now tables.now.f.now) list.old list.new) }
+    ensures shape { OnOk result (Canonical (length letters.now) options.kmer
+        (mask_by options letters.now tables.now.ln.now tables.now.f.now)) }
     ensures err { OnErr result (list.new ≡ list.old) }
 {
     let mut queue = [0u32; W];

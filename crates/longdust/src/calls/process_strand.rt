@@ -9,7 +9,7 @@ use checks::Refusal;
 
 /// Masks one strand of `sequence`, its own or its reverse complement, by filled tables.
 /// The strand's intervals go to the front of the list, in its own positions; the answer has their count.
-/// The lists of both strands make the mask by `merge_strands`. `forward_only` is not read.
+/// The lists of both strands make the mask by `merge_strands`. `forward_only` is not read. Refusals as those of `process_tables`.
 pub fn process_strand(
     sequence: &[u8],
     options: LongdustOptions,

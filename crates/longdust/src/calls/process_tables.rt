@@ -13,6 +13,7 @@ use intervals::MarksOut;
 use mask::Workspace;
 
 /// Masks `sequence` by filled tables. The intervals and their marks go to the fronts of `out`; the answer has their count.
+/// A request outside a limit is refused with the first check that fails, 1 to 11 or 13, and no buffer changes.
 pub fn process_tables(
     sequence: &[u8],
     options: LongdustOptions,

@@ -2,7 +2,7 @@ use Rattle.std.proofs.Common.{◌≡◌, refl, ap, ◌∙◌, [], ℕ, ◌^◌, 
 use Rattle.short_sequences.specs.Sequences.{sequences_of}
 use Rattle.short_sequences.specs.Terms.Outcome.{outcome_of}
 use Rattle.short_sequences.proofs.Sequences.{few_sequences}
-use Rattle.short_sequences.proofs.Tallying.{tallying_start, letters_fit, refused_small, tallying_turn, tallying_end}
+use Rattle.short_sequences.proofs.Tallying.{tallying_start, letters_fit, tally_fits, refused_small, tallying_turn, tallying_end}
 use Rattle.short_sequences.proofs.tally_all.Goals as goal
 use Rattle.short_sequences.proofs.tally_all.Goals.{After-run_index-outcome, In-loop-index}
 
@@ -20,10 +20,15 @@ ran c = c.run_index-outcome.ensures ∙ ap (λ (n : ℕ). outcome_of (get_or (se
 pub loop-index-init : goal.loop-index-init
 loop-index-init c = (tallying_start _ _ c.requires.tallies_value, refl)
 
-pub count_outcome-refused-requires : goal.count_outcome-refused-requires
-count_outcome-refused-requires c =
-    let k = goal.at.count_outcome-refused-requires c in
-    letters_fit _ c.loop-index.invariant.0 (below k.In-loop-index) (ran k.After-run_index-outcome) (few k.In-loop-index)
+pub count_outcome-refused-requires-clause-inside : goal.count_outcome-refused-requires-clause-inside
+count_outcome-refused-requires-clause-inside c =
+    let k = goal.at.count_outcome-refused-requires-clause-inside c in
+    letters_fit _ c.loop-index.invariant.0 (below k.In-loop-index) (ran k.After-run_index-outcome)
+
+pub count_outcome-refused-requires-clause-room : goal.count_outcome-refused-requires-clause-room
+count_outcome-refused-requires-clause-room c =
+    let k = goal.at.count_outcome-refused-requires-clause-room c in
+    tally_fits _ c.loop-index.invariant.0 (below k.In-loop-index) (ran k.After-run_index-outcome) (few k.In-loop-index)
 
 pub overflow_add-refused : goal.overflow_add-refused
 overflow_add-refused c =

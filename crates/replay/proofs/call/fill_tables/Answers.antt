@@ -25,14 +25,22 @@ filled : {lent : Bool} {o : LongdustOptions} {s : List ℕ} {ln f ln' f' : List 
 filled cs h e p q = record { ln_is = rw h p; f_is = rw (h, ← e) q }
 
 pub fill_tables-requires-clause-k_bound : goal.fill_tables-requires-clause-k_bound
-fill_tables-requires-clause-k_bound c =
-    let r = room _ _ _ (sym c.fills.ensures ∙ c.if-not-fills.false) in
-    (r.0, omega arith)
+fill_tables-requires-clause-k_bound c = (room _ _ _ (sym c.fills.ensures ∙ c.if-not-fills.false)).0
 
-pub fill_tables-requires-clause-w_in_bounds : goal.fill_tables-requires-clause-w_in_bounds
-fill_tables-requires-clause-w_in_bounds c =
+pub fill_tables-requires-clause-w_bound : goal.fill_tables-requires-clause-w_bound
+fill_tables-requires-clause-w_bound c =
     let r = room _ _ _ (sym c.fills.ensures ∙ c.if-not-fills.false) in
-    (omega arith, omega arith)
+    omega arith
+
+pub fill_tables-requires-clause-ln_room : goal.fill_tables-requires-clause-ln_room
+fill_tables-requires-clause-ln_room c =
+    let r = room _ _ _ (sym c.fills.ensures ∙ c.if-not-fills.false) in
+    omega arith
+
+pub fill_tables-requires-clause-f_room : goal.fill_tables-requires-clause-f_room
+fill_tables-requires-clause-f_room c =
+    let r = room _ _ _ (sym c.fills.ensures ∙ c.if-not-fills.false) in
+    omega arith
 
 pub returns : goal.returns
 returns c =

@@ -6,4 +6,5 @@ use Rattle.strongest.proofs.places.last_entry.Goals as goal
 pub returns : goal.returns
 returns c =
     let g = c.loop-letter in
-    rw c.entry.ensures (last_place c.args.kmer c.args.letters.now g.letter-index g.state g.auto.letter-index-end c.loop-letter-test.false (omega arith) g.invariant)
+    let x = last_place c.args.kmer c.args.letters.now g.letter-index g.state g.auto.letter-index-end c.loop-letter-test.false (omega arith) g.invariant in
+    record { place = rw c.entry.ensures x.0; below = rw c.entry.ensures x.1 }

@@ -35,10 +35,11 @@ slice_bounds-codes-end c = omega (arith, (admit (goal.at.slice_bounds-codes-end 
 pub slice_bounds-codes-end-2 : goal.slice_bounds-codes-end-2
 slice_bounds-codes-end-2 c = sym (encoded_length _ _ _ c.encode_sequence.ensures c.encode_sequence.auto.encoded)
 
-pub fill_tables-requires-clause-w_in_bounds : goal.fill_tables-requires-clause-w_in_bounds
-fill_tables-requires-clause-w_in_bounds c =
-    let g = (admit (goal.at.fill_tables-requires-clause-w_in_bounds c).In_ok-check).enough in
-    (g.ln, g.f)
+pub fill_tables-requires-clause-ln_room : goal.fill_tables-requires-clause-ln_room
+fill_tables-requires-clause-ln_room c = (admit (goal.at.fill_tables-requires-clause-ln_room c).In_ok-check).enough.ln
+
+pub fill_tables-requires-clause-f_room : goal.fill_tables-requires-clause-f_room
+fill_tables-requires-clause-f_room c = (admit (goal.at.fill_tables-requires-clause-f_room c).In_ok-check).enough.f
 
 pub mask_encoded-requires : goal.mask_encoded-requires
 mask_encoded-requires c =

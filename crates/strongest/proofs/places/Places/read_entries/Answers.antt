@@ -29,12 +29,20 @@ cost c =
 pub overflow_add-loss : goal.overflow_add-loss
 overflow_add-loss c = omega (arith, cost (goal.at.overflow_add-loss c).After-count_back-value)
 
-pub judged-reading-requires : goal.judged-reading-requires
-judged-reading-requires c =
-    let x = (goal.at.judged-reading-requires c).After-count_back-value in
-    let R = c.loop-j.invariant.reads in
-    let w = c.requires.narrow in
-    (omega (arith, R.gain_small), omega (arith, c.count_back-value.ensures.value_small, w.ln_small), (cost x).1, omega (arith, R.best_small), R.loss_small)
+pub judged-reading-requires-clause-gain_small : goal.judged-reading-requires-clause-gain_small
+judged-reading-requires-clause-gain_small c = omega (arith, c.loop-j.invariant.reads.gain_small)
+
+pub judged-reading-requires-clause-value_small : goal.judged-reading-requires-clause-value_small
+judged-reading-requires-clause-value_small c = omega (arith, c.count_back-value.ensures.value_small, c.requires.narrow.ln_small)
+
+pub judged-reading-requires-clause-loss_small : goal.judged-reading-requires-clause-loss_small
+judged-reading-requires-clause-loss_small c = (cost (goal.at.judged-reading-requires-clause-loss_small c).After-count_back-value).1
+
+pub judged-reading-requires-clause-best_gain_small : goal.judged-reading-requires-clause-best_gain_small
+judged-reading-requires-clause-best_gain_small c = omega (arith, c.loop-j.invariant.reads.best_small)
+
+pub judged-reading-requires-clause-best_loss_small : goal.judged-reading-requires-clause-best_loss_small
+judged-reading-requires-clause-best_loss_small c = c.loop-j.invariant.reads.loss_small
 
 pub loop-j-preserved : goal.loop-j-preserved
 loop-j-preserved c =
