@@ -14,7 +14,7 @@ use Rattle.intervals.proofs.Saving.{save_canonical, save_covers}
 use Rattle.intervals.proofs.Theorems.{canonical_unique}
 use Rattle.join.specs.Stretches.{stretches}
 
-ascending_ends : (n k lo e : ℕ) (is : List Interval) → n < e → Ascending n k lo is → EndsBelow e is
+pub ascending_ends : (n k lo e : ℕ) (is : List Interval) → n < e → Ascending n k lo is → EndsBelow e is
 ascending_ends n k lo e [] h a = tt
 ascending_ends n k lo e (i ∷ is) h a = (omega arith, ascending_ends n k (i.end + 1) e is h a.3)
 

@@ -9,12 +9,12 @@ ghost use Rattle.letters.specs.Gc.{acgt_count, gc_count, gc_of};
 ghost use Rattle.letters.specs.Terms.Rolling.{no_letter, rolled_on, entry_of};
 ghost use Rattle.letters.specs.Terms.Entry.{decode, place_of};
 
-// Each base in either case, U beside T, and all other bytes.
-// The IUPAC letters R Y S W K M B D H V N and the gap signs - and . are among the others.
+/// The code of a letter: each base in either case, U beside T, and 4 for all other bytes.
+/// The IUPAC letters R Y S W K M B D H V N and the gap signs - and . are among the others.
 // Inlined in both loops: out of line a letter of `encode_sequence` takes 16 instructions and not 1.4.
 #[tactic(auto, unfolding(crate::specs::Code::code))]
 #[inline(always)]
-fn encode(b: u8) -> u8
+pub fn encode(b: u8) -> u8
     ensures { result ≡ code b }
 {
     match b {
