@@ -1,9 +1,10 @@
 #include "driver.h"
 
-/* A file of ours must not get the number of a standard one that is closed; to use it fails as before. */
-static void hold_standard_files(void) {
-    for (int file = STDIN_FILENO; file <= STDERR_FILENO; file++)
-        if (fcntl(file, F_GETFD) < 0) open("/dev/null", file == STDIN_FILENO ? O_WRONLY : O_RDONLY);
+/* A file of ours must not get the number of a standard one that is closed, to use which fails as before, nor one that a worker
+ * writes to. */
+static void hold_numbers(void) {
+    for (int file = STDIN_FILENO; file < STDERR_FILENO + MOST_OUTPUTS; file++)
+        if (fcntl(file, F_GETFD) < 0) open("/dev/null", O_CLOEXEC | (file == STDIN_FILENO ? O_WRONLY : O_RDONLY));
 }
 
 /* Whether the proved program can do it all: then nothing of ours touches a byte. */
@@ -29,10 +30,9 @@ static void read_file(const char *path) {
 }
 
 int main(int argc, char **argv) {
-    (void)argc;
-    hold_standard_files();
+    hold_numbers();
     check_processor();
-    read_plan(argv);
+    read_plan(argc, argv);
     refuse_own_input();
     size_workers();
     if (needs_no_driver()) {
