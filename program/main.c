@@ -15,6 +15,18 @@ static bool needs_no_driver(void) {
     return true;
 }
 
+/* By the user's words, and the memory that this program would keep to. */
+static void become_proved(int argc, char **argv) {
+    char memory[32], **words = calloc((size_t)argc + 2, sizeof *words);
+    if (words == NULL) fail(FAILED, "no memory");
+    snprintf(memory, sizeof memory, "--memory=%" PRIu64, plan.memory);
+    words[0] = argv[0];
+    words[1] = memory;
+    memcpy(words + 2, argv + 1, (size_t)argc * sizeof *words); /* and the null behind them */
+    execv(worker, words);
+    fail(FAILED, "cannot start %s", worker);
+}
+
 static void read_file(const char *path) {
     static uint8_t bytes[CHUNK];
     size_t length;
@@ -35,10 +47,7 @@ int main(int argc, char **argv) {
     read_plan(argc, argv);
     refuse_own_input();
     size_workers();
-    if (needs_no_driver()) {
-        execv(worker, argv);
-        fail(FAILED, "cannot start %s", worker);
-    }
+    if (needs_no_driver()) become_proved(argc, argv);
     check_memory();
     hold_signals();
     begin_progress();
