@@ -1,10 +1,12 @@
 #include "driver.h"
 
-/* A file of ours must not get the number of a standard one that is closed, to use which fails as before, nor one that a worker
- * writes to. */
+/* A file of ours must not get the number of a standard one that is closed, nor one that workers write to. To use a closed one
+ * fails as before. */
 static void hold_numbers(void) {
-    for (int file = STDIN_FILENO; file < STDERR_FILENO + MOST_OUTPUTS; file++)
-        if (fcntl(file, F_GETFD) < 0) open("/dev/null", O_CLOEXEC | (file == STDIN_FILENO ? O_WRONLY : O_RDONLY));
+    for (int file = STDIN_FILENO; file < STDERR_FILENO + MOST_OUTPUTS; file++) {
+        int how = file == STDIN_FILENO ? O_WRONLY : file <= STDERR_FILENO ? O_RDONLY : O_CLOEXEC;
+        if (fcntl(file, F_GETFD) < 0) open("/dev/null", how);
+    }
 }
 
 /* Whether the proved program can do it all: then nothing of ours touches a byte. */
