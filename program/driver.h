@@ -41,7 +41,7 @@ extern struct plan plan;
 extern const char *worker; /* the proved program's path */
 
 /* plan.c: asks the proved program, which stands beside this one; --help and a wrong option end the program. */
-void read_plan(char **argv);
+void read_plan(int argc, char **argv);
 
 /* limits.c: what the process may use, by affinity and control groups. */
 void find_usable(uint64_t *cores, uint64_t *bytes);

@@ -1,9 +1,12 @@
 #include "driver.h"
 
-/* A file of ours must not get the number of a standard one that is closed; to use it fails as before. */
-static void hold_standard_files(void) {
-    for (int file = STDIN_FILENO; file <= STDERR_FILENO; file++)
-        if (fcntl(file, F_GETFD) < 0) open("/dev/null", file == STDIN_FILENO ? O_WRONLY : O_RDONLY);
+/* A file of ours must not get the number of a standard one that is closed, nor one that workers write to. To use a closed one
+ * fails as before. */
+static void hold_numbers(void) {
+    for (int file = STDIN_FILENO; file < STDERR_FILENO + MOST_OUTPUTS; file++) {
+        int how = file == STDIN_FILENO ? O_WRONLY : file <= STDERR_FILENO ? O_RDONLY : O_CLOEXEC;
+        if (fcntl(file, F_GETFD) < 0) open("/dev/null", how);
+    }
 }
 
 /* Whether the proved program can do it all: then nothing of ours touches a byte. */
@@ -12,6 +15,18 @@ static bool needs_no_driver(void) {
     for (size_t i = 0; i < plan.inputs_len; i++)
         if (!is_plain(plan.inputs[i])) return false;
     return true;
+}
+
+/* By the user's words, and the memory that this program would keep to. */
+static void become_proved(int argc, char **argv) {
+    char memory[32], **words = calloc((size_t)argc + 2, sizeof *words);
+    if (words == NULL) fail(FAILED, "no memory");
+    snprintf(memory, sizeof memory, "--memory=%" PRIu64, plan.memory);
+    words[0] = argv[0];
+    words[1] = memory;
+    memcpy(words + 2, argv + 1, (size_t)argc * sizeof *words); /* and the null behind them */
+    execv(worker, words);
+    fail(FAILED, "cannot start %s", worker);
 }
 
 static void read_file(const char *path) {
@@ -29,16 +44,12 @@ static void read_file(const char *path) {
 }
 
 int main(int argc, char **argv) {
-    (void)argc;
-    hold_standard_files();
+    hold_numbers();
     check_processor();
-    read_plan(argv);
+    read_plan(argc, argv);
     refuse_own_input();
     size_workers();
-    if (needs_no_driver()) {
-        execv(worker, argv);
-        fail(FAILED, "cannot start %s", worker);
-    }
+    if (needs_no_driver()) become_proved(argc, argv);
     check_memory();
     hold_signals();
     begin_progress();

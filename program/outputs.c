@@ -62,10 +62,6 @@ void open_outputs(void) {
     for (size_t i = 0; i < named; i++)
         if (plan.outputs[i] != NULL) open_output(i, plan.outputs[i]);
     if (plan.numbers) outputs[named].file = numbers = memfd_create("numbers", MFD_CLOEXEC);
-    for (size_t i = 1; i < plan.outputs_len; i++) { /* the worker's numbers 3, 4 .. must not be files of ours */
-        int held = open("/dev/null", O_RDONLY | O_CLOEXEC);
-        if (held > STDERR_FILENO + (int)i) close(held);
-    }
     for (size_t i = 0; i < named; i++)
         if (plan.heads[i] != NULL) put_output(i, plan.heads[i], strlen(plan.heads[i]));
 }

@@ -14,17 +14,15 @@ static void find_worker(void) {
 }
 
 /* Runs `cisternpea-proved --plan FILE WORD..`: what it wrote to the file; if that is nothing, this program ends too. */
-static char *ask(char **argv, size_t *length) {
-    size_t words = 0;
-    while (argv[words] != NULL) words++;
-    char **asked = calloc(words + 3, sizeof *asked), name[32];
+static char *ask(int argc, char **argv, size_t *length) {
+    char **asked = calloc((size_t)argc + 3, sizeof *asked), name[32];
     int file = memfd_create("plan", 0), status; /* not closed on exec: it is opened by its number */
     if (asked == NULL || file < 0) fail(FAILED, "no memory");
     snprintf(name, sizeof name, "/dev/fd/%d", file);
     asked[0] = argv[0];
     asked[1] = "--plan";
     asked[2] = name;
-    if (words > 0) memcpy(asked + 3, argv + 1, (words - 1) * sizeof *asked);
+    memcpy(asked + 3, argv + 1, (size_t)argc * sizeof *asked); /* and the null behind them */
     signal(SIGCHLD, SIG_DFL); /* ignored, as some parents leave it, it would let ended workers vanish */
     pid_t pid = fork();
     if (pid == 0) {
@@ -64,10 +62,10 @@ static void take_line(char kind, char *value) {
 }
 
 /* Each line of a plan ends in a zero byte. */
-void read_plan(char **argv) {
+void read_plan(int argc, char **argv) {
     size_t length;
     find_worker();
-    char *text = ask(argv, &length);
+    char *text = ask(argc, argv, &length);
     char **room = calloc(3 * (length + 8), sizeof *room);
     if (room == NULL) fail(FAILED, "no memory");
     plan = (struct plan){.words = room, .last = room + length + 8, .inputs = room + 2 * (length + 8), .outputs_len = 1};
