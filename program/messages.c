@@ -5,7 +5,7 @@
 
 static bool shown, line_shown; /* progress is; a line of it stands on the terminal */
 static double began, last;
-static double size; /* of all files, or 0 if one is not a plain file */
+static double size; /* of all files, or -1 if one is not a plain file */
 
 double seconds(void) {
     struct timespec now;
@@ -36,21 +36,14 @@ void say(const char *format, ...) {
     put_error(line, length);
 }
 
-/* The size of the inputs together; 0 if one is not a plain file. */
-static double size_of_inputs(void) {
-    double sum = 0;
-    for (size_t i = 0; i < plan.inputs_len; i++) {
-        struct stat file;
-        if (!tell(plan.inputs[i], STDIN_FILENO, &file) || !S_ISREG(file.st_mode)) return 0;
-        sum += (double)file.st_size;
-    }
-    return sum;
-}
-
 void begin_progress(void) {
+    struct stat file;
     shown = !plan.quiet && isatty(STDERR_FILENO);
     began = last = seconds();
-    size = size_of_inputs();
+    for (size_t i = 0; i < plan.inputs_len; i++) {
+        bool sized = tell(plan.inputs[i], STDIN_FILENO, &file) && S_ISREG(file.st_mode);
+        size = sized && size >= 0 ? size + (double)file.st_size : -1;
+    }
 }
 
 void show_progress(void) {

@@ -29,10 +29,8 @@ void refuse_own_input(void) {
         for (size_t j = 0; j < plan.inputs_len; j++)
             if (same(path, STDOUT_FILENO, plan.inputs[j], STDIN_FILENO))
                 fail(FAILED, "%s: it is an output, too", plan.inputs[j] == NULL ? "standard input" : plan.inputs[j]);
-        for (size_t j = 0; j < i; j++) {
-            bool named = plan.outputs[j] != NULL && strcmp(path, plan.outputs[j]) == 0;
-            if (named || same(path, -1, plan.outputs[j], STDOUT_FILENO)) fail(USAGE, "%s: it is two outputs", path);
-        }
+        for (size_t j = 0; j < i; j++)
+            if (same(path, -1, plan.outputs[j], STDOUT_FILENO)) fail(USAGE, "%s: it is two outputs", path);
     }
 }
 
