@@ -238,7 +238,21 @@ fn parts<'a>(alloc: Global, command: Command<'a>) -> Result<Command<'a>, AllocEr
             "BYTES",
             "bytes of the file before this part",
         )
+        .hide(true))?
+        .arg(value(
+            alloc,
+            "numbers",
+            "FILE",
+            "where what was counted in this part is written",
+        )
         .hide(true))
+}
+
+// What a last run is told: standard input has the numbers of all parts.
+fn last<'a>(alloc: Global, command: Command<'a>) -> Result<Command<'a>, AllocError> {
+    let foot = flag(alloc, "foot", "write what stands below all records");
+    let closing = flag(alloc, "closing", "say what was counted");
+    command.arg(foot.hide(true))?.arg(closing.hide(true))
 }
 
 /// The whole.
@@ -254,5 +268,8 @@ pub fn command<'a>(alloc: Global) -> Result<Command<'a>, AllocError> {
         .args_override_self(true)
         .arg(files)?;
     let written = limits(alloc, forms(alloc, command)?)?;
-    parts(alloc, running(alloc, masker(alloc, written)?)?)
+    last(
+        alloc,
+        parts(alloc, running(alloc, masker(alloc, written)?)?)?,
+    )
 }

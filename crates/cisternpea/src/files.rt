@@ -1,6 +1,7 @@
 // The files of a run, one after the other.
 
 use crate::budget::held_by;
+use crate::closing::say_sums;
 use crate::notes::Notes;
 use crate::request::Request;
 use crate::said_of_files::{advice, say_failed};
@@ -8,16 +9,17 @@ use crate::saying;
 use crate::sink::{Sink, Target, open_file, settle};
 use crate::watched::{Place, Watched};
 use command_line::{Kind, kind_of};
-use entries::Failed;
+use entries::{Failed, Sums, read_sums, write_sums};
 use forms::Form;
 use std::fs::File;
 use std::io::{BufRead, BufReader, BufWriter, Write};
 
-// The outputs: their forms, and a writer for each.
+// The outputs: their forms, and a writer for each; what was counted.
 #[derive(Drop)]
 struct Outs {
     forms: Vec<Form>,
     writers: Vec<BufWriter<Sink>>,
+    sums: Sums,
 }
 
 pub const DONE: u8 = 0;
@@ -99,21 +101,26 @@ fn mask_reader<R: BufRead>(
     outs: &mut Outs,
 ) -> u8 {
     let mut notes = Notes { inner: rt.stderr() };
+    let refused = outs.sums.refused;
     let result = forms::put_file(
         rt.alloc(),
         reader,
-        true,
         outs.forms.as_slice(),
         request.settings,
         outs.writers.as_mut_slice(),
         &mut notes,
+        &mut outs.sums,
     );
     match result {
-        Ok(good) => {
+        Ok(()) => {
             if !reader.place.some & is_begin(request) {
                 saying::say(rt, name, "there is no record in it");
             }
-            if good { DONE } else { REFUSED }
+            if outs.sums.refused == refused {
+                DONE
+            } else {
+                REFUSED
+            }
         }
         Err(failed) => {
             let status = failed_status(request, &failed);
@@ -221,7 +228,24 @@ fn flush_all<W: Write>(writers: &mut [W]) -> std::io::Result<()> {
     Ok(())
 }
 
-// Heads, files, and what the writers hold back: the status.
+// What stands below the records; for a part its numbers.
+fn write_end(rt: &HostRuntime, request: &Request, outs: &mut Outs) -> std::io::Result<()> {
+    if request.part.is_none() {
+        let mut text = Vec::new(rt.alloc());
+        forms::put_feet(
+            outs.forms.as_slice(),
+            outs.sums,
+            &mut text,
+            outs.writers.as_mut_slice(),
+        )?;
+    }
+    if let Some(path) = request.numbers {
+        write_sums(rt.alloc(), outs.sums, &mut File::create(rt, path)?)?;
+    }
+    flush_all(outs.writers.as_mut_slice())
+}
+
+// Heads, files, and what stands below: the status.
 fn write_text(
     rt: &HostRuntime,
     names: &[&str],
@@ -235,7 +259,12 @@ fn write_text(
         }
     }
     let status = mask_files(rt, names, request, outs)?;
-    match flush_all(outs.writers.as_mut_slice()) {
+    let ended = if status == FAILED {
+        flush_all(outs.writers.as_mut_slice())
+    } else {
+        write_end(rt, request, outs)
+    };
+    match ended {
         Ok(()) => Ok(status),
         Err(e) => {
             saying::say_error(rt, "cannot write", e);
@@ -264,35 +293,77 @@ fn open_writer<'a>(
     Ok(Some(BufWriter::with_capacity(rt.alloc(), ROOM, sink)?))
 }
 
-// The text of the files, to outputs some of which are written beside their places: the status.
+// Opens the outputs; none where a line says why there is none.
+fn open_outs<'a>(
+    rt: &HostRuntime,
+    request: &Request<'a>,
+    targets: &mut Vec<Target<'a>>,
+) -> std::io::Result<Option<Outs>> {
+    let mut outs = Outs {
+        forms: Vec::new(rt.alloc()),
+        writers: Vec::new(rt.alloc()),
+        sums: Sums::new(),
+    };
+    let in_place = request.part.is_some() | request.foot;
+    for output in &request.outputs {
+        let path = output.file.or(request.output);
+        match open_writer(rt, path, in_place, targets)? {
+            Some(writer) => outs.writers.push(writer)?,
+            None => return Ok(None),
+        }
+        outs.forms.push(output.form)?;
+    }
+    Ok(Some(outs))
+}
+
+// The text of the files, to outputs some of which are written beside their places: the status, and what was counted.
 fn mask_to<'a>(
     rt: &HostRuntime,
     names: &[&str],
     request: &Request<'a>,
     targets: &mut Vec<Target<'a>>,
-) -> std::io::Result<u8> {
-    let mut outs = Outs {
-        forms: Vec::new(rt.alloc()),
-        writers: Vec::new(rt.alloc()),
-    };
-    for output in &request.outputs {
-        let path = output.file.or(request.output);
-        match open_writer(rt, path, request.part.is_some(), targets)? {
-            Some(writer) => outs.writers.push(writer)?,
-            None => return Ok(FAILED),
+) -> std::io::Result<(u8, Sums)> {
+    match open_outs(rt, request, targets)? {
+        Some(mut outs) => {
+            let status = write_text(rt, names, request, &mut outs)?;
+            Ok((status, outs.sums))
         }
-        outs.forms.push(output.form)?;
+        None => Ok((FAILED, Sums::new())),
     }
-    write_text(rt, names, request, &mut outs)
 }
 
 /// Writes the text of the files: the status.
 pub fn mask(rt: &HostRuntime, names: &[&str], request: &Request) -> std::io::Result<u8> {
     let mut targets = Vec::new(rt.alloc());
-    let status = mask_to(rt, names, request, &mut targets)?;
+    let (status, sums) = mask_to(rt, names, request, &mut targets)?;
     if let Err(e) = settle(rt, targets.as_slice(), status < USAGE) {
         saying::say_error(rt, "cannot write", e);
         return Ok(FAILED);
     }
+    if (status < USAGE) & request.part.is_none() {
+        say_sums(rt, request, sums)?;
+    }
     Ok(status)
+}
+
+// What stands below the records, by the numbers on standard input.
+fn put_foot(rt: &HostRuntime, request: &Request, outs: &mut Outs) -> std::io::Result<()> {
+    outs.sums = read_sums(rt.alloc(), &mut rt.stdin())?;
+    write_end(rt, request, outs)?;
+    say_sums(rt, request, outs.sums)
+}
+
+/// Writes what stands below the records of all parts: the status.
+pub fn write_foot(rt: &HostRuntime, request: &Request) -> std::io::Result<u8> {
+    let mut targets = Vec::new(rt.alloc());
+    match open_outs(rt, request, &mut targets)? {
+        Some(mut outs) => match put_foot(rt, request, &mut outs) {
+            Ok(()) => Ok(DONE),
+            Err(e) => {
+                saying::say_error(rt, "cannot write", e);
+                Ok(FAILED)
+            }
+        },
+        None => Ok(FAILED),
+    }
 }

@@ -3,6 +3,7 @@
 #![tactic(auto)]
 
 mod budget;
+mod closing;
 mod command;
 mod files;
 mod notes;
@@ -70,6 +71,9 @@ fn run_words(rt: &HostRuntime, words: &[String], plan: Option<&str>) -> anyhow::
         Some(request) => request,
         None => return Ok(files::USAGE),
     };
+    if request.foot {
+        return Ok(files::write_foot(rt, &request)?);
+    }
     if !has_input(rt, &matches, &request) {
         return Ok(files::USAGE);
     }

@@ -55,6 +55,7 @@ fn form_value(alloc: Global, form: Form, file: &str) -> Result<String, AllocErro
 fn add_form(
     alloc: Global,
     text: &mut Vec<u8>,
+    what: u8,
     output: Output<'_>,
     number: u64,
 ) -> Result<(), AllocError> {
@@ -66,30 +67,37 @@ fn add_form(
     let value = form_value(alloc, output.form, file.as_str())?;
     let name = word(output.form);
     let words = format!(in alloc; "{name}={value}")?;
-    add_line(text, b'w', words.as_bytes())
+    add_line(text, what, words.as_bytes())
 }
 
-fn add_forms(alloc: Global, text: &mut Vec<u8>, request: &Request) -> Result<(), AllocError> {
+// The words of all forms: the number of the next file.
+fn add_forms(
+    alloc: Global,
+    text: &mut Vec<u8>,
+    what: u8,
+    request: &Request,
+) -> Result<u64, AllocError> {
     let mut number = 3u64;
     for output in &request.outputs {
-        add_form(alloc, text, *output, number)?;
+        add_form(alloc, text, what, *output, number)?;
         if output.file.is_some() {
             number = number.saturating_add(1);
         }
     }
-    Ok(())
+    Ok(number)
 }
 
 // An option of the masker as it was given, or by its default.
 fn add_option(
     alloc: Global,
     text: &mut Vec<u8>,
+    what: u8,
     matches: &ArgMatches<'_>,
     name: &str,
 ) -> Result<(), AllocError> {
     if let Some(value) = matches.get_str(name) {
         let words = format!(in alloc; "--{name}={value}")?;
-        add_line(text, b'w', words.as_bytes())?;
+        add_line(text, what, words.as_bytes())?;
     }
     Ok(())
 }
@@ -108,6 +116,32 @@ fn add_flag(
     Ok(())
 }
 
+// The file for the numbers, behind those of the outputs.
+fn add_numbers(alloc: Global, text: &mut Vec<u8>, number: u64) -> Result<(), AllocError> {
+    add_line(text, b'n', b"")?;
+    let words = format!(in alloc; "--numbers=/dev/fd/{number}")?;
+    add_line(text, b'w', words.as_bytes())
+}
+
+// The command line of the last run.
+fn add_last(
+    alloc: Global,
+    text: &mut Vec<u8>,
+    matches: &ArgMatches<'_>,
+    request: &Request,
+) -> Result<(), AllocError> {
+    add_forms(alloc, text, b'F', request)?;
+    add_option(alloc, text, b'F', matches, "gc")?;
+    add_line(text, b'F', b"--foot")?;
+    if request.quiet {
+        add_line(text, b'F', b"--quiet")?;
+    }
+    if request.closing {
+        add_line(text, b'F', b"--closing")?;
+    }
+    Ok(())
+}
+
 // The command line of those that do a part.
 fn add_words(
     alloc: Global,
@@ -115,7 +149,8 @@ fn add_words(
     matches: &ArgMatches<'_>,
     request: &Request,
 ) -> Result<(), AllocError> {
-    add_forms(alloc, text, request)?;
+    let number = add_forms(alloc, text, b'w', request)?;
+    add_numbers(alloc, text, number)?;
     for name in [
         "kmer",
         "window-size",
@@ -125,7 +160,7 @@ fn add_words(
         "min-start-cnt",
         "min-length",
     ] {
-        add_option(alloc, text, matches, name)?;
+        add_option(alloc, text, b'w', matches, name)?;
     }
     add_flag(alloc, text, matches, "approx")?;
     add_flag(alloc, text, matches, "forward-only")?;
@@ -154,5 +189,6 @@ pub fn plan(
         add_line(&mut text, b'q', b"")?;
     }
     add_words(alloc, &mut text, matches, request)?;
+    add_last(alloc, &mut text, matches, request)?;
     Ok(text)
 }

@@ -6,6 +6,7 @@ use clap::ArgMatches;
 use forms::Settings;
 use longdust::LongdustOptions;
 use std::alloc::{AllocError, Global};
+use std::io::IsTerminal;
 use tables::GcOption;
 
 /// A part of a file, from standard input.
@@ -34,6 +35,12 @@ pub struct Request<'a> {
     pub quiet: bool,
     /// The part of a file that this run is for.
     pub part: Option<Part<'a>>,
+    /// The file for the numbers of that part.
+    pub numbers: Option<&'a str>,
+    /// Standard input has the numbers of all parts: what stands below the records is to be written.
+    pub foot: bool,
+    /// What was counted is said.
+    pub closing: bool,
 }
 
 // Says what the value of an option must be.
@@ -168,6 +175,14 @@ fn asked_part<'a>(rt: &HostRuntime, matches: &ArgMatches<'a>) -> Option<Option<P
     Some(Some(Part { source, offset }))
 }
 
+// Whether what was counted is said: on a terminal.
+fn says_closing(rt: &HostRuntime, matches: &ArgMatches) -> bool {
+    if matches.get_flag("quiet") | matches.get_str("source").is_some() {
+        return false;
+    }
+    rt.stderr().is_terminal()
+}
+
 // All but the outputs.
 fn with_outputs<'a>(
     rt: &HostRuntime,
@@ -182,6 +197,9 @@ fn with_outputs<'a>(
         memory: memory(rt, matches)?,
         quiet: matches.get_flag("quiet"),
         part: asked_part(rt, matches)?,
+        numbers: matches.get_str("numbers"),
+        foot: matches.get_flag("foot"),
+        closing: matches.get_flag("closing") | says_closing(rt, matches),
     })
 }
 

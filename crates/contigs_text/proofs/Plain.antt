@@ -9,6 +9,7 @@ use Rattle.fasta.specs.declared.Fault.TheVariants.{LettersFirst, EmptyName}
 use Rattle.report.specs.Text.{refusal_line}
 use Rattle.longdust.specs.declared.LongdustOptions.{LongdustOptions}
 use Rattle.entries.specs.Entries.{Entries, ends, fails, holds, record_of, entries_of, list_of, fault_of as fault_in, plain}
+use Rattle.entries.specs.declared.sums.Sums.{Sums}
 use Rattle.entries.specs.declared.failed.Failed.{Failed}
 use Rattle.entries.specs.declared.failed.Failed.TheVariants.{Faulty}
 use Rattle.entries.specs.Outcome.{Sent, held, texts, text_of, Outcome}
@@ -55,17 +56,17 @@ module _ (most : Limits) (o : LongdustOptions) where
     -- What the reader of records leaves in a text that held nothing, where that is its first writer.
     module _ (m : LongdustOptions) (e : m ≡ o) (t t' : List ℕ) (none : t ≡ []) (a b : List (Option (List ℕ)))
         (old : held a 0 ≡ Some t) (new : held b 0 ≡ Some t') where
-      pub made : (good : Bool) → Outcome false (report_of most m) file a b None None (Ok good) → t' ≡ limited_text most o file
-      made good (z, p, n, g) =
+      pub made : (k k' : Sums) → Outcome false (report_of most m) file a b None None k k' (Ok tt) → t' ≡ limited_text most o file
+      made k k' (z, p, n, g) =
           appended (held a 0) (held b 0) t t' (text_of false (report_of most m) file 0) old new (p 0)
           ∙ ap (λ (l : List ℕ). l ++ text_of false (report_of most m) file 0) none
           ∙ ap (λ (i : LongdustOptions). text_of false (report_of most i) file 0) e
           ∙ all_records z
 
-    pub made_fault : (m : LongdustOptions) (a b : List (Option (List ℕ))) (fault : Fault) (x : Failed) → x ≡ Faulty fault
-        → Outcome false (report_of most m) file a b None None (Err x) → refusal_line (fault_number fault) ≡ limited_text most o file
-    made_fault m a b fault x f h =
-        let (z, p, n) = subst (λ (y : Failed). Outcome false (report_of most m) file a b None None (Err y)) f h in
+    pub made_fault : (m : LongdustOptions) (k k' : Sums) (a b : List (Option (List ℕ))) (fault : Fault) (x : Failed) → x ≡ Faulty fault
+        → Outcome false (report_of most m) file a b None None k k' (Err x) → refusal_line (fault_number fault) ≡ limited_text most o file
+    made_fault m k k' a b fault x f h =
+        let (z, p, n, g) = subst (λ (y : Failed). Outcome false (report_of most m) file a b None None k k' (Err y)) f h in
         fault_alone fault z
 
   -- The text of the first bytes of a file is that of the file.

@@ -9,7 +9,7 @@ ghost use Rattle.contigs_text.specs.Terms.Report.{to_first, report_of};
 
 use crate::Limits;
 use crate::lines::{add_lines, add_refused, add_too_long};
-use entries::{Failed, HeldEntry, Recorder, write_whole};
+use entries::{Failed, HeldEntry, Recorder, Sums, write_whole};
 use intervals::Interval;
 use masker::Masker;
 use std::io::{Result as IoResult, Write};
@@ -65,12 +65,12 @@ impl Recorder for Listing {
         entry: &HeldEntry,
         outs: &mut [W],
         notes: &mut N,
-    ) -> Result<bool, Failed> {
+    ) -> Result<Sums, Failed> {
         if let Err(_) = self.make_text(entry) {
             return Err(Failed::NoMemory);
         }
         match write_first(outs, self.text.as_slice()) {
-            Ok(()) => Ok(true),
+            Ok(()) => Ok(Sums::new()),
             Err(e) => Err(Failed::Writing(e)),
         }
     }

@@ -7,7 +7,7 @@ ghost use Rattle.contigs_text.specs.Text.{limited_text, file_text};
 use crate::Limits;
 use crate::lines::add_fault;
 use crate::listing::Listing;
-use entries::{Failed, put_records, write_whole};
+use entries::{Failed, Sums, put_records, write_whole};
 use longdust::LongdustOptions;
 use masker::Masker;
 use std::alloc::Global;
@@ -54,6 +54,7 @@ fn make_records(
         &mut listing,
         std::slice::from_mut(text),
         &mut std::io::sink(),
+        &mut Sums::new(),
     ) {
         Ok(_) => Ok(()),
         Err(Failed::Faulty(fault)) => {

@@ -5,7 +5,9 @@ use Rattle.fasta.specs.Lines.{lines, is_empty, opens, name_of}
 use Rattle.fasta.proofs.Joined.{lines_cut}
 use Rattle.entries.specs.Lines.{chomped, file_lines}
 use Rattle.entries.specs.Entries.{Entry, Entries, ends, fails, holds, lines_below, unless_nameless, opened, entries, entries_of, list_of, fault_of, followed}
-use Rattle.entries.specs.Outcome.{Report, text_on, notes_on, records, text_of, notes_of}
+use Rattle.entries.specs.Sums.{no_sums, add}
+use Rattle.entries.specs.Outcome.{Report, text_on, notes_on, sums_on, records, text_of, notes_of, sums_of}
+use Rattle.entries.proofs.Adding.{sums_both}
 use Rattle.entries.proofs.Steps.{opens_long}
 use Rattle.entries.proofs.Lines.{first_line, file_first, opens_first}
 use Rattle.entries.proofs.Whole.{texts_append}
@@ -109,3 +111,6 @@ module _ (cr : Bool) (a rest : List ℕ) (op : opens rest ≡ true) (none : faul
     pub notes_follow : notes_of cr report ((a ++ 10 ∷ []) ++ rest) ≡ notes_of cr report (a ++ 10 ∷ []) ++ notes_of cr report rest
     notes_follow =
         ap (λ (es : List Entry). notes_on report es) records_follow ∙ texts_append (λ e. (report e).notes) (records cr (a ++ 10 ∷ [])) (records cr rest)
+
+    pub sums_follow : sums_of cr report ((a ++ 10 ∷ []) ++ rest) ≡ add (sums_of cr report (a ++ 10 ∷ [])) (sums_of cr report rest)
+    sums_follow = ap (λ (es : List Entry). sums_on report no_sums es) records_follow ∙ sums_both report (records cr (a ++ 10 ∷ [])) (records cr rest)

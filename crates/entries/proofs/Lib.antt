@@ -5,3 +5,6 @@ pub mod Sending
 pub mod Whole
 pub mod Plain
 pub mod Joined
+pub mod Adding
+pub mod Numbers
+pub mod Parts

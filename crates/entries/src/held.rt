@@ -29,7 +29,12 @@ pub struct HeldEntry {
 }
 
 impl HeldEntry {
-    pub fn new(alloc: Global) -> Self {
+    /// Nothing is read yet.
+    pub fn new(alloc: Global) -> Self
+        ensures header { result.header.items ≡ [] }
+        ensures letters { result.letters.items ≡ [] }
+        ensures runs { result.runs.items ≡ [] }
+    {
         HeldEntry {
             header: Vec::new(alloc),
             letters: Vec::new(alloc),

@@ -5,8 +5,8 @@ use Rattle.checks.specs.declared.refusal.Refusal.{Refusal}
 use Rattle.checks.specs.Refusal.{number}
 use Rattle.checks.proofs.Refusing.{number_positive}
 use Rattle.intervals.specs.declared.Interval.{Interval}
-use Rattle.fasta.specs.Lines.{name_of}
 use Rattle.entries.specs.declared.failed.Failed.{Failed}
+use Rattle.entries.specs.declared.sums.Sums.{Sums}
 use Rattle.entries.specs.declared.held.HeldEntry.{HeldEntry}
 use Rattle.entries.specs.Entries.{Entry, joined}
 use Rattle.entries.specs.Held.{lengths_of, entry_of}
@@ -15,22 +15,20 @@ use Rattle.entries.proofs.Kept.{joined_cut}
 use Rattle.masker.specs.Run.{record_refusal, record_mask, record_marks, Held, Masks}
 use Rattle.forms.specs.declared.form.Settings.{Settings}
 use Rattle.forms.specs.declared.form.Form.{Form}
-use Rattle.forms.specs.Form.{body, passed, by_form, accepted, refused, passes, report_by, report_of}
+use Rattle.forms.specs.Form.{accepted, refused, passes, report_by, report_of}
 use Rattle.forms.proofs.Writers.{Writers}
 
-pub recorded_by : (r q : Report) (a b : Writers) (c d : Option (List ℕ)) (x : Result Bool Failed) → q ≡ r → Recorded r a b c d x → Recorded q a b c d x
+pub recorded_by : (r q : Report) (a b : Writers) (c d : Option (List ℕ)) (x : Result Sums Failed) → q ≡ r → Recorded r a b c d x → Recorded q a b c d x
 recorded_by r q a b c d x e p = subst (λ (z : Report). Recorded z a b c d x) (sym e) p
 
 module _ (forms : List Form) (st : Settings) (h : HeldEntry) (s : List ℕ) (same : s ≡ h.letters.items) where
   abbrev e : Entry
   e = entry_of h
 
-  abbrev bodies : List Interval → List ℕ → ℕ → List ℕ
-  bodies is marks = by_form (λ f. body st.min_length f e is marks) forms
-
   abbrev by : ℕ → List ℕ → Report
   by n l =
-      report_by st.skip_short n (name_of e.header) l (bodies (record_mask st.options l) (record_marks st.options l)) (bodies [] []) (by_form (λ f. passed f e) forms)
+      report_by st.skip_short n (accepted forms st.min_length e (record_mask st.options l) (record_marks st.options l))
+      (accepted forms st.min_length e [] []) (refused forms e n)
 
   letters_are : joined e.lines ≡ s
   letters_are = joined_cut (lengths_of h.runs.items) h.letters.items ∙ sym same
@@ -40,25 +38,23 @@ module _ (forms : List Form) (st : Settings) (h : HeldEntry) (s : List ℕ) (sam
   report_is = ap (λ (l : List ℕ). by (record_refusal st.options l) l) letters_are
 
   pub accepted_is : (list : List Interval) (marks : List ℕ) (count : ℕ) → Held st.options s list marks count
-      → report_of forms st e ≡ accepted (bodies (take count list) (take count marks))
+      → report_of forms st e ≡ accepted forms st.min_length e (take count list) (take count marks)
   accepted_is list marks count m =
       report_is ∙ ap (λ (n : ℕ). by n s) m.accepted
-      ∙ ap₂ (λ (x : List Interval) (y : List ℕ). accepted (bodies x y)) (sym m.list_is) (sym m.marks_are)
+      ∙ ap₂ (λ (x : List Interval) (y : List ℕ). accepted forms st.min_length e x y) (sym m.list_is) (sym m.marks_are)
 
   module _ (list : List Interval) (marks : List ℕ) (q : Refusal) (m : Masks st.options s list marks (Err q)) where
     not_none : eqb (number q) 0 ≡ false
     not_none = ne_eqb (number q) 0 (λ z. let p : 0 < number q = number_positive q in omega arith)
 
-    by_number : report_of forms st e ≡ cond (passes st.skip_short (number q)) (accepted (bodies [] [])) (refused (name_of e.header) (number q) s (by_form (λ f. passed f e) forms))
+    by_number : report_of forms st e ≡ cond (passes st.skip_short (number q)) (accepted forms st.min_length e [] []) (refused forms e (number q))
     by_number =
         report_is ∙ ap (λ (n : ℕ). by n s) m
-        ∙ ap (λ (t : Bool). cond t (accepted (bodies (record_mask st.options s) (record_marks st.options s)))
-        (cond (passes st.skip_short (number q)) (accepted (bodies [] [])) (refused (name_of e.header) (number q) s (by_form (λ f. passed f e) forms)))) not_none
+        ∙ ap (λ (t : Bool). cond t (accepted forms st.min_length e (record_mask st.options s) (record_marks st.options s))
+        (cond (passes st.skip_short (number q)) (accepted forms st.min_length e [] []) (refused forms e (number q)))) not_none
 
-    pub bare_is : passes st.skip_short (number q) ≡ true → report_of forms st e ≡ accepted (bodies [] [])
-    bare_is t = by_number ∙ ap (λ (b : Bool). cond b (accepted (bodies [] [])) (refused (name_of e.header) (number q) s (by_form (λ f. passed f e) forms))) t
+    pub bare_is : passes st.skip_short (number q) ≡ true → report_of forms st e ≡ accepted forms st.min_length e [] []
+    bare_is t = by_number ∙ ap (λ (b : Bool). cond b (accepted forms st.min_length e [] []) (refused forms e (number q))) t
 
-    pub refused_is : passes st.skip_short (number q) ≡ false → report_of forms st e ≡ refused (name_of e.header) (number q) h.letters.items (by_form (λ f. passed f e) forms)
-    refused_is t =
-        by_number ∙ ap (λ (b : Bool). cond b (accepted (bodies [] [])) (refused (name_of e.header) (number q) s (by_form (λ f. passed f e) forms))) t
-        ∙ ap (λ (l : List ℕ). refused (name_of e.header) (number q) l (by_form (λ f. passed f e) forms)) same
+    pub refused_is : passes st.skip_short (number q) ≡ false → report_of forms st e ≡ refused forms e (number q)
+    refused_is t = by_number ∙ ap (λ (b : Bool). cond b (accepted forms st.min_length e [] []) (refused forms e (number q))) t

@@ -33,6 +33,15 @@ pub record UpTo (n : ℕ) (a b : Writers) (g : ℕ → List ℕ) : Type 0 where
   pub before : (i : ℕ) → i < n → Appends (held a i) (held b i) (g i)
   pub after : (i : ℕ) → n ≤ i → held b i ≡ held a i
 
+-- Nothing is written.
+pub none_sent : (a : Writers) (g : ℕ → List ℕ) → StopsAt 0 a a (λ i. []) g
+none_sent a g =
+    record {
+      before = λ i h. absurd (let z : ⊥ = omega arith in z);
+      stopped = (0, omega arith, Appends-nil (held a 0));
+      after = λ i h. Appends-nil (held a i);
+    }
+
 pub upto_start : (a : Writers) (g : ℕ → List ℕ) → UpTo 0 a a g
 upto_start a g = record { before = λ i h. absurd (let z : ⊥ = omega arith in z); after = λ i h. refl }
 

@@ -1,19 +1,21 @@
 -- What is written for a record in each form, and what is said of one that is refused.
-use Rattle.std.specs.Prelude.{ℕ, zero, suc, max, Bool, true, false, cond, ◌&&◌, eqb, List, [], ◌∷◌, length}
+use Rattle.std.specs.Prelude.{ℕ, zero, suc, max, Bool, true, cond, ◌&&◌, eqb, List, [], ◌∷◌, ◌++◌, length}
 use Prim.Native.Char.{code}
 use Rattle.intervals.specs.declared.Interval.{Interval}
 use Rattle.masked_copy.specs.declared.Masking.TheVariants.{LowerCase, Replace}
 use Rattle.fasta.specs.Lines.{name_of}
 use Rattle.longdust.specs.declared.LongdustOptions.{LongdustOptions}
 use Rattle.entries.specs.Entries.{Entry, joined}
-use Rattle.entries.specs.Outcome.{Report}
+use Rattle.entries.specs.declared.sums.Sums.{Sums}
+use Rattle.entries.specs.Outcome.{Report, text_of, sums_of}
 use Rattle.masker.specs.Run.{record_refusal, record_mask, record_marks}
 use Rattle.forms.specs.declared.form.Settings.{Settings}
 use Rattle.forms.specs.declared.form.Form.{Form}
 use Rattle.forms.specs.declared.form.Form.TheVariants.{Bed, Marks, Soft, HardN, HardX, Summary, Bedgraph}
 use Rattle.forms.specs.Bed.{bed, marked_bed}
 use Rattle.forms.specs.Fasta.{plain_fasta, masked_fasta}
-use Rattle.forms.specs.Summary.{summary_head, summary}
+use Rattle.forms.specs.Counts.{accepted_sums, refused_sums}
+use Rattle.forms.specs.Summary.{summary_head, summary, summary_foot}
 use Rattle.forms.specs.Bedgraph.{bedgraph}
 use Rattle.forms.specs.Notes.{refused_note}
 
@@ -24,7 +26,7 @@ body least Marks e is marks = marked_bed least (name_of e.header) is marks
 body least Soft e is marks = masked_fasta LowerCase e is
 body least HardN e is marks = masked_fasta (Replace (code "N")) e is
 body least HardX e is marks = masked_fasta (Replace (code "X")) e is
-body least Summary e is marks = summary (name_of e.header) is (length (joined e.lines))
+body least Summary e is marks = summary (name_of e.header) (accepted_sums (joined e.lines) is)
 body least (Bedgraph size) e is marks = bedgraph (name_of e.header) is (length (joined e.lines)) (max size 1)
 
 -- A refused entry: FASTA as it came, nothing in the other forms.
@@ -47,32 +49,53 @@ head_of HardX = []
 head_of Summary = summary_head
 head_of (Bedgraph size) = []
 
+-- What stands below them, by their sums.
+abbrev pub foot_of : Sums → Form → List ℕ
+foot_of t Bed = []
+foot_of t Marks = []
+foot_of t Soft = []
+foot_of t HardN = []
+foot_of t HardX = []
+foot_of t Summary = summary_foot t
+foot_of t (Bedgraph size) = []
+
 -- What the writer with a number gets, by its form; one without a form gets nothing.
 unfoldable pub by_form : (Form → List ℕ) → List Form → ℕ → List ℕ
 by_form text [] i = []
 by_form text (f ∷ fs) zero = text f
 by_form text (f ∷ fs) (suc i) = by_form text fs i
 
-abbrev pub accepted : (ℕ → List ℕ) → Report
-accepted text = record { text = text; notes = []; good = true }
+-- The report of an accepted entry with its mask and its marks, to writers of these forms.
+abbrev pub accepted : List Form → ℕ → Entry → List Interval → List ℕ → Report
+accepted forms least e is marks =
+    record { text = by_form (λ f. body least f e is marks) forms; notes = []; sums = accepted_sums (joined e.lines) is }
 
-abbrev pub refused : (name : List ℕ) → ℕ → (letters : List ℕ) → (ℕ → List ℕ) → Report
-refused name number s text = record { text = text; notes = refused_note name number s; good = false }
+-- Of one that is refused, with the refusal's number.
+abbrev pub refused : List Form → Entry → ℕ → Report
+refused forms e number =
+    record { text = by_form (λ f. passed f e) forms; notes = refused_note (name_of e.header) number (joined e.lines); sums = refused_sums }
 
 -- Refusal 3, too few letters, where such records may pass.
 abbrev pub passes : Bool → ℕ → Bool
 passes skip number = skip && eqb number 3
 
--- By the number of a refusal, 0 for none: the text with the mask, without one, or as it came.
-abbrev pub report_by : Bool → ℕ → (name letters : List ℕ) → (text bare through : ℕ → List ℕ) → Report
-report_by skip number name s text bare through =
-    cond (eqb number 0) (accepted text) (cond (passes skip number) (accepted bare) (refused name number s through))
+-- By the number of a refusal, 0 for none: with the mask, without one, or refused.
+abbrev pub report_by : Bool → ℕ → (masked bare through : Report) → Report
+report_by skip number masked bare through = cond (eqb number 0) masked (cond (passes skip number) bare through)
 
 -- The report of an entry to writers of these forms.
 unfoldable pub report_of : List Form → Settings → Entry → Report
 report_of forms st e =
     let s : List ℕ = joined e.lines in
     let o : LongdustOptions = st.options in
-    report_by st.skip_short (record_refusal o s) (name_of e.header) s
-    (by_form (λ f. body st.min_length f e (record_mask o s) (record_marks o s)) forms)
-    (by_form (λ f. body st.min_length f e [] []) forms) (by_form (λ f. passed f e) forms)
+    report_by st.skip_short (record_refusal o s)
+    (accepted forms st.min_length e (record_mask o s) (record_marks o s))
+    (accepted forms st.min_length e [] [])
+    (refused forms e (record_refusal o s))
+
+-- ---- A file, to the writer with a number.
+-- Head, the texts of its records, and the foot by their sums.
+abbrev pub whole_text : List Form → Settings → List ℕ → ℕ → List ℕ
+whole_text forms st file i =
+    by_form head_of forms i
+    ++ (text_of true (report_of forms st) file i ++ by_form (foot_of (sums_of true (report_of forms st) file)) forms i)

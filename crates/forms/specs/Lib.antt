@@ -1,6 +1,7 @@
 pub mod Each
 pub mod Bed
 pub mod Share
+pub mod Counts
 pub mod Summary
 pub mod Bedgraph
 pub mod Fasta

@@ -43,7 +43,9 @@ impl<'a> Lines for Blocks<'a> {
         };
         let masked = self.mask.masked(range);
         add_place(text, self.name, start as u64, end as u64)?;
-        add_share(text, masked as u64, (end - start) as u64)
+        add_share(text, masked as u64, (end - start) as u64)?;
+        text.push(b'\n')?;
+        Ok(())
     }
 }
 

@@ -1,20 +1,20 @@
 // The forms, and the masker that writes some of them.
 
-ghost use Rattle.std.specs.Prelude.{◌≡◌, ◌≤◌, map, length, IfSome};
+ghost use Rattle.std.specs.Prelude.{◌≡◌, ◌≤◌, true, map, length, IfSome};
 ghost use Rattle.fasta.specs.Lines.{name_of};
 ghost use Rattle.entries.specs.Held.{entry_of};
 ghost use Rattle.entries.specs.Outcome.{Sent, AllSent, Recorded, Outcome};
 ghost use Rattle.checks.specs.Refusal.{number};
-ghost use Rattle.forms.specs.Form.{body, head_of, by_form, passes, report_of};
+ghost use Rattle.forms.specs.Form.{body, head_of, foot_of, by_form, passes, report_of};
 
 use crate::bed::{Bed, MarkedBed};
 use crate::bedgraph::write_bedgraph;
 use crate::each::write_each;
 use crate::fasta_text::write_fasta;
-use crate::outputs::{Accepted, put_accepted, put_refused};
+use crate::outputs::{Accepted, Foot, put_accepted, put_refused, write_parts};
 use crate::summary::write_summary;
 use checks::Refusal;
-use entries::{Failed, HeldEntry, Recorder, put_records, write_whole};
+use entries::{Failed, HeldEntry, Recorder, Sums, put_records, write_whole};
 use intervals::Interval;
 use longdust::LongdustOptions;
 use masked_copy::Masking;
@@ -35,7 +35,8 @@ pub enum Form {
     HardN,
     /// FASTA, X for each masked letter.
     HardX,
-    /// A line for each record: name, letters, intervals, masked letters, their share to six decimals, rounded half to even.
+    /// A line for each record: name, letters, intervals, masked letters, their share to six decimals, rounded half to even; letters N, the share of
+    /// G and C of the letters A, C, G, T and U, the masked share of the letters that are not N. The line for all has the name `#all`.
     Summary,
     /// A line for each block of so many letters: name, start, end, the masked share as above. A block of 0 letters has 1.
     Bedgraph(u32),
@@ -90,7 +91,10 @@ pub fn put_head<W: Write>(form: Form, out: &mut W) -> IoResult<()>
     ensures { Sent (W.contents out.old) (W.contents out.new) (head_of form) result }
 {
     match form {
-        Form::Summary => write_whole(out, b"#name\tletters\tintervals\tmasked\tshare\n"),
+        Form::Summary => write_whole(
+            out,
+            b"#name\tletters\tintervals\tmasked\tshare\tN\tGC\tshare_not_N\n",
+        ),
         _ => Ok(()),
     }
 }
@@ -106,6 +110,18 @@ pub fn put_heads<W: Write>(forms: &[Form], outs: &mut [W]) -> IoResult<()>
         }
     }
     Ok(())
+}
+
+/// Writes to each writer what stands below all records in its form, by their sums. The buffer is for a line.
+pub fn put_feet<W: Write>(
+    forms: &[Form],
+    sums: Sums,
+    text: &mut Vec<u8>,
+    outs: &mut [W],
+) -> IoResult<()>
+    ensures { AllSent (map (λ w. W.contents w) outs.old) (map (λ w. W.contents w) outs.new) (by_form (foot_of sums) forms.now) result }
+{
+    write_parts(forms, &Foot { sums }, text, outs)
 }
 
 /// Masks each record alone, and writes it to each writer in its form. A record that is refused is passed through as it came in FASTA, and is not in
@@ -143,7 +159,7 @@ impl<'a> Recorder for FormRecorder<'a> {
         entry: &HeldEntry,
         outs: &mut [W],
         notes: &mut N,
-    ) -> Result<bool, Failed> {
+    ) -> Result<Sums, Failed> {
         let least = self.min_length;
         let letters = entry.letters.as_slice();
         match self.masker.mask(letters, &mut self.list, &mut self.marks) {
@@ -176,19 +192,19 @@ impl<'a> Recorder for FormRecorder<'a> {
 }
 
 /// Masks each record of the file that the reader gives, alone, once, and writes it to each of `outs` in the form that stands at its place in
-/// `forms`; what is said of refused records goes to `notes`. A writer without a form gets nothing. Where `cr` is true, a byte 13 at a line's end is
-/// not of the line. Answers whether every record was accepted.
+/// `forms`; what is said of refused records goes to `notes`, and what is counted of the records that were written whole is added to `sums`. A
+/// writer without a form gets nothing. A byte 13 at a line's end is not of the line.
 pub fn put_file<R: BufRead, W: Write, N: Write>(
     alloc: Global,
     reader: &mut R,
-    cr: bool,
     forms: &[Form],
     settings: Settings,
     outs: &mut [W],
     notes: &mut N,
-) -> Result<bool, Failed>
-    ensures { IfSome (R.remaining reader.old) (λ file. Outcome cr (report_of forms.now settings) file (map (λ w. W.contents w) outs.old)
-        (map (λ w. W.contents w) outs.new) (N.contents notes.old) (N.contents notes.new) result) }
+    sums: &mut Sums,
+) -> Result<(), Failed>
+    ensures { IfSome (R.remaining reader.old) (λ file. Outcome true (report_of forms.now settings) file (map (λ w. W.contents w) outs.old)
+        (map (λ w. W.contents w) outs.new) (N.contents notes.old) (N.contents notes.new) sums.old sums.new result) }
 {
     let masker = match Masker::new(alloc, settings.options) {
         Ok(masker) => masker,
@@ -203,5 +219,5 @@ pub fn put_file<R: BufRead, W: Write, N: Write>(
         marks: Vec::new(alloc),
         text: Vec::new(alloc),
     };
-    put_records(alloc, reader, cr, &mut recorder, outs, notes)
+    put_records(alloc, reader, true, &mut recorder, outs, notes, sums)
 }

@@ -4,6 +4,7 @@
 
 mod bed;
 mod bedgraph;
+mod counts;
 mod each;
 mod fasta_text;
 mod form;
@@ -14,5 +15,5 @@ mod share;
 mod summary;
 mod text;
 
-pub use form::{Form, FormRecorder, Settings, put_file, put_head, put_heads};
+pub use form::{Form, FormRecorder, Settings, put_feet, put_file, put_head, put_heads};
 pub use text::{add_decimal, add_place};

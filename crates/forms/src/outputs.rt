@@ -2,17 +2,18 @@
 
 ghost use Rattle.std.specs.Prelude.{◌≡◌, ℕ, List, Option, map};
 ghost use Rattle.checks.specs.Refusal.{number};
-ghost use Rattle.fasta.specs.Lines.{name_of};
 ghost use Rattle.entries.specs.Held.{entry_of};
 ghost use Rattle.entries.specs.Outcome.{Sent, AllSent, Recorded};
 ghost use Rattle.forms.specs.declared.form.Form.{Form};
-ghost use Rattle.forms.specs.Form.{body, passed, by_form, accepted, refused};
+ghost use Rattle.forms.specs.Form.{body, passed, foot_of, by_form, accepted, refused};
 
+use crate::counts::{accepted_sums, refused_sums};
 use crate::fasta_text::write_plain;
 use crate::form::{Form, write_body};
 use crate::notes::write_note;
+use crate::summary::write_foot;
 use checks::Refusal;
-use entries::{Failed, HeldEntry};
+use entries::{Failed, HeldEntry, Sums};
 use intervals::Interval;
 use std::io::{Result as IoResult, Write};
 
@@ -63,6 +64,23 @@ impl<'a> Part for Refused<'a> {
     }
 }
 
+// What stands below all records, by their sums.
+#[derive(Drop)]
+pub struct Foot {
+    pub sums: Sums,
+}
+
+impl Part for Foot {
+    ghost text = { λ t f. foot_of t.sums f };
+
+    fn write<W: Write>(&self, form: Form, room: &mut Vec<u8>, out: &mut W) -> IoResult<()> {
+        match form {
+            Form::Summary => write_foot(self.sums, room, out),
+            _ => Ok(()),
+        }
+    }
+}
+
 // Writes to each writer by its form; to one without a form nothing.
 pub fn write_parts<P: Part, W: Write>(
     forms: &[Form],
@@ -87,13 +105,17 @@ pub fn put_accepted<W: Write>(
     part: &Accepted,
     room: &mut Vec<u8>,
     outs: &mut [W],
-) -> Result<bool, Failed>
+) -> Result<Sums, Failed>
     ensures { (notes : Option (List ℕ)) → Recorded
-        (accepted (by_form (λ f. body part.now.least f (entry_of part.now.entry.now) part.now.list.now part.now.marks.now) forms.now))
+        (accepted forms.now part.now.least (entry_of part.now.entry.now) part.now.list.now part.now.marks.now)
         (map (λ w. W.contents w) outs.old) (map (λ w. W.contents w) outs.new) notes notes result }
 {
+    let sums = match accepted_sums(part.entry.letters.as_slice(), part.list) {
+        Ok(sums) => sums,
+        Err(e) => return Err(Failed::Writing(e)),
+    };
     match write_parts(forms, part, room, outs) {
-        Ok(()) => Ok(true),
+        Ok(()) => Ok(sums),
         Err(e) => Err(Failed::Writing(e)),
     }
 }
@@ -106,16 +128,15 @@ pub fn put_refused<W: Write, N: Write>(
     room: &mut Vec<u8>,
     outs: &mut [W],
     notes: &mut N,
-) -> Result<bool, Failed>
-    ensures { Recorded
-        (refused (name_of (entry_of entry.now).header) (number refusal) entry.now.letters.items (by_form (λ f. passed f (entry_of entry.now)) forms.now))
+) -> Result<Sums, Failed>
+    ensures { Recorded (refused forms.now (entry_of entry.now) (number refusal))
         (map (λ w. W.contents w) outs.old) (map (λ w. W.contents w) outs.new) (N.contents notes.old) (N.contents notes.new) result }
 {
     if let Err(e) = write_parts(forms, &Refused { entry }, room, outs) {
         return Err(Failed::Writing(e));
     }
     match write_note(room, entry.name(), entry.letters.as_slice(), refusal, notes) {
-        Ok(()) => Ok(false),
+        Ok(()) => Ok(refused_sums()),
         Err(e) => Err(Failed::Saying(e)),
     }
 }

@@ -1,6 +1,7 @@
 -- Terms of contracts: what a record's text is to the reader of records.
-use Rattle.std.specs.Prelude.{ℕ, zero, suc, true, List, []}
+use Rattle.std.specs.Prelude.{ℕ, zero, suc, List, []}
 use Rattle.entries.specs.Entries.{Entry, record_of}
+use Rattle.entries.specs.Sums.{no_sums}
 use Rattle.entries.specs.Outcome.{Report}
 use Rattle.longdust.specs.declared.LongdustOptions.{LongdustOptions}
 use Rattle.contigs_text.specs.declared.Limits.{Limits}
@@ -12,4 +13,4 @@ to_first text zero = text
 to_first text (suc i) = []
 
 abbrev pub report_of : Limits → LongdustOptions → Entry → Report
-report_of l o e = record { text = to_first (record_text l o (record_of e)); notes = []; good = true }
+report_of l o e = record { text = to_first (record_text l o (record_of e)); notes = []; sums = no_sums }

@@ -11,7 +11,7 @@ returns-in-Ok c =
     let some : 0 < length c.put_records.new.outs = search rules in
     made c.args.limits c.args.options c.args.file.now c.requires c.in_ok-new.field-0.options c.in_ok-new.ensures c.clear.new.self.items _
     c.clear.ensures.items _ _ (rw c.from_mut.ensures.value refl) (get_or-map _ c.put_records.new.outs 0 c.clear.new.self None some)
-    c.in-Ok.field-0 c.in-Ok.ensures.outcome
+    _ _ c.in-Ok.ensures.outcome
 
 pub returns-in-Err-Faulty : goal.returns-in-Err-Faulty
 returns-in-Err-Faulty c =
@@ -19,6 +19,6 @@ returns-in-Err-Faulty c =
     (λ p.
     p
     ∙ ap (λ (l : List ℕ). l ++ refusal_line (fault_number c.in-Err-Faulty.fault)) c.clear-in-Err-Faulty.ensures.items
-    ∙ made_fault c.args.limits c.args.options c.args.file.now c.requires c.in_ok-new.field-0.options _ _ c.in-Err-Faulty.fault c.in-Err-Faulty.field-0
+    ∙ made_fault c.args.limits c.args.options c.args.file.now c.requires c.in_ok-new.field-0.options _ _ _ _ c.in-Err-Faulty.fault c.in-Err-Faulty.field-0
     c.in-Err-Faulty.field-0-is c.in-Err-Faulty.ensures.outcome)
     c.add_fault.ensures

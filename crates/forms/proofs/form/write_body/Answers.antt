@@ -4,6 +4,7 @@ use Rattle.entries.proofs.Sending.{sent_as}
 use Rattle.forms.specs.declared.form.Form.{Form}
 use Rattle.forms.specs.Bed.{bed, marked_bed}
 use Rattle.forms.specs.Form.{body}
+use Rattle.forms.specs.Counts.{accepted_sums}
 use Rattle.forms.specs.Summary.{summary}
 use Rattle.forms.specs.Bedgraph.{bedgraph}
 use Rattle.entries.specs.Held.{lengths_of}
@@ -46,7 +47,7 @@ pub returns-in-Summary : goal.returns-in-Summary
 returns-in-Summary g c =
     let e = c.args.entry.now in
     sent_as _ _ _ _ c.write_summary.result
-    (ap (λ (l : List ℕ). summary (name_of e.header.items) c.args.list.now (length l)) (sym (joined_cut (lengths_of e.runs.items) e.letters.items))
+    (ap (λ (l : List ℕ). summary (name_of e.header.items) (accepted_sums l c.args.list.now)) (sym (joined_cut (lengths_of e.runs.items) e.letters.items))
     ∙ ap (λ (f : Form). body c.args.least f (entry_of e) c.args.list.now c.args.marks.now) (sym c.in-Summary.is))
     c.write_summary.ensures
 
