@@ -9,4 +9,4 @@ mod text;
 mod units;
 mod work;
 
-pub use ranker::{Means, Ranker, Record, Wanted, add_head};
+pub use ranker::{Means, Ranker, Record, Wanted, head};

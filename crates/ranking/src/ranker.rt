@@ -1,7 +1,7 @@
 // What is asked of a record, and the lines of its strongest stretches.
 
 ghost use Rattle.std.specs.Prelude.{◌≡◌, ◌++◌, ◌<◌, ◌^◌, length, cond, OnOk, IfOk};
-ghost use Rattle.ranking.specs.Ranking.{head, asked_of, most, Answers};
+ghost use Rattle.ranking.specs.Ranking.{head, asked_of, most, listing, Answers};
 
 use crate::units::{fill_units, units};
 use crate::work::Work;
@@ -45,13 +45,11 @@ pub struct Wanted {
     pub whole: bool,
 }
 
-/// Appends the line that names the columns.
-pub fn add_head(text: &mut Vec<u8>) -> Result<(), AllocError>
-    ensures { OnOk result (text.new.items ≡ text.old.items ++ head) }
+/// The line that names the columns.
+pub fn head() -> &'static [u8]
+    ensures { result.now ≡ head }
 {
-    text.extend_from_slice(
-        b"#name\tstart\tend\trank\tscore\tscore_a_place\tplaces\tregion_start\tregion_end\trank_in_region\tmost_frequent_kmer\tletters\n",
-    )
+    b"#name\tstart\tend\trank\tscore\tscore_a_place\tplaces\tregion_start\tregion_end\trank_in_region\tmost_frequent_kmer\tletters\n"
 }
 
 fn choose<'a>(whole: bool, all: &'a [Interval], mask: &'a [Interval]) -> &'a [Interval]
@@ -110,5 +108,22 @@ impl Ranker {
         };
         self.work
             .add_ranking(contig.name, &request, wanted.most.min(n), text)
+    }
+
+    /// The same, where a record that is refused has no lines.
+    pub fn add_listing(
+        &mut self,
+        contig: &Record,
+        means: &Means,
+        wanted: Wanted,
+        text: &mut Vec<u8>,
+    ) -> Result<(), AllocError>
+        ensures { OnOk result (text.new.items
+            ≡ text.old.items ++ listing contig.now.name.now (asked_of wanted means.now contig.now) (most wanted contig.now.letters.now)) }
+    {
+        match self.add_ranking(contig, means, wanted, text) {
+            Ok(_) => Ok(()),
+            Err(e) => Err(e),
+        }
     }
 }
