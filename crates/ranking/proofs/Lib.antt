@@ -1,3 +1,4 @@
 pub mod Counting
+pub mod Frequent
 pub mod Parts
 pub mod Listing
