@@ -6,10 +6,12 @@ mod held;
 mod kinds;
 mod numbers;
 mod plans;
+mod scores;
 mod sizes;
 
 pub use held::{fixed_bytes, letter_tenths};
 pub use kinds::{Kind, kind_of};
 pub use numbers::number;
 pub use plans::{add_line, add_number};
+pub use scores::score;
 pub use sizes::size;

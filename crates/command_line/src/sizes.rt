@@ -29,7 +29,7 @@ fn unit(text: &[u8]) -> Option<u64>
 }
 
 // How many digits stand first.
-fn digits(text: &[u8]) -> usize
+pub fn digits(text: &[u8]) -> usize
     ensures digits { result ≡ prefix_len is_digit text.now }
     ensures bound { result ≤ length text.now }
 {
@@ -37,7 +37,7 @@ fn digits(text: &[u8]) -> usize
 }
 
 // The digits behind a point.
-fn part(text: &[u8]) -> &[u8]
+pub fn part(text: &[u8]) -> &[u8]
     ensures { result.now ≡ part text.now }
 {
     if text.is_empty() {
@@ -51,7 +51,7 @@ fn part(text: &[u8]) -> &[u8]
 }
 
 // What stands behind these.
-fn behind(text: &[u8]) -> &[u8]
+pub fn behind(text: &[u8]) -> &[u8]
     ensures { result.now ≡ behind text.now }
 {
     if text.is_empty() {
@@ -101,7 +101,7 @@ fn share(unit: u64, part: &[u8]) -> Option<u64>
 
 // Whole units and a part of one.
 #[tactic(auto, unfolding(crate::specs::Size::size_by))]
-fn size_by(whole: &[u8], part: &[u8], unit: u64) -> Option<u64>
+pub fn size_by(whole: &[u8], part: &[u8], unit: u64) -> Option<u64>
     requires { (1 ≤ unit) × (unit ≤ 1099511627776) }
     ensures { result ≡ size_by whole.now part.now unit }
 {

@@ -117,8 +117,8 @@ density_served k Uniform s t h = refl
 density_served k (Fixed x) s t h = refl
 density_served k Auto s t h = absurd (true≢false h)
 
-put_all : (xs d : List Float) → length xs ≡ length d → put xs d ≡ xs
-put_all xs d e = ap (λ (l : List Float). xs ++ l) (drop_of_length-le d (omega arith)) ∙ append-nil xs
+pub put_all : {A : Type 0} (xs d : List A) → length xs ≡ length d → put xs d ≡ xs
+put_all {A} xs d e = ap (λ (l : List A). xs ++ l) (drop_of_length-le d (omega arith)) ∙ append-nil xs
 
 pub none_served : (o : LongdustOptions) (ln f : List Float) → serves_all o ≡ false → TablesFor o ln f
 none_served o ln f e = λ s h. absurd (true≢false (sym h ∙ e))

@@ -6,6 +6,8 @@ mod calls;
 mod checking;
 mod masker;
 mod tables_kept;
+mod tables_lent;
 mod work;
 
 pub use masker::Masker;
+pub use tables_lent::TableRoom;

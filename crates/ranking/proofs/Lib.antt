@@ -1,2 +1,4 @@
+pub mod Counting
+pub mod Frequent
 pub mod Parts
 pub mod Listing

@@ -6,7 +6,7 @@ use Rattle.intervals.specs.Interval.{interval}
 use Rattle.intervals.proofs.Slice.{list_next}
 use Rattle.ranking.specs.Text.{each}
 use Rattle.strongest_list.specs.Stretches.{Asked}
-use Rattle.ranking.specs.Ranking.{place, places_of, amount, scores, region_at, begun_in, within, first_letters, ending, line}
+use Rattle.ranking.specs.Ranking.{place, places_of, amount, scores, region_at, begun_in, within, letters_in, ending, line}
 
 -- ---- The region, from the front of the list.
 module _ (rs : List Interval) (x i : ℕ) (e : region_at rs x ≡ region_at (drop i rs) x) where
@@ -24,17 +24,13 @@ module _ (rs : List Interval) (x i : ℕ) (e : region_at rs x ≡ region_at (dro
   unfolding region_at
   region_end h = sym (e ∙ ap (λ (l : List Interval). region_at l x) (drop_of_length-le rs h))
 
--- ---- The first letters, cut from a slice.
-pub cut_is : (s e a b c : ℕ) (xs : List ℕ) → a ≡ min e (length xs) → b ≡ min s (length (take a xs))
-    → c ≡ min 40 (length (take (length (take a xs) - b) (drop b (take a xs))))
-    → take c (take (length (take a xs) - b) (drop b (take a xs))) ≡ take 40 (drop s (take e xs))
-cut_is s e a b c xs p q r =
+-- ---- The letters, cut from a slice.
+pub cut_is : (s e a b : ℕ) (xs : List ℕ) → a ≡ min e (length xs) → b ≡ min s (length (take a xs))
+    → take (length (take a xs) - b) (drop b (take a xs)) ≡ drop s (take e xs)
+cut_is s e a b xs p q =
     let ys : List ℕ = take a xs in
-    let zs : List ℕ = take (length ys - b) (drop b ys) in
-    ap (λ (n : ℕ). take n zs) r ∙ take_min 40 zs
-    ∙ ap (λ (l : List ℕ). take 40 l)
-    (take_all (length ys - b) (drop b ys) (omega (arith, length-drop b ys)) ∙ ap (λ (n : ℕ). drop n ys) q ∙ drop_min s ys
-    ∙ ap (λ (l : List ℕ). drop s l) (ap (λ (n : ℕ). take n xs) p ∙ take_min e xs))
+    take_all (length ys - b) (drop b ys) (omega (arith, length-drop b ys)) ∙ ap (λ (n : ℕ). drop n ys) q ∙ drop_min s ys
+    ∙ ap (λ (l : List ℕ). drop s l) (ap (λ (n : ℕ). take n xs) p ∙ take_min e xs)
 
 -- ---- All lines.
 module _ (f : ℕ → List ℕ) (text : List ℕ) where
@@ -57,8 +53,8 @@ module _ (name : List ℕ) (A : Asked) (is : List Interval) (zs : List ℤ) (i :
   here = get_or is i (interval 0 0)
 
   pub line_is : (t a b c d l : List ℕ) (s p k : ℕ) (r : Interval)
-      → s ≡ amount (get_or zs i (pos 0)) → p ≡ places_of A.kmer here → k ≡ begun_in r (take (i + 1) is) → r ≡ region_at A.regions here.start → l ≡ first_letters A.sequence here
-      → a ≡ t ++ place name here → b ≡ a ++ scores (i + 1) s p → c ≡ b ++ within r k → d ≡ c ++ ending l → d ≡ t ++ line name A is zs i
+      → s ≡ amount (get_or zs i (pos 0)) → p ≡ places_of A.kmer here → k ≡ begun_in r (take (i + 1) is) → r ≡ region_at A.regions here.start → l ≡ letters_in A.sequence here
+      → a ≡ t ++ place name here → b ≡ a ++ scores (i + 1) s p → c ≡ b ++ within r k → d ≡ c ++ ending A.kmer l → d ≡ t ++ line name A is zs i
   line_is t a b c d l s p k r es ep ek er el ea eb ec ed =
-      more t a d (place name here) _ ea (more a b d (scores (i + 1) s p) _ eb (more b c d (within r k) (ending l) ec ed))
+      more t a d (place name here) _ ea (more a b d (scores (i + 1) s p) _ eb (more b c d (within r k) (ending A.kmer l) ec ed))
       ∙ (rw (es, ep, ek, er, el) refl)

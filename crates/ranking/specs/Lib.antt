@@ -1,4 +1,5 @@
 pub mod Text
 pub mod Units
+pub mod Kmers
 pub mod Ranking
 pub mod Terms

@@ -1,5 +1,5 @@
 -- What is written of a record's strongest stretches: a line each, by rank, below a head.
-use Rattle.std.specs.Prelude.{◌≡◌, ℕ, ◌+◌, ◌-◌, ◌/◌, ◌*◌, ◌^◌, min, max, Bool, cond, ◌&&◌, List, [], ◌∷◌, ◌++◌, map, take, drop, length, get_or, ltb, leb, ℤ, pos, negsuc, Result, Ok, Err, Float}
+use Rattle.std.specs.Prelude.{◌≡◌, ℕ, ◌+◌, ◌-◌, ◌/◌, ◌*◌, ◌^◌, min, max, Bool, cond, ◌&&◌, List, [], ◌∷◌, ◌++◌, map, take, drop, length, get_or, ltb, leb, eqb, ℤ, pos, negsuc, Result, Ok, Err, Float}
 use Rattle.std.specs.List.{count_by}
 use Rattle.checks.specs.declared.refusal.Refusal.{Refusal}
 use Rattle.checks.specs.Refusal.{number}
@@ -10,16 +10,18 @@ use Rattle.strongest_list.specs.Stretches.{Asked, Stretch, strongest}
 use Rattle.strongest_list.specs.Call.{asked, letters_of, scores_of}
 use Rattle.strongest_list.specs.Checks.{refusal}
 use Rattle.ranking.specs.declared.ranker.Record.{Record}
-use Rattle.ranking.specs.declared.ranker.Tables.{Tables}
+use Rattle.ranking.specs.declared.ranker.Means.{Means}
 use Rattle.ranking.specs.declared.ranker.Wanted.{Wanted}
 use Rattle.ranking.specs.Text.{each, column, ten_thousandths, four_decimals}
 use Rattle.ranking.specs.Units.{units}
+use Rattle.ranking.specs.Kmers.{most_frequent}
 
 -- ---- The head.
 abbrev pub head : List ℕ
-head = ascii "#name\tstart\tend\trank\tscore\tscore_a_place\tplaces\tregion_start\tregion_end\trank_in_region\tletters\n"
+head = ascii "#name\tstart\tend\trank\tscore\tscore_a_place\tplaces\tregion_start\tregion_end\trank_in_region\tmost_frequent_kmer\tletters\n"
 
--- ---- A line: name, start, end; rank, score, score a place, places; the region's start and end, the rank within it; the first 40 letters.
+-- ---- A line: name, start, end; rank, score, score a place, places; the region's start and end, the rank within it;
+-- the count of its most frequent k-mer, its first 40 letters.
 abbrev pub place : List ℕ → Interval → List ℕ
 place name i = name ++ (column i.start ++ column i.end)
 
@@ -49,11 +51,12 @@ begun_in r is = count_by (λ i. leb r.start i.start && ltb i.start r.end) is
 abbrev pub within : Interval → ℕ → List ℕ
 within r rank = column r.start ++ (column r.end ++ column rank)
 
-abbrev pub first_letters : List ℕ → Interval → List ℕ
-first_letters sequence i = take 40 (drop i.start (take i.end sequence))
+abbrev pub letters_in : List ℕ → Interval → List ℕ
+letters_in sequence i = drop i.start (take i.end sequence)
 
-abbrev pub ending : List ℕ → List ℕ
-ending letters = ascii "\t" ++ (letters ++ ascii "\n")
+-- By all its letters.
+abbrev pub ending : ℕ → List ℕ → List ℕ
+ending k letters = column (most_frequent k letters) ++ (ascii "\t" ++ (take 40 letters ++ ascii "\n"))
 
 -- Of the stretch with index i, among all with their scores.
 abbrev pub line : List ℕ → Asked → List Interval → List ℤ → ℕ → List ℕ
@@ -62,7 +65,7 @@ line name A is zs i =
     let r : Interval = region_at A.regions here.start in
     place name here
     ++ (scores (i + 1) (amount (get_or zs i (pos 0))) (places_of A.kmer here)
-    ++ (within r (begun_in r (take (i + 1) is)) ++ ending (first_letters A.sequence here)))
+    ++ (within r (begun_in r (take (i + 1) is)) ++ ending A.kmer (letters_in A.sequence here)))
 
 -- ---- All lines, of at most N stretches.
 unfoldable pub ranking : List ℕ → Asked → ℕ → List ℕ
@@ -74,16 +77,17 @@ ranking name A N =
 abbrev pub regions : Bool → ℕ → List Interval → List Interval
 regions whole n mask = cond whole (interval 0 (min n 2147483647) ∷ []) mask
 
-abbrev pub asked_for : Wanted → List ℕ → List Interval → List Float → List Float → Asked
-asked_for w sequence mask ln f =
-    asked sequence w.kmer w.window_size (units w.score_threshold) (map units ln) (map units f) (regions w.whole (length sequence) mask) w.floor
+-- By k, w, T and the tables of its mask.
+abbrev pub asked_for : Wanted → ℕ → ℕ → Float → List Float → List Float → List ℕ → List Interval → Asked
+asked_for wanted k w t ln f sequence mask =
+    asked sequence k w (units t) (map units ln) (map units f) (regions wanted.whole (length sequence) mask) wanted.floor
 
-abbrev pub asked_of : Wanted → Record → Tables → Asked
-asked_of w r t = asked_for w r.letters.now r.mask.now t.ln.now t.f.now
+abbrev pub asked_of : Wanted → Means → Record → Asked
+asked_of wanted m r = asked_for wanted m.kmer m.window_size m.score_threshold m.ln.now m.f.now r.letters.now r.mask.now
 
 -- N, or n if that is less: n letters never hold more than n stretches apart from each other.
-abbrev pub most : Wanted → Record → ℕ
-most w r = min w.most (length r.letters.now)
+abbrev pub most : Wanted → List ℕ → ℕ
+most wanted sequence = min wanted.most (length sequence)
 
 -- Buffers of the listed sizes, by k and w within their bounds; the number of the first check that fails, 0 if none does.
 abbrev pub refusal_of : Asked → ℕ
@@ -92,6 +96,10 @@ refusal_of A =
     let k : ℕ = min A.kmer 12 in
     let w : ℕ = min A.window_size 65535 in
     refusal A n (4 ^ k) (2 * w + 4096 + k) (n / (w + 4096) + 1)
+
+-- The lines of a record; none where it is refused.
+abbrev pub listing : List ℕ → Asked → ℕ → List ℕ
+listing name A N = cond (eqb (refusal_of A) 0) (ranking name A N) []
 
 -- What a record is answered, and what stands in the text then.
 pub record Ranked (name : List ℕ) (A : Asked) (N : ℕ) (before after : List ℕ) : Type 0 where

@@ -2,10 +2,11 @@
 
 #![tactic(auto)]
 
+mod kmers;
 mod lines;
 mod ranker;
 mod text;
 mod units;
 mod work;
 
-pub use ranker::{Ranker, Record, Tables, Wanted, add_head};
+pub use ranker::{Means, Ranker, Record, Wanted, head};

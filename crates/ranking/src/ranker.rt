@@ -1,7 +1,7 @@
 // What is asked of a record, and the lines of its strongest stretches.
 
 ghost use Rattle.std.specs.Prelude.{◌≡◌, ◌++◌, ◌<◌, ◌^◌, length, cond, OnOk, IfOk};
-ghost use Rattle.ranking.specs.Ranking.{head, asked_of, most, Answers};
+ghost use Rattle.ranking.specs.Ranking.{head, asked_of, most, listing, Answers};
 
 use crate::units::{fill_units, units};
 use crate::work::Work;
@@ -19,22 +19,24 @@ pub struct Record<'a> {
     pub mask: &'a [Interval],
 }
 
-/// The tables that it was masked by: ln of w + 1 entries at least, f of w + 2.
+/// By what it was masked.
 #[derive(Clone, Copy)]
-pub struct Tables<'a> {
-    pub ln: &'a [f64],
-    pub f: &'a [f64],
-}
-
-/// What is wanted.
-#[derive(Clone, Copy)]
-pub struct Wanted {
+pub struct Means<'a> {
     /// k, 1 to 12.
     pub kmer: usize,
     /// w, the most places that a stretch may have: k + 1 to 65,535.
     pub window_size: usize,
     /// T.
     pub score_threshold: f64,
+    /// The table of ln, of w + 1 entries at least.
+    pub ln: &'a [f64],
+    /// That of f, of w + 2.
+    pub f: &'a [f64],
+}
+
+/// What is wanted.
+#[derive(Clone, Copy)]
+pub struct Wanted {
     /// N: at most so many stretches.
     pub most: usize,
     /// A stretch is listed only if it scores more, in units of 2^-32.
@@ -43,13 +45,11 @@ pub struct Wanted {
     pub whole: bool,
 }
 
-/// Appends the line that names the columns.
-pub fn add_head(text: &mut Vec<u8>) -> Result<(), AllocError>
-    ensures { OnOk result (text.new.items ≡ text.old.items ++ head) }
+/// The line that names the columns.
+pub fn head() -> &'static [u8]
+    ensures { result.now ≡ head }
 {
-    text.extend_from_slice(
-        b"#name\tstart\tend\trank\tscore\tscore_a_place\tplaces\tregion_start\tregion_end\trank_in_region\tletters\n",
-    )
+    b"#name\tstart\tend\trank\tscore\tscore_a_place\tplaces\tregion_start\tregion_end\trank_in_region\tmost_frequent_kmer\tletters\n"
 }
 
 fn choose<'a>(whole: bool, all: &'a [Interval], mask: &'a [Interval]) -> &'a [Interval]
@@ -80,15 +80,15 @@ impl Ranker {
     pub fn add_ranking(
         &mut self,
         contig: &Record,
-        tables: &Tables,
+        means: &Means,
         wanted: Wanted,
         text: &mut Vec<u8>,
     ) -> Result<Result<(), Refusal>, AllocError>
-        ensures { let A = asked_of wanted contig.now tables.now in
-            IfOk result (Answers contig.now.name.now A (most wanted contig.now) text.old.items text.new.items) }
+        ensures { IfOk result
+            (Answers contig.now.name.now (asked_of wanted means.now contig.now) (most wanted contig.now.letters.now) text.old.items text.new.items) }
     {
-        fill_units(tables.ln, &mut self.ln)?;
-        fill_units(tables.f, &mut self.f)?;
+        fill_units(means.ln, &mut self.ln)?;
+        fill_units(means.f, &mut self.f)?;
         let n = contig.letters.len();
         let all = [Interval {
             start: 0,
@@ -96,10 +96,10 @@ impl Ranker {
         }];
         let request = Request {
             sequence: contig.letters,
-            kmer: wanted.kmer,
-            window_size: wanted.window_size,
+            kmer: means.kmer,
+            window_size: means.window_size,
             scoring: Scoring {
-                threshold: units(wanted.score_threshold),
+                threshold: units(means.score_threshold),
                 ln: self.ln.as_slice(),
                 f: self.f.as_slice(),
             },
@@ -108,5 +108,22 @@ impl Ranker {
         };
         self.work
             .add_ranking(contig.name, &request, wanted.most.min(n), text)
+    }
+
+    /// The same, where a record that is refused has no lines.
+    pub fn add_listing(
+        &mut self,
+        contig: &Record,
+        means: &Means,
+        wanted: Wanted,
+        text: &mut Vec<u8>,
+    ) -> Result<(), AllocError>
+        ensures { OnOk result (text.new.items
+            ≡ text.old.items ++ listing contig.now.name.now (asked_of wanted means.now contig.now) (most wanted contig.now.letters.now)) }
+    {
+        match self.add_ranking(contig, means, wanted, text) {
+            Ok(_) => Ok(()),
+            Err(e) => Err(e),
+        }
     }
 }

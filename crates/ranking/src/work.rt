@@ -5,6 +5,7 @@ ghost use Rattle.strongest_list.specs.Call.{asked_of};
 ghost use Rattle.ranking.specs.Ranking.{Answers};
 ghost use Rattle.ranking.specs.Terms.Room.{Fitted};
 
+use crate::kmers::Counting;
 use crate::lines::Listed;
 use checks::Refusal;
 use intervals::Interval;
@@ -97,7 +98,12 @@ impl Work {
                     letters: &self.letters.as_slice()[..count],
                     scores: &self.scores.as_slice()[..count],
                 };
-                listed.add_lines(text)?;
+                // Both may hold anything now.
+                let mut counting = Counting {
+                    codes: self.codes.as_mut_slice(),
+                    counts: self.newest.as_mut_slice(),
+                };
+                listed.add_lines(text, &mut counting)?;
                 Ok(Ok(()))
             }
             Err(refusal) => Ok(Err(refusal)),

@@ -1,5 +1,6 @@
-use Rattle.ranking.proofs.Parts.{cut_is}
+use Rattle.std.proofs.Common.{ap, take, ◌∙◌}
+use Rattle.std.proofs.lemmas.List.{take_min}
 use Rattle.ranking.proofs.lines.first_letters.Goals as goal
 
 pub returns : goal.returns
-returns c = cut_is c.args.i.start c.args.i.end _ _ _ c.args.sequence.now c.min.ensures c.min-2.ensures c.min-3.ensures
+returns c = ap (λ n. take n c.args.letters.now) c.min.ensures ∙ take_min 40 c.args.letters.now
