@@ -3,6 +3,7 @@ pub mod Bed
 pub mod Share
 pub mod Summary
 pub mod Bedgraph
+pub mod Strongest
 pub mod Fasta
 pub mod Notes
 pub mod Form

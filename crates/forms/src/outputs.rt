@@ -11,17 +11,18 @@ ghost use Rattle.forms.specs.Form.{body, passed, by_form, accepted, refused};
 use crate::fasta_text::write_plain;
 use crate::form::{Form, write_body};
 use crate::notes::write_note;
+use crate::room::Room;
 use checks::Refusal;
 use entries::{Failed, HeldEntry};
 use intervals::Interval;
+use masker::Masker;
 use std::io::{Result as IoResult, Write};
 
 // What is written of a record, by the form.
 pub trait Part {
     ghost text: { Self → Form → List ℕ };
 
-    // The buffer is for a line, or for masked letters.
-    fn write<W: Write>(&self, form: Form, room: &mut Vec<u8>, out: &mut W) -> IoResult<()>
+    fn write<W: Write>(&self, form: Form, room: &mut Room, out: &mut W) -> IoResult<()>
         ensures { Sent (W.contents out.old) (W.contents out.new) (text self.now form) result };
 }
 
@@ -29,18 +30,18 @@ pub trait Part {
 #[derive(Drop)]
 pub struct Accepted<'a> {
     pub entry: &'a HeldEntry,
+    // The masker that masked it.
+    pub masker: &'a Masker,
     pub least: u32,
     pub list: &'a [Interval],
     pub marks: &'a [u8],
 }
 
 impl<'a> Part for Accepted<'a> {
-    ghost text = { λ a f. body a.least f (entry_of a.entry.now) a.list.now a.marks.now };
+    ghost text = { λ a f. body a.masker.now.options a.least f (entry_of a.entry.now) a.list.now a.marks.now };
 
-    fn write<W: Write>(&self, form: Form, room: &mut Vec<u8>, out: &mut W) -> IoResult<()> {
-        write_body(
-            form, self.least, self.entry, self.list, self.marks, room, out,
-        )
+    fn write<W: Write>(&self, form: Form, room: &mut Room, out: &mut W) -> IoResult<()> {
+        write_body(form, self, room, out)
     }
 }
 
@@ -53,7 +54,7 @@ pub struct Refused<'a> {
 impl<'a> Part for Refused<'a> {
     ghost text = { λ r f. passed f (entry_of r.entry.now) };
 
-    fn write<W: Write>(&self, form: Form, room: &mut Vec<u8>, out: &mut W) -> IoResult<()> {
+    fn write<W: Write>(&self, form: Form, room: &mut Room, out: &mut W) -> IoResult<()> {
         match form {
             Form::Soft => write_plain(self.entry, out),
             Form::HardN => write_plain(self.entry, out),
@@ -67,7 +68,7 @@ impl<'a> Part for Refused<'a> {
 pub fn write_parts<P: Part, W: Write>(
     forms: &[Form],
     part: &P,
-    room: &mut Vec<u8>,
+    room: &mut Room,
     outs: &mut [W],
 ) -> IoResult<()>
     ensures { AllSent (map (λ w. W.contents w) outs.old) (map (λ w. W.contents w) outs.new) (by_form (P.text part.now) forms.now) result }
@@ -85,11 +86,11 @@ pub fn write_parts<P: Part, W: Write>(
 pub fn put_accepted<W: Write>(
     forms: &[Form],
     part: &Accepted,
-    room: &mut Vec<u8>,
+    room: &mut Room,
     outs: &mut [W],
 ) -> Result<bool, Failed>
     ensures { (notes : Option (List ℕ)) → Recorded
-        (accepted (by_form (λ f. body part.now.least f (entry_of part.now.entry.now) part.now.list.now part.now.marks.now) forms.now))
+        (accepted (by_form (λ f. body part.now.masker.now.options part.now.least f (entry_of part.now.entry.now) part.now.list.now part.now.marks.now) forms.now))
         (map (λ w. W.contents w) outs.old) (map (λ w. W.contents w) outs.new) notes notes result }
 {
     match write_parts(forms, part, room, outs) {
@@ -103,7 +104,7 @@ pub fn put_refused<W: Write, N: Write>(
     forms: &[Form],
     entry: &HeldEntry,
     refusal: Refusal,
-    room: &mut Vec<u8>,
+    room: &mut Room,
     outs: &mut [W],
     notes: &mut N,
 ) -> Result<bool, Failed>
@@ -114,7 +115,13 @@ pub fn put_refused<W: Write, N: Write>(
     if let Err(e) = write_parts(forms, &Refused { entry }, room, outs) {
         return Err(Failed::Writing(e));
     }
-    match write_note(room, entry.name(), entry.letters.as_slice(), refusal, notes) {
+    match write_note(
+        &mut room.text,
+        entry.name(),
+        entry.letters.as_slice(),
+        refusal,
+        notes,
+    ) {
         Ok(()) => Ok(false),
         Err(e) => Err(Failed::Saying(e)),
     }
