@@ -2,7 +2,7 @@
 
 use crate::request::Request;
 use command_line::{fixed_bytes, letter_tenths};
-use forms::Form;
+use forms::{Form, Wanted};
 
 /// Bytes that a run holds whatever the record, and tenths of a byte for each byte of a record, what it writes included.
 #[derive(Clone, Copy)]
@@ -21,6 +21,31 @@ fn written_tenths(form: Form) -> u64 {
         Form::HardX => 20,
         Form::Summary => 30,
         Form::Bedgraph(size) => 20 + 600 / (size.max(1) as u64),
+        Form::Strongest(wanted) => list_tenths(wanted),
+    }
+}
+
+// The most entries of a list that are counted as held whatever the record.
+const FEW: usize = 10000;
+
+// For each letter a code twice; where a list may be long, 16 bytes for each letter that may be an entry, and a line for each eighth.
+fn list_tenths(wanted: Wanted) -> u64 {
+    if wanted.most <= FEW { 30 } else { 30 + 160 + 250 }
+}
+
+// Bytes of a list whatever the record: for each k-mer 4, for each letter of a window the tables twice and a place twice; and its entries, 16 bytes and a
+// line each, where they are few.
+fn list_bytes(form: Form, kmers: u64, window: u64) -> u64 {
+    match form {
+        Form::Strongest(wanted) => {
+            let entries = if wanted.most <= FEW {
+                256 * wanted.most as u64
+            } else {
+                0
+            };
+            4 * kmers + 56 * (window + 4096) + entries
+        }
+        _ => 0,
     }
 }
 
@@ -28,14 +53,14 @@ fn written_tenths(form: Form) -> u64 {
 pub fn held_by(request: &Request) -> Held {
     let kmer = request.settings.options.kmer.min(12) as u16;
     let window = request.settings.options.window_size.min(65535) as u16;
+    let kmers = 1u32 << (2 * kmer);
+    let mut fixed = fixed_bytes(kmers, window);
     let mut tenths = letter_tenths(kmer);
     for output in &request.outputs {
         tenths = tenths.saturating_add(written_tenths(output.form));
+        fixed = fixed.saturating_add(list_bytes(output.form, kmers as u64, window as u64));
     }
-    Held {
-        fixed: fixed_bytes(1u32 << (2 * kmer), window),
-        tenths,
-    }
+    Held { fixed, tenths }
 }
 
 impl Held {
