@@ -22,6 +22,7 @@ fn written_tenths(form: Form) -> u64 {
         Form::Summary => 30,
         Form::Bedgraph(size) => 20 + 600 / (size.max(1) as u64),
         Form::Strongest(wanted) => list_tenths(wanted),
+        Form::Free(_) => 30,
     }
 }
 

@@ -197,13 +197,29 @@ fn lists<'a>(alloc: Global, command: Command<'a>) -> Result<Command<'a>, AllocEr
         .arg(whole.help_heading(FORMS))
 }
 
+// Where a probe may stand.
+fn free<'a>(alloc: Global, command: Command<'a>) -> Result<Command<'a>, AllocError> {
+    let free = form(
+        alloc,
+        "free",
+        "BED of the stretches where a probe may stand: letters A, C, G, T and U that are not masked",
+    );
+    let pad = value(
+        alloc,
+        "pad",
+        "P",
+        "with --free: letters kept clear on both sides of a masked one, 0 to 2147483647 (0)",
+    );
+    command.arg(free)?.arg(pad.help_heading(FORMS))
+}
+
 // Which records and intervals count.
 fn limits<'a>(alloc: Global, command: Command<'a>) -> Result<Command<'a>, AllocError> {
     let length = value(
         alloc,
         "min-length",
         "L",
-        "intervals of fewer letters are left out of BED and marks, 0 to 4294967295",
+        "intervals of fewer letters are left out of BED, marks and --free, 0 to 4294967295",
     );
     let short = flag(
         alloc,
@@ -292,7 +308,7 @@ pub fn command<'a>(alloc: Global) -> Result<Command<'a>, AllocError> {
         .after_help(NOTES)
         .args_override_self(true)
         .arg(files)?;
-    let written = limits(alloc, lists(alloc, forms(alloc, command)?)?)?;
+    let written = limits(alloc, free(alloc, lists(alloc, forms(alloc, command)?)?)?)?;
     last(
         alloc,
         parts(alloc, running(alloc, masker(alloc, written)?)?)?,

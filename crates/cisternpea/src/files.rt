@@ -231,11 +231,11 @@ fn flush_all<W: Write>(writers: &mut [W]) -> std::io::Result<()> {
 // What stands below the records; for a part its numbers.
 fn write_end(rt: &HostRuntime, request: &Request, outs: &mut Outs) -> std::io::Result<()> {
     if request.part.is_none() {
-        let mut text = Vec::new(rt.alloc());
+        let mut room = forms::Room::new(rt.alloc());
         forms::put_feet(
             outs.forms.as_slice(),
             outs.sums,
-            &mut text,
+            &mut room,
             outs.writers.as_mut_slice(),
         )?;
     }

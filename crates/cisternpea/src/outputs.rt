@@ -24,6 +24,7 @@ pub fn word(form: Form) -> &'static str {
         Form::Summary => "--summary",
         Form::Bedgraph(_) => "--bedgraph",
         Form::Strongest(_) => "--strongest",
+        Form::Free(_) => "--free",
     }
 }
 
@@ -186,6 +187,38 @@ fn add_strongest<'a>(
     Ok(lists_asked(rt, matches))
 }
 
+// The letters kept clear beside a masked one; 0 if no number is given.
+fn pad(rt: &HostRuntime, matches: &ArgMatches) -> Option<u32> {
+    let text = match matches.get_str("pad") {
+        Some(text) => text,
+        None => return Some(0),
+    };
+    match whole(text, 0, 2147483647) {
+        Some(pad) => Some(pad.min(2147483647) as u32),
+        None => {
+            wrong(rt, "--pad", text, "a whole number from 0 to 2147483647");
+            None
+        }
+    }
+}
+
+fn add_free<'a>(
+    rt: &HostRuntime,
+    matches: &ArgMatches<'a>,
+    outputs: &mut Vec<Output<'a>>,
+) -> Result<bool, AllocError> {
+    let pad = match pad(rt, matches) {
+        Some(pad) => pad,
+        None => return Ok(false),
+    };
+    if matches.get_raw("free").is_none() & matches.get_str("pad").is_some() {
+        let _ = eprintln!(rt; "cisternpea: --pad: it goes with --free");
+        return Ok(false);
+    }
+    add_plain(matches, "free", Form::Free(pad), outputs)?;
+    Ok(true)
+}
+
 // Whether at most one of them has no file; else a line says which two have none.
 fn one_without_file(rt: &HostRuntime, outputs: &[Output<'_>]) -> bool {
     let mut first = "";
@@ -242,6 +275,9 @@ pub fn read_outputs<'a>(
         return Ok(None);
     }
     if !add_strongest(rt, matches, &mut given)? {
+        return Ok(None);
+    }
+    if !add_free(rt, matches, &mut given)? {
         return Ok(None);
     }
     let main = matches.get_str("output");

@@ -164,6 +164,7 @@ fn add_words(
         "min-start-cnt",
         "min-length",
         "floor",
+        "pad",
     ] {
         add_option(alloc, text, b'w', matches, name)?;
     }

@@ -11,7 +11,7 @@ use Rattle.entries.specs.Outcome.{Report, text_of, sums_of}
 use Rattle.masker.specs.Run.{record_refusal, record_mask, record_marks}
 use Rattle.forms.specs.declared.form.Settings.{Settings}
 use Rattle.forms.specs.declared.form.Form.{Form}
-use Rattle.forms.specs.declared.form.Form.TheVariants.{Bed, Marks, Soft, HardN, HardX, Summary, Bedgraph, Strongest}
+use Rattle.forms.specs.declared.form.Form.TheVariants.{Bed, Marks, Soft, HardN, HardX, Summary, Bedgraph, Strongest, Free}
 use Rattle.forms.specs.Bed.{bed, marked_bed}
 use Rattle.forms.specs.Fasta.{plain_fasta, masked_fasta}
 use Rattle.forms.specs.Counts.{accepted_sums, refused_sums}
@@ -19,6 +19,7 @@ use Rattle.forms.specs.Summary.{summary_head, summary, summary_foot}
 use Rattle.forms.specs.Bedgraph.{bedgraph}
 use Rattle.ranking.specs.Ranking.{head}
 use Rattle.forms.specs.Strongest.{strongest_lines}
+use Rattle.forms.specs.Free.{free_lines}
 use Rattle.forms.specs.Notes.{refused_note}
 
 -- An accepted entry with the mask and the marks that these options give; intervals shorter than `least` have no line.
@@ -31,6 +32,7 @@ body o least HardX e is marks = masked_fasta (Replace (code "X")) e is
 body o least Summary e is marks = summary (name_of e.header) (accepted_sums (joined e.lines) is)
 body o least (Bedgraph size) e is marks = bedgraph (name_of e.header) is (length (joined e.lines)) (max size 1)
 body o least (Strongest wanted) e is marks = strongest_lines o wanted (name_of e.header) (joined e.lines) is
+body o least (Free pad) e is marks = free_lines pad least (name_of e.header) (joined e.lines) is
 
 -- A refused entry: FASTA as it came, nothing in the other forms.
 abbrev pub passed : Form → Entry → List ℕ
@@ -42,6 +44,7 @@ passed HardX e = plain_fasta e
 passed Summary e = []
 passed (Bedgraph size) e = []
 passed (Strongest wanted) e = []
+passed (Free pad) e = []
 
 -- What stands above all records.
 abbrev pub head_of : Form → List ℕ
@@ -53,6 +56,7 @@ head_of HardX = []
 head_of Summary = summary_head
 head_of (Bedgraph size) = []
 head_of (Strongest wanted) = head
+head_of (Free pad) = []
 
 -- What stands below them, by their sums.
 abbrev pub foot_of : Sums → Form → List ℕ
@@ -64,6 +68,7 @@ foot_of t HardX = []
 foot_of t Summary = summary_foot t
 foot_of t (Bedgraph size) = []
 foot_of t (Strongest wanted) = []
+foot_of t (Free pad) = []
 
 -- What the writer with a number gets, by its form; one without a form gets nothing.
 unfoldable pub by_form : (Form → List ℕ) → List Form → ℕ → List ℕ

@@ -5,6 +5,7 @@ pub mod Counts
 pub mod Summary
 pub mod Bedgraph
 pub mod Strongest
+pub mod Free
 pub mod Fasta
 pub mod Notes
 pub mod Form

@@ -11,6 +11,7 @@ use crate::bed::{Bed, MarkedBed};
 use crate::bedgraph::write_bedgraph;
 use crate::each::write_each;
 use crate::fasta_text::write_fasta;
+use crate::free_lines::write_free;
 use crate::outputs::{Accepted, Foot, put_accepted, put_refused, write_parts};
 use crate::ranked::write_strongest;
 use crate::room::Room;
@@ -47,6 +48,9 @@ pub enum Form {
     /// places, the region's start and end, the rank within it, the count of its most frequent k-mer, its first 40 letters. A record whose T is 16 or more
     /// has none.
     Strongest(Wanted),
+    /// A line for each stretch where a probe may stand: name, start, end. Its letters are A, C, G, T or U, and more than so many letters lie
+    /// between each of them and any masked letter.
+    Free(u32),
 }
 
 /// How records are masked, and what becomes of some of them.
@@ -56,7 +60,7 @@ pub struct Settings {
     pub options: LongdustOptions,
     /// A record of fewer than k + 1 letters is accepted and has no mask; else it is refused (3).
     pub skip_short: bool,
-    /// Intervals of fewer letters are left out of BED, with marks and without.
+    /// Intervals of fewer letters are left out of BED, with marks and without, and of the stretches where a probe may stand.
     pub min_length: u32,
 }
 
@@ -93,6 +97,7 @@ pub fn write_body<W: Write>(
         Form::Summary => write_summary(entry, list, &mut room.text, out),
         Form::Bedgraph(size) => write_bedgraph(entry, list, size, &mut room.text, out),
         Form::Strongest(wanted) => write_strongest(part, wanted, room, out),
+        Form::Free(pad) => write_free(part, pad, room, out),
     }
 }
 

@@ -8,6 +8,7 @@ mod counts;
 mod each;
 mod fasta_text;
 mod form;
+mod free_lines;
 mod masked;
 mod notes;
 mod outputs;

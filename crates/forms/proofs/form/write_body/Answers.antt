@@ -8,6 +8,7 @@ use Rattle.forms.specs.Counts.{accepted_sums}
 use Rattle.forms.specs.Summary.{summary}
 use Rattle.forms.specs.Bedgraph.{bedgraph}
 use Rattle.forms.specs.Strongest.{strongest_lines}
+use Rattle.forms.specs.Free.{free_lines}
 use Rattle.entries.specs.Held.{lengths_of}
 use Rattle.entries.proofs.Kept.{joined_cut}
 use Rattle.fasta.specs.Lines.{name_of}
@@ -68,3 +69,12 @@ returns-in-Strongest g c =
     (ap (λ (l : List ℕ). strongest_lines p.masker.now.options c.in-Strongest.wanted (name_of e.header.items) l p.list.now) (sym (joined_cut (lengths_of e.runs.items) e.letters.items))
     ∙ ap (λ (f : Form). body p.masker.now.options p.least f (entry_of e) p.list.now p.marks.now) (sym c.in-Strongest.is))
     c.write_strongest.ensures
+
+pub returns-in-Free : goal.returns-in-Free
+returns-in-Free g c =
+    let p = c.args.part.now in
+    let e = p.entry.now in
+    sent_as _ _ _ _ c.write_free.result
+    (ap (λ (l : List ℕ). free_lines c.in-Free.pad p.least (name_of e.header.items) l p.list.now) (sym (joined_cut (lengths_of e.runs.items) e.letters.items))
+    ∙ ap (λ (f : Form). body p.masker.now.options p.least f (entry_of e) p.list.now p.marks.now) (sym c.in-Free.is))
+    c.write_free.ensures
