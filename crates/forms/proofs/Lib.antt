@@ -1,6 +1,7 @@
 pub mod Numbered
 pub mod Reports
 pub mod Runs
+pub mod Stretches
 pub mod Blocks
 pub mod Shares
 pub mod Counted

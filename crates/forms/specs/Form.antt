@@ -11,23 +11,26 @@ use Rattle.entries.specs.Outcome.{Report, text_of, sums_of}
 use Rattle.masker.specs.Run.{record_refusal, record_mask, record_marks}
 use Rattle.forms.specs.declared.form.Settings.{Settings}
 use Rattle.forms.specs.declared.form.Form.{Form}
-use Rattle.forms.specs.declared.form.Form.TheVariants.{Bed, Marks, Soft, HardN, HardX, Summary, Bedgraph}
+use Rattle.forms.specs.declared.form.Form.TheVariants.{Bed, Marks, Soft, HardN, HardX, Summary, Bedgraph, Strongest}
 use Rattle.forms.specs.Bed.{bed, marked_bed}
 use Rattle.forms.specs.Fasta.{plain_fasta, masked_fasta}
 use Rattle.forms.specs.Counts.{accepted_sums, refused_sums}
 use Rattle.forms.specs.Summary.{summary_head, summary, summary_foot}
 use Rattle.forms.specs.Bedgraph.{bedgraph}
+use Rattle.ranking.specs.Ranking.{head}
+use Rattle.forms.specs.Strongest.{strongest_lines}
 use Rattle.forms.specs.Notes.{refused_note}
 
--- An accepted entry with its mask and its marks; intervals shorter than `least` have no line.
-abbrev pub body : ℕ → Form → Entry → List Interval → List ℕ → List ℕ
-body least Bed e is marks = bed least (name_of e.header) is
-body least Marks e is marks = marked_bed least (name_of e.header) is marks
-body least Soft e is marks = masked_fasta LowerCase e is
-body least HardN e is marks = masked_fasta (Replace (code "N")) e is
-body least HardX e is marks = masked_fasta (Replace (code "X")) e is
-body least Summary e is marks = summary (name_of e.header) (accepted_sums (joined e.lines) is)
-body least (Bedgraph size) e is marks = bedgraph (name_of e.header) is (length (joined e.lines)) (max size 1)
+-- An accepted entry with the mask and the marks that these options give; intervals shorter than `least` have no line.
+abbrev pub body : LongdustOptions → ℕ → Form → Entry → List Interval → List ℕ → List ℕ
+body o least Bed e is marks = bed least (name_of e.header) is
+body o least Marks e is marks = marked_bed least (name_of e.header) is marks
+body o least Soft e is marks = masked_fasta LowerCase e is
+body o least HardN e is marks = masked_fasta (Replace (code "N")) e is
+body o least HardX e is marks = masked_fasta (Replace (code "X")) e is
+body o least Summary e is marks = summary (name_of e.header) (accepted_sums (joined e.lines) is)
+body o least (Bedgraph size) e is marks = bedgraph (name_of e.header) is (length (joined e.lines)) (max size 1)
+body o least (Strongest wanted) e is marks = strongest_lines o wanted (name_of e.header) (joined e.lines) is
 
 -- A refused entry: FASTA as it came, nothing in the other forms.
 abbrev pub passed : Form → Entry → List ℕ
@@ -38,6 +41,7 @@ passed HardN e = plain_fasta e
 passed HardX e = plain_fasta e
 passed Summary e = []
 passed (Bedgraph size) e = []
+passed (Strongest wanted) e = []
 
 -- What stands above all records.
 abbrev pub head_of : Form → List ℕ
@@ -48,6 +52,7 @@ head_of HardN = []
 head_of HardX = []
 head_of Summary = summary_head
 head_of (Bedgraph size) = []
+head_of (Strongest wanted) = head
 
 -- What stands below them, by their sums.
 abbrev pub foot_of : Sums → Form → List ℕ
@@ -58,6 +63,7 @@ foot_of t HardN = []
 foot_of t HardX = []
 foot_of t Summary = summary_foot t
 foot_of t (Bedgraph size) = []
+foot_of t (Strongest wanted) = []
 
 -- What the writer with a number gets, by its form; one without a form gets nothing.
 unfoldable pub by_form : (Form → List ℕ) → List Form → ℕ → List ℕ
@@ -66,9 +72,9 @@ by_form text (f ∷ fs) zero = text f
 by_form text (f ∷ fs) (suc i) = by_form text fs i
 
 -- The report of an accepted entry with its mask and its marks, to writers of these forms.
-abbrev pub accepted : List Form → ℕ → Entry → List Interval → List ℕ → Report
-accepted forms least e is marks =
-    record { text = by_form (λ f. body least f e is marks) forms; notes = []; sums = accepted_sums (joined e.lines) is }
+abbrev pub accepted : List Form → LongdustOptions → ℕ → Entry → List Interval → List ℕ → Report
+accepted forms o least e is marks =
+    record { text = by_form (λ f. body o least f e is marks) forms; notes = []; sums = accepted_sums (joined e.lines) is }
 
 -- Of one that is refused, with the refusal's number.
 abbrev pub refused : List Form → Entry → ℕ → Report
@@ -89,8 +95,8 @@ report_of forms st e =
     let s : List ℕ = joined e.lines in
     let o : LongdustOptions = st.options in
     report_by st.skip_short (record_refusal o s)
-    (accepted forms st.min_length e (record_mask o s) (record_marks o s))
-    (accepted forms st.min_length e [] [])
+    (accepted forms o st.min_length e (record_mask o s) (record_marks o s))
+    (accepted forms o st.min_length e [] [])
     (refused forms e (record_refusal o s))
 
 -- ---- A file, to the writer with a number.

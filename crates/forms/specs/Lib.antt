@@ -4,6 +4,7 @@ pub mod Share
 pub mod Counts
 pub mod Summary
 pub mod Bedgraph
+pub mod Strongest
 pub mod Fasta
 pub mod Notes
 pub mod Form

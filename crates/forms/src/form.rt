@@ -12,6 +12,8 @@ use crate::bedgraph::write_bedgraph;
 use crate::each::write_each;
 use crate::fasta_text::write_fasta;
 use crate::outputs::{Accepted, Foot, put_accepted, put_refused, write_parts};
+use crate::ranked::write_strongest;
+use crate::room::Room;
 use crate::summary::write_summary;
 use checks::Refusal;
 use entries::{Failed, HeldEntry, Recorder, Sums, put_records, write_whole};
@@ -19,6 +21,7 @@ use intervals::Interval;
 use longdust::LongdustOptions;
 use masked_copy::Masking;
 use masker::Masker;
+use ranking::Wanted;
 use std::alloc::Global;
 use std::io::{BufRead, Result as IoResult, Write};
 
@@ -40,6 +43,10 @@ pub enum Form {
     Summary,
     /// A line for each block of so many letters: name, start, end, the masked share as above. A block of 0 letters has 1.
     Bedgraph(u32),
+    /// A line for each of the strongest stretches, by rank, of a record's mask or of the whole record: name, start, end, rank, score, score a place,
+    /// places, the region's start and end, the rank within it, the count of its most frequent k-mer, its first 40 letters. A record whose T is 16 or more
+    /// has none.
+    Strongest(Wanted),
 }
 
 /// How records are masked, and what becomes of some of them.
@@ -53,21 +60,23 @@ pub struct Settings {
     pub min_length: u32,
 }
 
-// Writes an accepted entry. The buffer is for a line, or for the masked letters.
+// Writes an accepted entry.
 pub fn write_body<W: Write>(
     form: Form,
-    least: u32,
-    entry: &HeldEntry,
-    list: &[Interval],
-    marks: &[u8],
-    text: &mut Vec<u8>,
+    part: &Accepted,
+    room: &mut Room,
     out: &mut W,
 ) -> IoResult<()>
-    ensures { Sent (W.contents out.old) (W.contents out.new) (body least form (entry_of entry.now) list.now marks.now) result }
+    ensures { let p = part.now in
+        Sent (W.contents out.old) (W.contents out.new) (body p.masker.now.options p.least form (entry_of p.entry.now) p.list.now p.marks.now) result }
 {
+    let entry = part.entry;
+    let list = part.list;
+    let marks = part.marks;
+    let least = part.least;
     let name = entry.name();
     match form {
-        Form::Bed => write_each(&Bed { name, list, least }, text, out),
+        Form::Bed => write_each(&Bed { name, list, least }, &mut room.text, out),
         Form::Marks => write_each(
             &MarkedBed {
                 name,
@@ -75,18 +84,19 @@ pub fn write_body<W: Write>(
                 marks,
                 least,
             },
-            text,
+            &mut room.text,
             out,
         ),
-        Form::Soft => write_fasta(entry, list, Masking::LowerCase, text, out),
-        Form::HardN => write_fasta(entry, list, Masking::Replace(b'N'), text, out),
-        Form::HardX => write_fasta(entry, list, Masking::Replace(b'X'), text, out),
-        Form::Summary => write_summary(entry, list, text, out),
-        Form::Bedgraph(size) => write_bedgraph(entry, list, size, text, out),
+        Form::Soft => write_fasta(entry, list, Masking::LowerCase, &mut room.text, out),
+        Form::HardN => write_fasta(entry, list, Masking::Replace(b'N'), &mut room.text, out),
+        Form::HardX => write_fasta(entry, list, Masking::Replace(b'X'), &mut room.text, out),
+        Form::Summary => write_summary(entry, list, &mut room.text, out),
+        Form::Bedgraph(size) => write_bedgraph(entry, list, size, &mut room.text, out),
+        Form::Strongest(wanted) => write_strongest(part, wanted, room, out),
     }
 }
 
-/// Writes what stands above all records in a form: the head of a summary.
+/// Writes what stands above all records in a form: the head of a table.
 pub fn put_head<W: Write>(form: Form, out: &mut W) -> IoResult<()>
     ensures { Sent (W.contents out.old) (W.contents out.new) (head_of form) result }
 {
@@ -95,6 +105,7 @@ pub fn put_head<W: Write>(form: Form, out: &mut W) -> IoResult<()>
             out,
             b"#name\tletters\tintervals\tmasked\tshare\tN\tGC\tshare_not_N\n",
         ),
+        Form::Strongest(_) => write_whole(out, ranking::head()),
         _ => Ok(()),
     }
 }
@@ -112,16 +123,16 @@ pub fn put_heads<W: Write>(forms: &[Form], outs: &mut [W]) -> IoResult<()>
     Ok(())
 }
 
-/// Writes to each writer what stands below all records in its form, by their sums. The buffer is for a line.
+/// Writes to each writer what stands below all records in its form, by their sums.
 pub fn put_feet<W: Write>(
     forms: &[Form],
     sums: Sums,
-    text: &mut Vec<u8>,
+    room: &mut Room,
     outs: &mut [W],
 ) -> IoResult<()>
     ensures { AllSent (map (λ w. W.contents w) outs.old) (map (λ w. W.contents w) outs.new) (by_form (foot_of sums) forms.now) result }
 {
-    write_parts(forms, &Foot { sums }, text, outs)
+    write_parts(forms, &Foot { sums }, room, outs)
 }
 
 /// Masks each record alone, and writes it to each writer in its form. A record that is refused is passed through as it came in FASTA, and is not in
@@ -140,8 +151,8 @@ pub struct FormRecorder<'a> {
     pub list: Vec<Interval>,
     /// Room for its marks.
     pub marks: Vec<u8>,
-    /// Room for a line, or for masked letters.
-    pub text: Vec<u8>,
+    /// Room for what is written.
+    pub room: Room,
 }
 
 // Whether a refused record may pass without a mask.
@@ -168,23 +179,25 @@ impl<'a> Recorder for FormRecorder<'a> {
                 let marks = &self.marks.as_slice()[..count];
                 let masked = Accepted {
                     entry,
+                    masker: &self.masker,
                     least,
                     list,
                     marks,
                 };
-                put_accepted(self.forms, &masked, &mut self.text, outs)
+                put_accepted(self.forms, &masked, &mut self.room, outs)
             }
             Ok(Err(refusal)) => {
                 if passes(self.skip_short, refusal) {
                     let bare = Accepted {
                         entry,
+                        masker: &self.masker,
                         least,
                         list: &[],
                         marks: &[],
                     };
-                    return put_accepted(self.forms, &bare, &mut self.text, outs);
+                    return put_accepted(self.forms, &bare, &mut self.room, outs);
                 }
-                put_refused(self.forms, entry, refusal, &mut self.text, outs, notes)
+                put_refused(self.forms, entry, refusal, &mut self.room, outs, notes)
             }
             Err(_) => Err(Failed::NoMemory),
         }
@@ -217,7 +230,7 @@ pub fn put_file<R: BufRead, W: Write, N: Write>(
         min_length: settings.min_length,
         list: Vec::new(alloc),
         marks: Vec::new(alloc),
-        text: Vec::new(alloc),
+        room: Room::new(alloc),
     };
     put_records(alloc, reader, true, &mut recorder, outs, notes, sums)
 }

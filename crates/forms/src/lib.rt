@@ -11,9 +11,13 @@ mod form;
 mod masked;
 mod notes;
 mod outputs;
+mod ranked;
+mod room;
 mod share;
 mod summary;
 mod text;
 
 pub use form::{Form, FormRecorder, Settings, put_feet, put_file, put_head, put_heads};
+pub use ranking::Wanted;
+pub use room::Room;
 pub use text::{add_decimal, add_place};

@@ -11,18 +11,19 @@ use crate::counts::{accepted_sums, refused_sums};
 use crate::fasta_text::write_plain;
 use crate::form::{Form, write_body};
 use crate::notes::write_note;
+use crate::room::Room;
 use crate::summary::write_foot;
 use checks::Refusal;
 use entries::{Failed, HeldEntry, Sums};
 use intervals::Interval;
+use masker::Masker;
 use std::io::{Result as IoResult, Write};
 
 // What is written of a record, by the form.
 pub trait Part {
     ghost text: { Self → Form → List ℕ };
 
-    // The buffer is for a line, or for masked letters.
-    fn write<W: Write>(&self, form: Form, room: &mut Vec<u8>, out: &mut W) -> IoResult<()>
+    fn write<W: Write>(&self, form: Form, room: &mut Room, out: &mut W) -> IoResult<()>
         ensures { Sent (W.contents out.old) (W.contents out.new) (text self.now form) result };
 }
 
@@ -30,18 +31,18 @@ pub trait Part {
 #[derive(Drop)]
 pub struct Accepted<'a> {
     pub entry: &'a HeldEntry,
+    // The masker that masked it.
+    pub masker: &'a Masker,
     pub least: u32,
     pub list: &'a [Interval],
     pub marks: &'a [u8],
 }
 
 impl<'a> Part for Accepted<'a> {
-    ghost text = { λ a f. body a.least f (entry_of a.entry.now) a.list.now a.marks.now };
+    ghost text = { λ a f. body a.masker.now.options a.least f (entry_of a.entry.now) a.list.now a.marks.now };
 
-    fn write<W: Write>(&self, form: Form, room: &mut Vec<u8>, out: &mut W) -> IoResult<()> {
-        write_body(
-            form, self.least, self.entry, self.list, self.marks, room, out,
-        )
+    fn write<W: Write>(&self, form: Form, room: &mut Room, out: &mut W) -> IoResult<()> {
+        write_body(form, self, room, out)
     }
 }
 
@@ -54,7 +55,7 @@ pub struct Refused<'a> {
 impl<'a> Part for Refused<'a> {
     ghost text = { λ r f. passed f (entry_of r.entry.now) };
 
-    fn write<W: Write>(&self, form: Form, room: &mut Vec<u8>, out: &mut W) -> IoResult<()> {
+    fn write<W: Write>(&self, form: Form, room: &mut Room, out: &mut W) -> IoResult<()> {
         match form {
             Form::Soft => write_plain(self.entry, out),
             Form::HardN => write_plain(self.entry, out),
@@ -73,9 +74,9 @@ pub struct Foot {
 impl Part for Foot {
     ghost text = { λ t f. foot_of t.sums f };
 
-    fn write<W: Write>(&self, form: Form, room: &mut Vec<u8>, out: &mut W) -> IoResult<()> {
+    fn write<W: Write>(&self, form: Form, room: &mut Room, out: &mut W) -> IoResult<()> {
         match form {
-            Form::Summary => write_foot(self.sums, room, out),
+            Form::Summary => write_foot(self.sums, &mut room.text, out),
             _ => Ok(()),
         }
     }
@@ -85,7 +86,7 @@ impl Part for Foot {
 pub fn write_parts<P: Part, W: Write>(
     forms: &[Form],
     part: &P,
-    room: &mut Vec<u8>,
+    room: &mut Room,
     outs: &mut [W],
 ) -> IoResult<()>
     ensures { AllSent (map (λ w. W.contents w) outs.old) (map (λ w. W.contents w) outs.new) (by_form (P.text part.now) forms.now) result }
@@ -103,11 +104,11 @@ pub fn write_parts<P: Part, W: Write>(
 pub fn put_accepted<W: Write>(
     forms: &[Form],
     part: &Accepted,
-    room: &mut Vec<u8>,
+    room: &mut Room,
     outs: &mut [W],
 ) -> Result<Sums, Failed>
     ensures { (notes : Option (List ℕ)) → Recorded
-        (accepted forms.now part.now.least (entry_of part.now.entry.now) part.now.list.now part.now.marks.now)
+        (accepted forms.now part.now.masker.now.options part.now.least (entry_of part.now.entry.now) part.now.list.now part.now.marks.now)
         (map (λ w. W.contents w) outs.old) (map (λ w. W.contents w) outs.new) notes notes result }
 {
     let sums = match accepted_sums(part.entry.letters.as_slice(), part.list) {
@@ -125,7 +126,7 @@ pub fn put_refused<W: Write, N: Write>(
     forms: &[Form],
     entry: &HeldEntry,
     refusal: Refusal,
-    room: &mut Vec<u8>,
+    room: &mut Room,
     outs: &mut [W],
     notes: &mut N,
 ) -> Result<Sums, Failed>
@@ -135,7 +136,13 @@ pub fn put_refused<W: Write, N: Write>(
     if let Err(e) = write_parts(forms, &Refused { entry }, room, outs) {
         return Err(Failed::Writing(e));
     }
-    match write_note(room, entry.name(), entry.letters.as_slice(), refusal, notes) {
+    match write_note(
+        &mut room.text,
+        entry.name(),
+        entry.letters.as_slice(),
+        refusal,
+        notes,
+    ) {
         Ok(()) => Ok(refused_sums()),
         Err(e) => Err(Failed::Saying(e)),
     }
