@@ -172,6 +172,31 @@ fn forms<'a>(alloc: Global, command: Command<'a>) -> Result<Command<'a>, AllocEr
         .arg(bedgraph)
 }
 
+// The lists of the strongest stretches.
+fn lists<'a>(alloc: Global, command: Command<'a>) -> Result<Command<'a>, AllocError> {
+    let strongest = form_value(
+        alloc,
+        "strongest",
+        "N[:FILE]",
+        "a table of the N strongest stretches of each record: name, start, end, rank, score, score a place, places, the masked interval that it lies in, rank in it, count of its most frequent k-mer, first 40 letters",
+    );
+    let floor = value(
+        alloc,
+        "floor",
+        "S",
+        "with --strongest: a stretch is listed if it scores above S, 0 or more (0)",
+    );
+    let whole = flag(
+        alloc,
+        "whole",
+        "with --strongest: of the whole record, not of what is masked",
+    );
+    command
+        .arg(strongest)?
+        .arg(floor.help_heading(FORMS))?
+        .arg(whole.help_heading(FORMS))
+}
+
 // Which records and intervals count.
 fn limits<'a>(alloc: Global, command: Command<'a>) -> Result<Command<'a>, AllocError> {
     let length = value(
@@ -267,7 +292,7 @@ pub fn command<'a>(alloc: Global) -> Result<Command<'a>, AllocError> {
         .after_help(NOTES)
         .args_override_self(true)
         .arg(files)?;
-    let written = limits(alloc, forms(alloc, command)?)?;
+    let written = limits(alloc, lists(alloc, forms(alloc, command)?)?)?;
     last(
         alloc,
         parts(alloc, running(alloc, masker(alloc, written)?)?)?,

@@ -3,7 +3,7 @@
 use crate::saying::say;
 use crate::values::{split_file, whole};
 use clap::ArgMatches;
-use forms::Form;
+use forms::{Form, Wanted};
 use std::alloc::{AllocError, Global};
 
 /// A form, and its file; none for standard output, or for the file of -o.
@@ -23,6 +23,7 @@ pub fn word(form: Form) -> &'static str {
         Form::HardX => "--hard",
         Form::Summary => "--summary",
         Form::Bedgraph(_) => "--bedgraph",
+        Form::Strongest(_) => "--strongest",
     }
 }
 
@@ -115,6 +116,76 @@ fn add_bedgraph<'a>(
     Ok(true)
 }
 
+// The score that a stretch must exceed; 0 if none is given.
+fn floor(rt: &HostRuntime, matches: &ArgMatches) -> Option<u64> {
+    let text = match matches.get_str("floor") {
+        Some(text) => text,
+        None => return Some(0),
+    };
+    let floor = command_line::score(text.as_bytes());
+    if floor.is_none() {
+        wrong(
+            rt,
+            "--floor",
+            text,
+            "a number from 0 to 1073741824, with up to six digits behind a point",
+        );
+    }
+    floor
+}
+
+// Whether no option of the lists is given without one.
+fn lists_asked(rt: &HostRuntime, matches: &ArgMatches) -> bool {
+    if matches.get_raw("strongest").is_some() {
+        return true;
+    }
+    let alone = if matches.get_str("floor").is_some() {
+        "--floor"
+    } else if matches.get_flag("whole") {
+        "--whole"
+    } else {
+        return true;
+    };
+    let _ = eprintln!(rt; "cisternpea: {alone}: it goes with --strongest");
+    false
+}
+
+fn add_strongest<'a>(
+    rt: &HostRuntime,
+    matches: &ArgMatches<'a>,
+    outputs: &mut Vec<Output<'a>>,
+) -> Result<bool, AllocError> {
+    let floor = match floor(rt, matches) {
+        Some(floor) => floor,
+        None => return Ok(false),
+    };
+    for text in matches.get_raw("strongest").unwrap_or(&[]) {
+        let (value, file) = split_file(text);
+        match whole(value, 1, 1000000) {
+            Some(most) => {
+                outputs.push(Output {
+                    form: Form::Strongest(Wanted {
+                        most: most as usize,
+                        floor,
+                        whole: matches.get_flag("whole"),
+                    }),
+                    file: named(file),
+                })?;
+            }
+            None => {
+                wrong(
+                    rt,
+                    "--strongest",
+                    value,
+                    "a whole number from 1 to 1000000",
+                );
+                return Ok(false);
+            }
+        }
+    }
+    Ok(lists_asked(rt, matches))
+}
+
 // Whether at most one of them has no file; else a line says which two have none.
 fn one_without_file(rt: &HostRuntime, outputs: &[Output<'_>]) -> bool {
     let mut first = "";
@@ -168,6 +239,9 @@ pub fn read_outputs<'a>(
     }
     add_plain(matches, "summary", Form::Summary, &mut given)?;
     if !add_bedgraph(rt, matches, &mut given)? {
+        return Ok(None);
+    }
+    if !add_strongest(rt, matches, &mut given)? {
         return Ok(None);
     }
     let main = matches.get_str("output");

@@ -47,6 +47,10 @@ fn form_value(alloc: Global, form: Form, file: &str) -> Result<String, AllocErro
         Form::HardN => format!(in alloc; "N:{file}"),
         Form::HardX => format!(in alloc; "X:{file}"),
         Form::Bedgraph(size) => format!(in alloc; "{size}:{file}"),
+        Form::Strongest(wanted) => {
+            let most = wanted.most;
+            format!(in alloc; "{most}:{file}")
+        }
         _ => format!(in alloc; "{file}"),
     }
 }
@@ -159,12 +163,14 @@ fn add_words(
         "xdrop",
         "min-start-cnt",
         "min-length",
+        "floor",
     ] {
         add_option(alloc, text, b'w', matches, name)?;
     }
     add_flag(alloc, text, matches, "approx")?;
     add_flag(alloc, text, matches, "forward-only")?;
-    add_flag(alloc, text, matches, "skip-short")
+    add_flag(alloc, text, matches, "skip-short")?;
+    add_flag(alloc, text, matches, "whole")
 }
 
 /// The plan, as bytes.

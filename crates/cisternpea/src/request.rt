@@ -3,7 +3,7 @@
 use crate::outputs::{Output, read_outputs};
 use crate::values::{fraction, whole};
 use clap::ArgMatches;
-use forms::Settings;
+use forms::{Form, Settings};
 use longdust::LongdustOptions;
 use std::alloc::{AllocError, Global};
 use std::io::IsTerminal;
@@ -183,16 +183,33 @@ fn says_closing(rt: &HostRuntime, matches: &ArgMatches) -> bool {
     rt.stderr().is_terminal()
 }
 
+// Whether T is small enough for each output; else a line says so. The strongest stretches are listed by T below 16, rounded to units of 2^-32.
+fn threshold_fits(rt: &HostRuntime, outputs: &[Output<'_>], threshold: f64) -> bool {
+    for output in outputs {
+        if matches!(output.form, Form::Strongest(_)) & (15.999999999883584678173065185546875 <= threshold) {
+            let _ = eprintln!(rt;
+                "cisternpea: --score-threshold {threshold}: it must be below 16 with --strongest"
+            );
+            return false;
+        }
+    }
+    true
+}
+
 // All but the outputs.
 fn with_outputs<'a>(
     rt: &HostRuntime,
     matches: &ArgMatches<'a>,
     outputs: Vec<Output<'a>>,
 ) -> Option<Request<'a>> {
+    let settings = settings(rt, matches)?;
+    if !threshold_fits(rt, outputs.as_slice(), settings.options.score_threshold) {
+        return None;
+    }
     Some(Request {
         outputs,
         output: matches.get_str("output"),
-        settings: settings(rt, matches)?,
+        settings,
         threads: threads(rt, matches)?,
         memory: memory(rt, matches)?,
         quiet: matches.get_flag("quiet"),
