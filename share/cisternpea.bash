@@ -2,13 +2,13 @@
 _cisternpea() {
     local word=${COMP_WORDS[COMP_CWORD]} before=${COMP_WORDS[COMP_CWORD - 1]}
     local options="--kmer --window-size --score-threshold --gc --xdrop --min-start-cnt --approx --forward-only --bed
-        --marks --soft --hard --summary --bedgraph --min-length --skip-short --output --threads --memory --quiet --help --version"
+        --marks --soft --hard --summary --bedgraph --strongest --floor --whole --min-length --skip-short --output --threads --memory --quiet --help --version"
     COMPREPLY=()
     case $before in
         --gc) mapfile -t COMPREPLY < <(compgen -W "uniform auto" -- "$word") ;;
         --xdrop) mapfile -t COMPREPLY < <(compgen -W none -- "$word") ;;
         --hard) mapfile -t COMPREPLY < <(compgen -W "N X" -- "$word") ;;
-        --kmer | -k | --window-size | -w | --score-threshold | -T | --min-start-cnt | --bedgraph | --min-length | --threads | -t | --memory) ;;
+        --kmer | -k | --window-size | -w | --score-threshold | -T | --min-start-cnt | --bedgraph | --strongest | --floor | --min-length | --threads | -t | --memory) ;;
         *)
             if [[ $word == -* ]]; then
                 mapfile -t COMPREPLY < <(compgen -W "$options" -- "$word")
