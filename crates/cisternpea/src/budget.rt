@@ -34,17 +34,19 @@ fn list_tenths(wanted: Wanted) -> u64 {
     if wanted.most <= FEW { 30 } else { 30 + 160 + 250 }
 }
 
-// Bytes of a list whatever the record: for each k-mer 4, for each letter of a window the tables twice and a place twice; and its entries, 16 bytes and a
-// line each, where they are few.
-fn list_bytes(form: Form, kmers: u64, window: u64) -> u64 {
+// Entries and a line each, where they are few.
+fn entry_bytes(most: usize) -> u64 {
+    if FEW < most {
+        return 0;
+    }
+    256 * most as u64
+}
+
+// Bytes of a list whatever the record: for each k-mer 4, for each letter of a window the tables twice and a place twice; and its entries.
+fn list_bytes(form: Form, kmers: u32, window: u16) -> u64 {
     match form {
         Form::Strongest(wanted) => {
-            let entries = if wanted.most <= FEW {
-                256 * wanted.most as u64
-            } else {
-                0
-            };
-            4 * kmers + 56 * (window + 4096) + entries
+            4 * (kmers as u64) + 56 * (window as u64 + 4096) + entry_bytes(wanted.most)
         }
         _ => 0,
     }
@@ -59,7 +61,7 @@ pub fn held_by(request: &Request) -> Held {
     let mut tenths = letter_tenths(kmer);
     for output in &request.outputs {
         tenths = tenths.saturating_add(written_tenths(output.form));
-        fixed = fixed.saturating_add(list_bytes(output.form, kmers as u64, window as u64));
+        fixed = fixed.saturating_add(list_bytes(output.form, kmers, window));
     }
     Held { fixed, tenths }
 }

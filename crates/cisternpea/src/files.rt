@@ -10,7 +10,7 @@ use crate::sink::{Sink, Target, open_file, settle};
 use crate::watched::{Place, Watched};
 use command_line::{Kind, kind_of};
 use entries::{Failed, Sums, read_sums, write_sums};
-use forms::Form;
+use forms::{Form, Room};
 use std::fs::File;
 use std::io::{BufRead, BufReader, BufWriter, Write};
 
@@ -231,7 +231,7 @@ fn flush_all<W: Write>(writers: &mut [W]) -> std::io::Result<()> {
 // What stands below the records; for a part its numbers.
 fn write_end(rt: &HostRuntime, request: &Request, outs: &mut Outs) -> std::io::Result<()> {
     if request.part.is_none() {
-        let mut room = forms::Room::new(rt.alloc());
+        let mut room = Room::new(rt.alloc());
         forms::put_feet(
             outs.forms.as_slice(),
             outs.sums,

@@ -48,7 +48,7 @@ pub enum Form {
     /// places, the region's start and end, the rank within it, the count of its most frequent k-mer, its first 40 letters. A record whose T is 16 or more
     /// has none.
     Strongest(Wanted),
-    /// A line for each stretch where a probe may stand: name, start, end. Its letters are A, C, G, T or U, and more than so many letters lie
+    /// A line for each stretch where a probe may stand: name, start, end. Its letters are A, C, G, T or U, and at least so many letters lie
     /// between each of them and any masked letter.
     Free(u32),
 }
