@@ -155,7 +155,7 @@ fn forms<'a>(alloc: Global, command: Command<'a>) -> Result<Command<'a>, AllocEr
     let summary = form(
         alloc,
         "summary",
-        "a table: name, letters, intervals, masked letters, masked share",
+        "a table: name, letters, intervals, masked letters, masked share, letters N, share of G and C, masked share without N; the last line, #all, is for all records",
     );
     let bedgraph = form_value(
         alloc,

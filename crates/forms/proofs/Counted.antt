@@ -19,23 +19,23 @@ module _ (p : ℕ → Bool) (s : List ℕ) (i d : ℕ) (h : i < length s) where
   pub count_more : (n : ℕ) (b : Bool) → n ≡ count_by p (take i s) → b ≡ p (get_or s i d) → n + bool_byte b ≡ count_by p (take (i + 1) s)
   count_more n b e q = rw (e, by_test b (rw q refl)) refl
 
--- Blocks of 255 letters, the last one shorter.
-module _ (p : ℕ → Bool) (s : List ℕ) (k end : ℕ) (h : 255 * k ≤ length s) (e : end ≡ min (255 * k + 255) (length s)) where
-  block_is : take (end - 255 * k) (drop (255 * k) s) ≡ take 255 (drop (255 * k) s)
+-- Blocks of 224 letters, the last one shorter.
+module _ (p : ℕ → Bool) (s : List ℕ) (k end : ℕ) (h : 224 * k ≤ length s) (e : end ≡ min (224 * k + 224) (length s)) where
+  block_is : take (end - 224 * k) (drop (224 * k) s) ≡ take 224 (drop (224 * k) s)
   block_is =
       ⊎_elim
-      (λ (more : 255 * k + 255 < length s). ap (λ (n : ℕ). take n (drop (255 * k) s)) (let z : end - 255 * k ≡ 255 = omega arith in z))
-      (λ (all : length s ≤ 255 * k + 255).
-      take_all (end - 255 * k) (drop (255 * k) s) (omega (arith, length-drop (255 * k) s))
-      ∙ sym (take_all 255 (drop (255 * k) s) (omega (arith, length-drop (255 * k) s))))
-      (lt_or_le (255 * k + 255) (length s))
+      (λ (more : 224 * k + 224 < length s). ap (λ (n : ℕ). take n (drop (224 * k) s)) (let z : end - 224 * k ≡ 224 = omega arith in z))
+      (λ (all : length s ≤ 224 * k + 224).
+      take_all (end - 224 * k) (drop (224 * k) s) (omega (arith, length-drop (224 * k) s))
+      ∙ sym (take_all 224 (drop (224 * k) s) (omega (arith, length-drop (224 * k) s))))
+      (lt_or_le (224 * k + 224) (length s))
 
-  pub count_block : (n m : ℕ) → n ≡ count_by p (take (255 * k) s) → m ≡ count_by p (take (end - 255 * k) (drop (255 * k) s)) → n + m ≡ count_by p (take (255 * (k + 1)) s)
+  pub count_block : (n m : ℕ) → n ≡ count_by p (take (224 * k) s) → m ≡ count_by p (take (end - 224 * k) (drop (224 * k) s)) → n + m ≡ count_by p (take (224 * (k + 1)) s)
   count_block n m a b =
       ap₂ (λ (x y : ℕ). x + y) a (b ∙ ap (count_by p) block_is)
-      ∙ sym (sum_by-append (λ (b : ℕ). cond (p b) 1 0) (take (255 * k) s) (take 255 (drop (255 * k) s)))
-      ∙ ap (count_by p) (sym (take-add (255 * k) 255 s))
-      ∙ ap (λ (j : ℕ). count_by p (take j s)) (let z : 255 * k + 255 ≡ 255 * (k + 1) = omega arith in z)
+      ∙ sym (sum_by-append (λ (b : ℕ). cond (p b) 1 0) (take (224 * k) s) (take 224 (drop (224 * k) s)))
+      ∙ ap (count_by p) (sym (take-add (224 * k) 224 s))
+      ∙ ap (λ (j : ℕ). count_by p (take j s)) (let z : 224 * k + 224 ≡ 224 * (k + 1) = omega arith in z)
 
 pub n_none : (s : List ℕ) (is : List Interval) → 0 ≡ n_upto s is 0
 unfolding n_upto

@@ -4,6 +4,7 @@ pub mod Runs
 pub mod Stretches
 pub mod Blocks
 pub mod Shares
+pub mod Gc
 pub mod Counted
 pub mod Writers
 pub mod Wholes

@@ -54,9 +54,9 @@ impl Kind for Known {
     }
 }
 
-// How many of a few letters are of a kind. Its sum has eight bits, so that sixteen letters are counted at once.
+// How many of a few letters are of a kind. Its sum has eight bits, so that sixteen letters are counted at once; 224 are seven times 32.
 fn few<K: Kind>(kind: &K, letters: &[u8]) -> u8
-    requires { length letters.now ≤ 255 }
+    requires { length letters.now ≤ 224 }
     ensures { result ≡ count_by (K.test kind.now) letters.now }
 {
     let mut n = 0u8;
@@ -73,9 +73,9 @@ fn count<K: Kind>(kind: &K, letters: &[u8]) -> u32
     ensures most { result ≤ 2147483647 }
 {
     let mut n = 0u32;
-    for k in 0..(letters.len() + 254) / 255 {
-        let start = 255 * k;
-        let end = (start + 255).min(letters.len());
+    for k in 0..(letters.len() + 223) / 224 {
+        let start = 224 * k;
+        let end = (start + 224).min(letters.len());
         n += few(kind, &letters[start..end]) as u32;
     }
     n

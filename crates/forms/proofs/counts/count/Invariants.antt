@@ -4,5 +4,5 @@ use Rattle.forms.proofs.counts.count.Given as goal
 
 abbrev pub invariant-loop-k : goal.invariant-loop-k
 invariant-loop-k g l = record {
-  n_is : l.n ≡ count_by (g.K.Kind.test l.kind) (take (255 * l.k) l.letters);
+  n_is : l.n ≡ count_by (g.K.Kind.test l.kind) (take (224 * l.k) l.letters);
 }
