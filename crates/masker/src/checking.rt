@@ -45,8 +45,8 @@ fn listed(options: LongdustOptions, n: usize) -> Lent
 pub fn check(options: LongdustOptions, letters: &[u8]) -> Result<(), Refusal>
     ensures { number_of result ≡ record_refusal options letters.now }
 {
-    match checks::check_sequence(letters, options.kmer, options.window_size) {
-        Ok(()) => longdust::check(options, letters, listed(options, letters.len())),
-        Err(refusal) => Err(refusal),
+    if checks::kmer_outside(options.kmer) | checks::window_above(options.window_size) {
+        return checks::check_sequence(letters, options.kmer, options.window_size);
     }
+    longdust::check(options, letters, listed(options, letters.len()))
 }
