@@ -5,7 +5,7 @@ ghost use Rattle.fasta.specs.Lines.{name_of};
 ghost use Rattle.entries.specs.Held.{entry_of};
 ghost use Rattle.entries.specs.Outcome.{Sent, AllSent, Recorded, Outcome};
 ghost use Rattle.checks.specs.Refusal.{number};
-ghost use Rattle.forms.specs.Form.{body, head_of, foot_of, by_form, passes, report_of};
+ghost use Rattle.forms.specs.Form.{body, head_of, foot_of, by_form, passes, report_by_making, report_of};
 
 use crate::bed::{Bed, MarkedBed};
 use crate::bedgraph::write_bedgraph;
@@ -18,7 +18,7 @@ use entries::{Failed, HeldEntry, Recorder, Sums, put_records, write_whole};
 use intervals::Interval;
 use longdust::LongdustOptions;
 use masked_copy::Masking;
-use masker::Masker;
+use masker::{Maker, Masker};
 use std::alloc::Global;
 use std::io::{BufRead, Result as IoResult, Write};
 
@@ -127,11 +127,11 @@ pub fn put_feet<W: Write>(
 /// Masks each record alone, and writes it to each writer in its form. A record that is refused is passed through as it came in FASTA, and is not in
 /// the other forms; a line is said of it.
 #[derive(Drop)]
-pub struct FormRecorder<'a> {
+pub struct FormRecorder<'a, M: Maker> {
     /// What is written, a form a writer.
     pub forms: &'a [Form],
-    /// The masker, with its options.
-    pub masker: Masker,
+    /// What makes the masks.
+    pub masker: M,
     /// Whether records of too few letters are accepted, with no mask.
     pub skip_short: bool,
     /// The fewest letters of an interval that has a line.
@@ -151,8 +151,8 @@ fn passes(skip: bool, refusal: Refusal) -> bool
     skip & (refusal.number() == 3)
 }
 
-impl<'a> Recorder for FormRecorder<'a> {
-    ghost report = { λ r. report_of r.forms.now (record { options = r.masker.options; skip_short = r.skip_short; min_length = r.min_length }) };
+impl<'a, M: Maker> Recorder for FormRecorder<'a, M> {
+    ghost report = { λ r. report_by_making r.forms.now (M.making r.masker) r.skip_short r.min_length };
 
     fn put<W: Write, N: Write>(
         &mut self,
@@ -162,7 +162,7 @@ impl<'a> Recorder for FormRecorder<'a> {
     ) -> Result<Sums, Failed> {
         let least = self.min_length;
         let letters = entry.letters.as_slice();
-        match self.masker.mask(letters, &mut self.list, &mut self.marks) {
+        match self.masker.make(letters, &mut self.list, &mut self.marks) {
             Ok(Ok(count)) => {
                 let list = &self.list.as_slice()[..count];
                 let marks = &self.marks.as_slice()[..count];

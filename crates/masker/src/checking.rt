@@ -8,7 +8,7 @@ ghost use Rattle.masker.specs.Run.{listed, record_refusal};
 use checks::Refusal;
 use longdust::{Lent, LongdustOptions};
 
-// The most intervals that a list of n letters can have.
+/// The most intervals that a list of n letters can have.
 pub fn most_rows(n: usize, k: usize) -> usize
     requires { (n < 2 ^ 63) × (k ≤ 12) }
     ensures { result ≡ most_intervals n k }
@@ -41,7 +41,7 @@ fn listed(options: LongdustOptions, n: usize) -> Lent
     }
 }
 
-// The first check that fails.
+/// The first check that a record's letters fail, whatever the buffers.
 pub fn check(options: LongdustOptions, letters: &[u8]) -> Result<(), Refusal>
     ensures { number_of result ≡ record_refusal options letters.now }
 {

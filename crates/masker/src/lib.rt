@@ -4,8 +4,11 @@
 
 mod calls;
 mod checking;
+mod maker;
 mod masker;
 mod tables_kept;
 mod work;
 
+pub use checking::{check, most_rows};
+pub use maker::Maker;
 pub use masker::Masker;
