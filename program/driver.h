@@ -24,7 +24,7 @@ enum { REFUSED = 1, USAGE = 2, FAILED = 3, STOPPED = 4 };
 
 /* Bytes, but for the outputs; BATCH is the largest batch, and the build's. */
 enum { MOST_OUTPUTS = 12, STRANDS = 2, CHUNK = 1 << 18, SMALLEST_BATCH = BATCH / 16, OWN_MEMORY = 4 << 20 };
-enum { LONG = BATCH - BATCH / 16 }; /* a record whose strands go to workers of their own */
+enum { LONG = BATCH - BATCH / 16 }; /* the least record whose strands go to workers of their own */
 enum { BLOCK = 65280, PACKED = 1 << 16 }; /* of bgzip: its text, and the most that this takes packed */
 
 /* What the proved program makes of the command line. */
@@ -99,6 +99,7 @@ struct batch {
     struct batch *next;
     int bytes; /* an anonymous file: the input of a worker */
     bool is_last; /* of the last run */
+    const char *source; /* the file that it is a part of */
     uint64_t offset, size; /* where it begins in the file; its bytes */
     uint64_t last; /* where its last record begins */
     uint64_t taken; /* bytes that its worker has read */
@@ -110,7 +111,8 @@ struct batch {
     bool apart; /* its strands are masked by workers of their own, whose lists its worker then joins */
     size_t masked; /* how many of them are */
     struct strand {
-        int pid, bytes, list; /* 0 when that has ended; the input, with a place of its own; an anonymous file for the list */
+        int pid; /* of its worker: 0 when that has ended */
+        int bytes, list; /* the input, with a place of its own; an anonymous file */
     } strands[STRANDS];
 };
 extern uint64_t threads, batch_size, running;

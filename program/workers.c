@@ -73,9 +73,9 @@ static void become_worker(const struct batch *batch, const struct strand *strand
     bool ready = dup2(bytes, STDIN_FILENO) >= 0 && dup2(text, STDOUT_FILENO) >= 0 &&
                  dup2(batch->files[plan.outputs_len], STDERR_FILENO) >= 0;
     int number = STDERR_FILENO + 1;
-    for (size_t i = 1; i < plan.outputs_len && strand == NULL; i++) ready = ready && dup2(batch->files[i], number++) >= 0;
-    for (int i = 0; i < STRANDS && batch->apart && strand == NULL; i++)
-        ready = ready && dup2(batch->strands[i].list, number++) >= 0;
+    size_t outputs = strand != NULL ? 1 : plan.outputs_len, lists = batch->apart && strand == NULL ? STRANDS : 0;
+    for (size_t i = 1; i < outputs; i++) ready = ready && dup2(batch->files[i], number++) >= 0;
+    for (size_t i = 0; i < lists; i++) ready = ready && dup2(batch->strands[i].list, number++) >= 0;
     free_signals();
     if (ready) execv(worker, words);
     _exit(127);
@@ -87,14 +87,15 @@ static int start_worker(const struct batch *batch, const struct strand *strand) 
     int pid, number = STDERR_FILENO + (int)plan.outputs_len;
     snprintf(offset, sizeof offset, "%" PRIu64, batch->offset);
     snprintf(lists, sizeof lists, "/dev/fd/%d:/dev/fd/%d", number, number + 1);
-    char *apart[] = {strand != NULL ? "--strand" : "--join",
-                     strand == NULL ? lists : strand == batch->strands ? "forward" : "reverse"};
-    char *source[] = {"--source", (char *)input_name, "--offset", offset, NULL};
-    char **more = plan.words + plan.words_len;
-    if (batch->apart) more = mempcpy(more, apart, sizeof apart);
-    memcpy(more, source, sizeof source);
+    char *name = strand == batch->strands ? "forward" : "reverse";
+    char *apart[] = {strand != NULL ? "--strand" : "--join", strand != NULL ? name : lists};
+    char *source[] = {"--source", (char *)batch->source, "--offset", offset, NULL};
     pid_t parent = getpid();
-    while ((pid = fork()) < 0) {
+    for (;;) { /* turn may start another, by its own words */
+        char **more = plan.words + plan.words_len;
+        if (batch->apart) more = mempcpy(more, apart, sizeof apart);
+        memcpy(more, source, sizeof source);
+        if ((pid = fork()) >= 0) break;
         if (running == 0) fail(FAILED, "cannot start a process: %s", strerror(errno));
         turn(-1);
     }
@@ -134,6 +135,7 @@ void launch(struct batch *batch) {
     if (failed) drain(); /* does not return */
     used -= batch->held;
     batch->held = 0;
+    batch->source = input_name;
     batch->apart = !batch->is_last && goes_apart(batch);
     if (!reserve_bytes(batch, batch->apart ? of_strands(batch->size) : of_worker(batch->size)))
         fail(FAILED, "no memory for a batch");
