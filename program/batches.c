@@ -98,7 +98,7 @@ void take_bytes(const uint8_t *bytes, size_t length) {
     for (size_t i = find_start(bytes, 0, length); i < length; i = find_start(bytes, i + 1, length)) {
         uint64_t here = current->size + (i - done);
         if (!missing && (here < batch_size || !begun)) { /* line ends alone are no batch: there is no record in it */
-            current->last = here;
+            current->last = begun ? here : 0;
             begun = true;
             continue;
         }

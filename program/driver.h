@@ -23,7 +23,8 @@
 enum { REFUSED = 1, USAGE = 2, FAILED = 3, STOPPED = 4 };
 
 /* Bytes, but for the outputs; BATCH is the largest batch, and the build's. */
-enum { MOST_OUTPUTS = 12, CHUNK = 1 << 18, SMALLEST_BATCH = BATCH / 16, OWN_MEMORY = 4 << 20 };
+enum { MOST_OUTPUTS = 12, STRANDS = 2, CHUNK = 1 << 18, SMALLEST_BATCH = BATCH / 16, OWN_MEMORY = 4 << 20 };
+enum { LONG = BATCH - BATCH / 16 }; /* the least record whose strands go to workers of their own */
 enum { BLOCK = 65280, PACKED = 1 << 16 }; /* of bgzip: its text, and the most that this takes packed */
 
 /* What the proved program makes of the command line. */
@@ -32,7 +33,8 @@ struct plan {
     uint64_t fixed, tenths; /* bytes that a worker holds, and tenths of a byte for each byte of its input */
     bool quiet, numbers; /* the last output is numbers, which the last run reads */
     bool named; /* an output is */
-    char **words, **last; /* a worker's command line, with room for four more words; that of the last run */
+    bool strands; /* both strands of a record are masked, and workers may mask them apart */
+    char **words, **last; /* a worker's command line, with room for six more words; that of the last run */
     char **inputs; /* null for standard input */
     size_t words_len, last_len, inputs_len, outputs_len;
     char *outputs[MOST_OUTPUTS], *heads[MOST_OUTPUTS]; /* the main one first; null for standard output, for none */
@@ -97,14 +99,21 @@ struct batch {
     struct batch *next;
     int bytes; /* an anonymous file: the input of a worker */
     bool is_last; /* of the last run */
+    const char *source; /* the file that it is a part of */
     uint64_t offset, size; /* where it begins in the file; its bytes */
     uint64_t last; /* where its last record begins */
     uint64_t taken; /* bytes that its worker has read */
     uint64_t held; /* bytes of memory that count as used for it */
-    int pid, status; /* of its worker: 0 when that has ended; as wait has it */
+    int pid, status; /* of its worker: 0 when that has ended, -1 before it starts; as wait has it */
     int files[MOST_OUTPUTS + 1]; /* anonymous: what the worker writes; the last one is its standard error */
     char *texts[MOST_OUTPUTS + 1]; /* which are then mapped */
     size_t lengths[MOST_OUTPUTS + 1];
+    bool apart; /* its strands are masked by workers of their own, whose lists its worker then joins */
+    size_t masked; /* how many of them are */
+    struct strand {
+        int pid; /* of its worker: 0 when that has ended */
+        int bytes, list; /* the input, with a place of its own; an anonymous file */
+    } strands[STRANDS];
 };
 extern uint64_t threads, batch_size, running;
 void size_workers(void);

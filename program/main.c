@@ -3,7 +3,7 @@
 /* A file of ours must not get the number of a standard one that is closed, nor one that workers write to. To use a closed one
  * fails as before. */
 static void hold_numbers(void) {
-    for (int file = STDIN_FILENO; file < STDERR_FILENO + MOST_OUTPUTS; file++) {
+    for (int file = STDIN_FILENO; file < STDERR_FILENO + MOST_OUTPUTS + STRANDS; file++) {
         int how = file == STDIN_FILENO ? O_WRONLY : file <= STDERR_FILENO ? O_RDONLY : O_CLOEXEC;
         if (fcntl(file, F_GETFD) < 0) open("/dev/null", how);
     }

@@ -51,6 +51,7 @@ static void take_line(char kind, char *value) {
     else if (kind == 'e') plan.tenths = strtoull(value, NULL, 10);
     else if (kind == 'q') plan.quiet = true;
     else if (kind == 'n') plan.numbers = true;
+    else if (kind == 's') plan.strands = true;
     else if (kind == 'w') plan.words[plan.words_len++] = value;
     else if (kind == 'F') plan.last[plan.last_len++] = value;
     else if (kind == 'i') plan.inputs[plan.inputs_len++] = strcmp(value, "-") == 0 ? NULL : value;

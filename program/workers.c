@@ -14,6 +14,9 @@ static bool refused, failed; /* a record was; a worker did, so that no more are 
 
 static uint64_t of_worker(uint64_t size) { return plan.fixed + size * plan.tenths / 10; }
 
+/* Two, each with half of the buffers, whose input stays until both have read it; and their lists. */
+static uint64_t of_strands(uint64_t size) { return of_worker(size) + plan.fixed + size * 14 / 10; }
+
 uint64_t needed(uint64_t size) { return OWN_MEMORY + of_worker(size); }
 
 void size_workers(void) {
@@ -41,45 +44,90 @@ void check_memory(void) {
         fail(USAGE, "--memory %" PRIu64 ": with these options it must be %" PRIu64 " or more", plan.memory, least);
 }
 
-bool reserve(struct batch *batch, uint64_t size) {
-    while (used - batch->held + of_worker(size) > memory) {
+/* Waits for so many bytes of memory; false: there are not as many. */
+static bool reserve_bytes(struct batch *batch, uint64_t bytes) {
+    while (used - batch->held + bytes > memory) {
         if (first == NULL) return false;
         turn(-1);
     }
-    used += of_worker(size) - batch->held;
-    batch->held = of_worker(size);
+    used += bytes - batch->held;
+    batch->held = bytes;
     return true;
 }
 
+bool reserve(struct batch *batch, uint64_t size) { return reserve_bytes(batch, of_worker(size)); }
+
+static int new_file(const char *name) {
+    int file = memfd_create(name, MFD_CLOEXEC);
+    if (file < 0) fail(FAILED, "no memory or no files left for a batch");
+    return file;
+}
+
 /* In the new process. */
-static void become_worker(const struct batch *batch, pid_t parent) {
+static void become_worker(const struct batch *batch, const struct strand *strand, char **words, pid_t parent) {
     struct rlimit most = {memory, memory};
     prctl(PR_SET_PDEATHSIG, SIGKILL); /* if the driver is killed, so is this */
     if (getppid() != parent) _exit(FAILED);
     setrlimit(RLIMIT_FSIZE, &most); /* what it writes is held in memory */
-    bool ready = dup2(batch->bytes, STDIN_FILENO) >= 0 && dup2(batch->files[0], STDOUT_FILENO) >= 0 &&
+    int bytes = strand != NULL ? strand->bytes : batch->bytes, text = strand != NULL ? strand->list : batch->files[0];
+    bool ready = dup2(bytes, STDIN_FILENO) >= 0 && dup2(text, STDOUT_FILENO) >= 0 &&
                  dup2(batch->files[plan.outputs_len], STDERR_FILENO) >= 0;
-    for (size_t i = 1; i < plan.outputs_len; i++) ready = ready && dup2(batch->files[i], STDERR_FILENO + (int)i) >= 0;
+    int number = STDERR_FILENO + 1;
+    size_t outputs = strand != NULL ? 1 : plan.outputs_len, lists = batch->apart && strand == NULL ? STRANDS : 0;
+    for (size_t i = 1; i < outputs; i++) ready = ready && dup2(batch->files[i], number++) >= 0;
+    for (size_t i = 0; i < lists; i++) ready = ready && dup2(batch->strands[i].list, number++) >= 0;
     free_signals();
-    if (ready) execv(worker, batch->is_last ? plan.last : plan.words);
+    if (ready) execv(worker, words);
     _exit(127);
 }
 
-static void start_worker(struct batch *batch) {
-    char offset[24];
+/* For one of its strands, or for the whole. */
+static int start_worker(const struct batch *batch, const struct strand *strand) {
+    char offset[24], lists[64];
+    int pid, number = STDERR_FILENO + (int)plan.outputs_len;
     snprintf(offset, sizeof offset, "%" PRIu64, batch->offset);
-    char *source[] = {"--source", (char *)input_name, "--offset", offset};
-    memcpy(plan.words + plan.words_len, source, sizeof source);
-    for (size_t i = 0; i <= plan.outputs_len; i++)
-        if ((batch->files[i] = memfd_create("text", MFD_CLOEXEC)) < 0)
-            fail(FAILED, "no memory or no files left for a batch");
-    if (lseek(batch->bytes, 0, SEEK_SET) != 0) fail(FAILED, "cannot read a batch");
+    snprintf(lists, sizeof lists, "/dev/fd/%d:/dev/fd/%d", number, number + 1);
+    char *name = strand == batch->strands ? "forward" : "reverse";
+    char *apart[] = {strand != NULL ? "--strand" : "--join", strand != NULL ? name : lists};
+    char *source[] = {"--source", (char *)batch->source, "--offset", offset, NULL};
     pid_t parent = getpid();
-    while ((batch->pid = fork()) < 0) {
-        if (first == NULL) fail(FAILED, "cannot start a process: %s", strerror(errno));
+    for (;;) { /* turn may start another, by its own words */
+        char **more = plan.words + plan.words_len;
+        if (batch->apart) more = mempcpy(more, apart, sizeof apart);
+        memcpy(more, source, sizeof source);
+        if ((pid = fork()) >= 0) break;
+        if (running == 0) fail(FAILED, "cannot start a process: %s", strerror(errno));
         turn(-1);
     }
-    if (batch->pid == 0) become_worker(batch, parent);
+    if (pid == 0) become_worker(batch, strand, batch->is_last ? plan.last : plan.words, parent);
+    running++;
+    return pid;
+}
+
+/* On its bytes, from the first one on. */
+static void start_batch(struct batch *batch) {
+    if (lseek(batch->bytes, 0, SEEK_SET) != 0) fail(FAILED, "cannot read a batch");
+    int pid = start_worker(batch, NULL);
+    batch->pid = pid;
+}
+
+static void start_strands(struct batch *batch) {
+    char path[32];
+    snprintf(path, sizeof path, "/proc/self/fd/%d", batch->bytes);
+    for (struct strand *strand = batch->strands; strand < batch->strands + STRANDS; strand++) {
+        strand->list = new_file("list");
+        strand->bytes = open(path, O_RDONLY | O_CLOEXEC);
+        if (strand->bytes < 0) fail(FAILED, "cannot read a batch");
+        int pid = start_worker(batch, strand);
+        strand->pid = pid;
+    }
+}
+
+/* A long record alone that is masked on both strands, if no other waits for the second worker, and there is memory. */
+static bool goes_apart(const struct batch *batch) {
+    char opens;
+    return plan.strands && running + STRANDS <= threads && batch->last == 0 && batch->size >= LONG &&
+           of_strands(batch->size) <= memory && pread(batch->bytes, &opens, 1, 0) == 1 && opens == '>';
 }
 
 void launch(struct batch *batch) {
@@ -87,12 +135,17 @@ void launch(struct batch *batch) {
     if (failed) drain(); /* does not return */
     used -= batch->held;
     batch->held = 0;
-    if (!reserve(batch, batch->size)) fail(FAILED, "no memory for a batch");
-    start_worker(batch);
+    batch->source = input_name;
+    batch->apart = !batch->is_last && goes_apart(batch);
+    if (!reserve_bytes(batch, batch->apart ? of_strands(batch->size) : of_worker(batch->size)))
+        fail(FAILED, "no memory for a batch");
+    for (size_t i = 0; i <= plan.outputs_len; i++) batch->files[i] = new_file("text");
+    batch->pid = -1;
     if (first == NULL) first = batch;
     else last->next = batch;
     last = batch;
-    running++;
+    if (batch->apart) start_strands(batch);
+    else start_batch(batch);
 }
 
 void run_last(void) {
@@ -112,7 +165,6 @@ static bool is_done(const struct batch *batch) {
 }
 
 static void end_batch(struct batch *batch, int status) {
-    running--;
     used -= batch->held;
     batch->held = 0;
     batch->pid = 0;
@@ -128,8 +180,37 @@ static void end_batch(struct batch *batch, int status) {
         batch->held += length;
         close(batch->files[i]);
     }
+    for (int i = 0; i < STRANDS && batch->apart; i++)
+        if (batch->strands[i].list > 0) close(batch->strands[i].list);
     used += batch->held;
     if (!is_done(batch) || WEXITSTATUS(status) == STOPPED) failed = true;
+}
+
+static void stop(int *pid) {
+    if (*pid <= 0) return;
+    kill(*pid, SIGKILL);
+    waitpid(*pid, NULL, 0);
+    *pid = 0;
+    running--;
+}
+
+/* The worker of both starts after the last; it finds and says a fault of the file, too. */
+static void end_strand(struct batch *batch, struct strand *strand, int status) {
+    bool all = (uint64_t)lseek(strand->bytes, 0, SEEK_CUR) == batch->size;
+    bool good = WIFEXITED(status) && ((WEXITSTATUS(status) == 0 && all) || WEXITSTATUS(status) == STOPPED);
+    close(strand->bytes);
+    strand->pid = 0;
+    if (good && ++batch->masked == STRANDS) start_batch(batch);
+    if (good) return;
+    for (int i = 0; i < STRANDS; i++) stop(&batch->strands[i].pid);
+    lseek(batch->bytes, 0, SEEK_SET); /* none of them counts as read */
+    end_batch(batch, status);
+}
+
+static void end_worker(struct batch *batch, int pid, int status) {
+    if (batch->pid == pid) end_batch(batch, status);
+    for (int i = 0; i < STRANDS; i++)
+        if (batch->strands[i].pid == pid) end_strand(batch, &batch->strands[i], status);
 }
 
 static void write_batch(struct batch *batch) {
@@ -163,10 +244,11 @@ bool turn(int file) {
     show_progress();
     if (caught != 0) finish(FAILED);
     for (struct batch *batch = first; batch != NULL; batch = batch->next)
-        if (batch->pid != 0) free_taken(batch);
-    while ((ended = waitpid(-1, &status, WNOHANG)) > 0)
-        for (struct batch *batch = first; batch != NULL; batch = batch->next)
-            if (batch->pid == ended) end_batch(batch, status);
+        if (batch->pid > 0) free_taken(batch);
+    while ((ended = waitpid(-1, &status, WNOHANG)) > 0) {
+        running--;
+        for (struct batch *batch = first; batch != NULL; batch = batch->next) end_worker(batch, ended, status);
+    }
     while (first != NULL && first->pid == 0) {
         struct batch *batch = first;
         write_batch(batch);
@@ -181,10 +263,10 @@ void drain(void) {
 }
 
 void finish(int status) {
-    for (struct batch *batch = first; batch != NULL; batch = batch->next)
-        if (batch->pid > 0) kill(batch->pid, SIGKILL);
-    for (struct batch *batch = first; batch != NULL; batch = batch->next)
-        if (batch->pid > 0) waitpid(batch->pid, NULL, 0);
+    for (struct batch *batch = first; batch != NULL; batch = batch->next) {
+        stop(&batch->pid);
+        for (int i = 0; i < STRANDS; i++) stop(&batch->strands[i].pid);
+    }
     if (status == FAILED) drop_outputs();
     if (caught != 0) {
         signal(caught, SIG_DFL);

@@ -289,6 +289,23 @@ fn parts<'a>(alloc: Global, command: Command<'a>) -> Result<Command<'a>, AllocEr
         .hide(true))
 }
 
+// A record whose strands are masked apart: one of them, or the lists of both.
+fn strands<'a>(alloc: Global, command: Command<'a>) -> Result<Command<'a>, AllocError> {
+    let strand = value(
+        alloc,
+        "strand",
+        "STRAND",
+        "forward or reverse: write the list of this strand, as bytes, and nothing else",
+    );
+    let lists = value(
+        alloc,
+        "join",
+        "FILE:FILE",
+        "the lists of both strands of the only record",
+    );
+    command.arg(strand.hide(true))?.arg(lists.hide(true))
+}
+
 // What a last run is told: standard input has the numbers of all parts.
 fn last<'a>(alloc: Global, command: Command<'a>) -> Result<Command<'a>, AllocError> {
     let foot = flag(alloc, "foot", "write what stands below all records");
@@ -309,8 +326,6 @@ pub fn command<'a>(alloc: Global) -> Result<Command<'a>, AllocError> {
         .args_override_self(true)
         .arg(files)?;
     let written = limits(alloc, free(alloc, lists(alloc, forms(alloc, command)?)?)?)?;
-    last(
-        alloc,
-        parts(alloc, running(alloc, masker(alloc, written)?)?)?,
-    )
+    let whole = parts(alloc, running(alloc, masker(alloc, written)?)?)?;
+    last(alloc, strands(alloc, whole)?)
 }

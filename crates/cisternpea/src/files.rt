@@ -3,7 +3,7 @@
 use crate::budget::held_by;
 use crate::closing::say_sums;
 use crate::notes::Notes;
-use crate::request::Request;
+use crate::request::{Request, Strands};
 use crate::said_of_files::{advice, say_failed};
 use crate::saying;
 use crate::sink::{Sink, Target, open_file, settle};
@@ -13,6 +13,7 @@ use entries::{Failed, Sums, read_sums, write_sums};
 use forms::{Form, Room};
 use std::fs::File;
 use std::io::{BufRead, BufReader, BufWriter, Write};
+use strands::Joining;
 
 // The outputs: their forms, and a writer for each; what was counted.
 #[derive(Drop)]
@@ -92,6 +93,53 @@ fn say_full<R: BufRead>(rt: &HostRuntime, name: &str, request: &Request, reader:
     );
 }
 
+// The lists of both strands, as bytes.
+fn read_lists(
+    rt: &HostRuntime,
+    forward: &str,
+    reverse: &str,
+) -> Result<(Vec<u8>, Vec<u8>), Failed> {
+    match std::fs::read(rt, forward) {
+        Ok(forward) => match std::fs::read(rt, reverse) {
+            Ok(reverse) => Ok((forward, reverse)),
+            Err(e) => Err(Failed::Reading(e)),
+        },
+        Err(e) => Err(Failed::Reading(e)),
+    }
+}
+
+// Writes what is asked for of the records that the reader gives.
+fn put_reader<R: BufRead>(
+    rt: &HostRuntime,
+    reader: &mut Watched<R>,
+    request: &Request,
+    outs: &mut Outs,
+) -> Result<(), Failed> {
+    let alloc = rt.alloc();
+    let settings = request.settings;
+    let forms = outs.forms.as_slice();
+    let writers = outs.writers.as_mut_slice();
+    let sums = &mut outs.sums;
+    let mut notes = Notes { inner: rt.stderr() };
+    match request.strands {
+        Strands::Both => forms::put_file(alloc, reader, forms, settings, writers, &mut notes, sums),
+        Strands::One(reverse) => {
+            let options = settings.options;
+            strands::put_strand(alloc, reader, options, reverse, writers, &mut notes, sums)
+        }
+        Strands::Joined(forward, reverse) => {
+            let (forward, reverse) = read_lists(rt, forward, reverse)?;
+            let joining = Joining {
+                forms,
+                settings,
+                forward: forward.as_slice(),
+                reverse: reverse.as_slice(),
+            };
+            strands::put_joined(alloc, reader, &joining, writers, &mut notes, sums)
+        }
+    }
+}
+
 // Masks the records that the reader gives: the status.
 fn mask_reader<R: BufRead>(
     rt: &HostRuntime,
@@ -100,18 +148,8 @@ fn mask_reader<R: BufRead>(
     request: &Request,
     outs: &mut Outs,
 ) -> u8 {
-    let mut notes = Notes { inner: rt.stderr() };
     let refused = outs.sums.refused;
-    let result = forms::put_file(
-        rt.alloc(),
-        reader,
-        outs.forms.as_slice(),
-        request.settings,
-        outs.writers.as_mut_slice(),
-        &mut notes,
-        &mut outs.sums,
-    );
-    match result {
+    match put_reader(rt, reader, request, outs) {
         Ok(()) => {
             if !reader.place.some & is_begin(request) {
                 saying::say(rt, name, "there is no record in it");
@@ -126,11 +164,19 @@ fn mask_reader<R: BufRead>(
             let status = failed_status(request, &failed);
             if reader.is_full() {
                 say_full(rt, name, request, reader);
-            } else {
+            } else if says(request, status) {
                 say_failed(rt, name, request, reader.place, failed);
             }
             status
         }
+    }
+}
+
+// Whether a fault of the file is said here: of one that is read for a strand alone, it is where both are joined.
+fn says(request: &Request, status: u8) -> bool {
+    match request.strands {
+        Strands::One(_) => status != FAULTY,
+        _ => true,
     }
 }
 
@@ -160,7 +206,9 @@ fn mask_input<R: BufRead + Drop>(
 ) -> u8 {
     if is_begin(request) {
         if let Some(advice) = advice(first_kind(&mut reader)) {
-            saying::say(rt, name, advice);
+            if says(request, FAULTY) {
+                saying::say(rt, name, advice);
+            }
             return if request.part.is_some() {
                 FAULTY
             } else {
@@ -239,6 +287,9 @@ fn write_end(rt: &HostRuntime, request: &Request, outs: &mut Outs) -> std::io::R
             outs.writers.as_mut_slice(),
         )?;
     }
+    if let Strands::One(_) = request.strands {
+        return flush_all(outs.writers.as_mut_slice());
+    }
     if let Some(path) = request.numbers {
         write_sums(rt.alloc(), outs.sums, &mut File::create(rt, path)?)?;
     }
@@ -304,6 +355,12 @@ fn open_outs<'a>(
         writers: Vec::new(rt.alloc()),
         sums: Sums::new(),
     };
+    if let Strands::One(_) = request.strands {
+        let sink = Sink::Standard(rt.stdout());
+        outs.writers
+            .push(BufWriter::with_capacity(rt.alloc(), ROOM, sink)?)?;
+        return Ok(Some(outs));
+    }
     let in_place = request.part.is_some() | request.foot;
     for output in &request.outputs {
         let path = output.file.or(request.output);

@@ -195,6 +195,9 @@ pub fn plan(
     if request.quiet {
         add_line(&mut text, b'q', b"")?;
     }
+    if !request.settings.options.forward_only {
+        add_line(&mut text, b's', b"")?;
+    }
     add_words(alloc, &mut text, matches, request)?;
     add_last(alloc, &mut text, matches, request)?;
     Ok(text)

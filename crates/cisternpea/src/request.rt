@@ -1,7 +1,7 @@
 // What a command line asks for.
 
 use crate::outputs::{Output, read_outputs};
-use crate::values::{fraction, whole};
+use crate::values::{fraction, split_file, whole};
 use clap::ArgMatches;
 use forms::{Form, Settings};
 use longdust::LongdustOptions;
@@ -16,6 +16,17 @@ pub struct Part<'a> {
     pub source: &'a str,
     /// Bytes of the file before this part.
     pub offset: u64,
+}
+
+/// What is done with the strands of a record.
+#[derive(Clone, Copy)]
+pub enum Strands<'a> {
+    /// Both are masked.
+    Both,
+    /// One is, the reverse complement or the other; its list is written, as bytes.
+    One(bool),
+    /// They were masked: the files of their lists, that of the reverse complement last.
+    Joined(&'a str, &'a str),
 }
 
 /// What a command line asks for.
@@ -35,6 +46,8 @@ pub struct Request<'a> {
     pub quiet: bool,
     /// The part of a file that this run is for.
     pub part: Option<Part<'a>>,
+    /// What is done with the strands.
+    pub strands: Strands<'a>,
     /// The file for the numbers of that part.
     pub numbers: Option<&'a str>,
     /// Standard input has the numbers of all parts: what stands below the records is to be written.
@@ -175,6 +188,25 @@ fn asked_part<'a>(rt: &HostRuntime, matches: &ArgMatches<'a>) -> Option<Option<P
     Some(Some(Part { source, offset }))
 }
 
+fn asked_strands<'a>(rt: &HostRuntime, matches: &ArgMatches<'a>) -> Option<Strands<'a>> {
+    if let Some(text) = matches.get_str("join") {
+        let (forward, reverse) = split_file(text);
+        if reverse.is_none() {
+            wrong(rt, "join", text, "two files");
+        }
+        return Some(Strands::Joined(forward, reverse?));
+    }
+    match matches.get_str("strand") {
+        None => Some(Strands::Both),
+        Some("forward") => Some(Strands::One(false)),
+        Some("reverse") => Some(Strands::One(true)),
+        Some(text) => {
+            wrong(rt, "strand", text, "forward or reverse");
+            None
+        }
+    }
+}
+
 // Whether what was counted is said: on a terminal.
 fn says_closing(rt: &HostRuntime, matches: &ArgMatches) -> bool {
     if matches.get_flag("quiet") | matches.get_str("source").is_some() {
@@ -214,6 +246,7 @@ fn with_outputs<'a>(
         memory: memory(rt, matches)?,
         quiet: matches.get_flag("quiet"),
         part: asked_part(rt, matches)?,
+        strands: asked_strands(rt, matches)?,
         numbers: matches.get_str("numbers"),
         foot: matches.get_flag("foot"),
         closing: matches.get_flag("closing") | says_closing(rt, matches),

@@ -8,3 +8,4 @@ pub mod Joined
 pub mod Adding
 pub mod Numbers
 pub mod Parts
+pub mod Same

@@ -1,7 +1,9 @@
 // The entries of a file, one after the other, from a reader.
 
-ghost use Rattle.std.specs.Prelude.{◌≡◌, ◌++◌, ℕ, List, length, IfOk, IfSome, OnOk};
-ghost use Rattle.std.specs.Io.KnownBytes.{Keeps};
+ghost use Rattle.std.specs.Prelude.{◌≡◌, ◌≢◌, ◌≤◌, ◌<◌, ◌-◌, ◌++◌, ℕ, List, All, length, take, true, Ok, IfOk, IfSome, OnOk, OnSome};
+ghost use Rattle.std.specs.Io.{StartsWith, StopsAt, IsEmptyOrEndsWith, appended_bytes};
+ghost use Rattle.std.specs.Io.BufRead.{take_through, DropsThrough};
+ghost use Rattle.std.specs.Io.KnownBytes.{Keeps, Consumes, IsAtEnd};
 ghost use Rattle.entries.specs.Lines.{dropped, chomped};
 ghost use Rattle.entries.specs.Held.{entry_of};
 ghost use Rattle.entries.specs.Terms.Reading.{first_of, LineRead, LinesRead, HeaderRead, EntryRead};
@@ -9,6 +11,7 @@ ghost use Rattle.entries.specs.Terms.Reading.{first_of, LineRead, LinesRead, Hea
 use crate::held::note_line;
 use crate::{Failed, HeldEntry, LineRun};
 use fasta::Fault;
+use memchr::memchr;
 use std::io::{BufRead, Error, ErrorKind, Result as IoResult};
 
 // The next byte, which stays where it is; none at the end.
@@ -24,6 +27,59 @@ fn peek<R: BufRead>(reader: &mut R) -> IoResult<Option<u8>>
                     return Err(e);
                 }
             }
+        }
+    }
+    Err(Error::other("too many reads"))
+}
+
+// How many bytes stand up to the end of the first line, the end included; all of them, if none ends.
+fn line_length(shown: &[u8]) -> usize
+    ensures bound { result ≤ length shown.now }
+    ensures some { 0 < length shown.now → 0 < result }
+    ensures before { All (λ x. x ≢ 10) (take (result - 1) shown.now) }
+{
+    match memchr(b'\n', shown) {
+        Some(at) => at + 1,
+        None => shown.len(),
+    }
+}
+
+// The bytes that the reader shows, up to a line's end, join `line`; whether the line has ended, or the file.
+fn append_line<R: BufRead>(reader: &mut R, line: &mut Vec<u8>) -> IoResult<bool>
+    ensures appends { StartsWith line.new.items line.old.items }
+    ensures stops { StopsAt (appended_bytes line.old.items line.new.items) 10 }
+    ensures bytes { Consumes (R.remaining reader.old) (R.remaining reader.new) (appended_bytes line.old.items line.new.items) }
+    ensures end { result ≡ Ok true → length (appended_bytes line.old.items line.new.items) ≡ 0
+        → OnSome (R.remaining reader.old) (IsAtEnd (R.remaining reader.new)) }
+    ensures no_end_unless_done { result ≢ Ok true → All (λ x. x ≢ 10) (appended_bytes line.old.items line.new.items) }
+    ensures done_at_end { result ≡ Ok true → IsEmptyOrEndsWith (appended_bytes line.old.items line.new.items) 10 }
+{
+    let shown = match reader.fill_buf() {
+        Ok(shown) => shown,
+        Err(e) => {
+            return if e.kind() == ErrorKind::Interrupted {
+                Ok(false)
+            } else {
+                Err(e)
+            };
+        }
+    };
+    let n = line_length(shown);
+    line.extend_from_slice(&shown[..n])?;
+    let done = n == 0 || shown[n - 1] == b'\n';
+    reader.consume(n);
+    Ok(done)
+}
+
+// The bytes up to a line's end, or the file's, join `line`: `read_until`, which asks each byte by itself.
+fn read_through<R: BufRead>(reader: &mut R, line: &mut Vec<u8>) -> IoResult<()>
+    ensures appends { StartsWith line.new.items line.old.items }
+    ensures bytes { OnOk result (IfSome (R.remaining reader.old) (λ xs. line.new.items ≡ line.old.items ++ take_through 10 xs)) }
+    ensures rest { OnOk result (DropsThrough (R.remaining reader.old) (R.remaining reader.new) 10) }
+{
+    for _ in 0..u64::MAX {
+        if append_line(reader, line)? {
+            return Ok(());
         }
     }
     Err(Error::other("too many reads"))
@@ -59,8 +115,8 @@ fn read_line<R: BufRead>(reader: &mut R, cr: bool, line: &mut Vec<u8>) -> IoResu
         LineRead cr xs (R.remaining reader.new) line.old.items line.new.items some)) }
 {
     let from = line.len();
-    let n = reader.read_until(b'\n', line)?;
-    if n == 0 {
+    read_through(reader, line)?;
+    if line.len() == from {
         return Ok(false);
     }
     drop_end(line, from, b'\n');

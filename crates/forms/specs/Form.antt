@@ -8,7 +8,7 @@ use Rattle.longdust.specs.declared.LongdustOptions.{LongdustOptions}
 use Rattle.entries.specs.Entries.{Entry, joined}
 use Rattle.entries.specs.declared.sums.Sums.{Sums}
 use Rattle.entries.specs.Outcome.{Report, text_of, sums_of}
-use Rattle.masker.specs.Run.{record_refusal, record_mask, record_marks}
+use Rattle.masker.specs.Run.{Making, by_options}
 use Rattle.forms.specs.declared.form.Settings.{Settings}
 use Rattle.forms.specs.declared.form.Form.{Form}
 use Rattle.forms.specs.declared.form.Form.TheVariants.{Bed, Marks, Soft, HardN, HardX, Summary, Bedgraph, Strongest, Free}
@@ -94,15 +94,14 @@ passes skip number = skip && eqb number 3
 abbrev pub report_by : Bool → ℕ → (masked bare through : Report) → Report
 report_by skip number masked bare through = cond (eqb number 0) masked (cond (passes skip number) bare through)
 
--- The report of an entry to writers of these forms.
-unfoldable pub report_of : List Form → Settings → Entry → Report
-report_of forms st e =
+-- The report of an entry to writers of these forms, by what becomes of its letters.
+unfoldable pub report_by_making : List Form → LongdustOptions → Making → Bool → ℕ → Entry → Report
+report_by_making forms o m skip least e =
     let s : List ℕ = joined e.lines in
-    let o : LongdustOptions = st.options in
-    report_by st.skip_short (record_refusal o s)
-    (accepted forms o st.min_length e (record_mask o s) (record_marks o s))
-    (accepted forms o st.min_length e [] [])
-    (refused forms e (record_refusal o s))
+    report_by skip (m.refusal s) (accepted forms o least e (m.mask s) (m.marks s)) (accepted forms o least e [] []) (refused forms e (m.refusal s))
+
+abbrev pub report_of : List Form → Settings → Entry → Report
+report_of forms st e = report_by_making forms st.options (by_options st.options) st.skip_short st.min_length e
 
 -- ---- A file, to the writer with a number.
 -- Head, the texts of its records, and the foot by their sums.

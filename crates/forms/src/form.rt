@@ -5,7 +5,7 @@ ghost use Rattle.fasta.specs.Lines.{name_of};
 ghost use Rattle.entries.specs.Held.{entry_of};
 ghost use Rattle.entries.specs.Outcome.{Sent, AllSent, Recorded, Outcome};
 ghost use Rattle.checks.specs.Refusal.{number};
-ghost use Rattle.forms.specs.Form.{body, head_of, foot_of, by_form, passes, report_of};
+ghost use Rattle.forms.specs.Form.{body, head_of, foot_of, by_form, passes, report_by_making, report_of};
 
 use crate::bed::{Bed, MarkedBed};
 use crate::bedgraph::write_bedgraph;
@@ -21,7 +21,7 @@ use entries::{Failed, HeldEntry, Recorder, Sums, put_records, write_whole};
 use intervals::Interval;
 use longdust::LongdustOptions;
 use masked_copy::Masking;
-use masker::Masker;
+use masker::{Maker, Masker};
 use ranking::Wanted;
 use std::alloc::Global;
 use std::io::{BufRead, Result as IoResult, Write};
@@ -65,14 +65,14 @@ pub struct Settings {
 }
 
 // Writes an accepted entry.
-pub fn write_body<W: Write>(
+pub fn write_body<M: Maker, W: Write>(
     form: Form,
-    part: &Accepted,
+    part: &Accepted<'_, M>,
     room: &mut Room,
     out: &mut W,
 ) -> IoResult<()>
     ensures { let p = part.now in
-        Sent (W.contents out.old) (W.contents out.new) (body p.masker.now.options p.least form (entry_of p.entry.now) p.list.now p.marks.now) result }
+        Sent (W.contents out.old) (W.contents out.new) (body (M.options p.masker.now) p.least form (entry_of p.entry.now) p.list.now p.marks.now) result }
 {
     let entry = part.entry;
     let list = part.list;
@@ -143,11 +143,11 @@ pub fn put_feet<W: Write>(
 /// Masks each record alone, and writes it to each writer in its form. A record that is refused is passed through as it came in FASTA, and is not in
 /// the other forms; a line is said of it.
 #[derive(Drop)]
-pub struct FormRecorder<'a> {
+pub struct FormRecorder<'a, M: Maker> {
     /// What is written, a form a writer.
     pub forms: &'a [Form],
-    /// The masker, with its options.
-    pub masker: Masker,
+    /// What makes the masks.
+    pub masker: M,
     /// Whether records of too few letters are accepted, with no mask.
     pub skip_short: bool,
     /// The fewest letters of an interval that has a line.
@@ -167,8 +167,8 @@ fn passes(skip: bool, refusal: Refusal) -> bool
     skip & (refusal.number() == 3)
 }
 
-impl<'a> Recorder for FormRecorder<'a> {
-    ghost report = { λ r. report_of r.forms.now (record { options = r.masker.options; skip_short = r.skip_short; min_length = r.min_length }) };
+impl<'a, M: Maker> Recorder for FormRecorder<'a, M> {
+    ghost report = { λ r. report_by_making r.forms.now (M.options r.masker) (M.making r.masker) r.skip_short r.min_length };
 
     fn put<W: Write, N: Write>(
         &mut self,
@@ -178,7 +178,7 @@ impl<'a> Recorder for FormRecorder<'a> {
     ) -> Result<Sums, Failed> {
         let least = self.min_length;
         let letters = entry.letters.as_slice();
-        match self.masker.mask(letters, &mut self.list, &mut self.marks) {
+        match self.masker.make(letters, &mut self.list, &mut self.marks) {
             Ok(Ok(count)) => {
                 let list = &self.list.as_slice()[..count];
                 let marks = &self.marks.as_slice()[..count];

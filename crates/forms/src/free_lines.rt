@@ -11,11 +11,12 @@ use crate::outputs::Accepted;
 use crate::room::Room;
 use free::{Asked, fill_free};
 use intervals::Interval;
+use masker::Maker;
 use std::io::{Error, Result as IoResult, Write};
 
 // Writes them.
-pub fn write_free<W: Write>(
-    part: &Accepted,
+pub fn write_free<M: Maker, W: Write>(
+    part: &Accepted<'_, M>,
     pad: u32,
     room: &mut Room,
     out: &mut W,

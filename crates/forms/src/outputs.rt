@@ -16,7 +16,7 @@ use crate::summary::write_foot;
 use checks::Refusal;
 use entries::{Failed, HeldEntry, Sums};
 use intervals::Interval;
-use masker::Masker;
+use masker::Maker;
 use std::io::{Result as IoResult, Write};
 
 // What is written of a record, by the form.
@@ -29,17 +29,17 @@ pub trait Part {
 
 // An entry that is accepted.
 #[derive(Drop)]
-pub struct Accepted<'a> {
+pub struct Accepted<'a, M: Maker> {
     pub entry: &'a HeldEntry,
-    // The masker that masked it.
-    pub masker: &'a Masker,
+    // What made its mask.
+    pub masker: &'a M,
     pub least: u32,
     pub list: &'a [Interval],
     pub marks: &'a [u8],
 }
 
-impl<'a> Part for Accepted<'a> {
-    ghost text = { λ a f. body a.masker.now.options a.least f (entry_of a.entry.now) a.list.now a.marks.now };
+impl<'a, M: Maker> Part for Accepted<'a, M> {
+    ghost text = { λ a f. body (M.options a.masker.now) a.least f (entry_of a.entry.now) a.list.now a.marks.now };
 
     fn write<W: Write>(&self, form: Form, room: &mut Room, out: &mut W) -> IoResult<()> {
         write_body(form, self, room, out)
@@ -101,14 +101,14 @@ pub fn write_parts<P: Part, W: Write>(
 }
 
 // Writes an entry that is accepted; nothing is said of it, so whatever the writer of notes holds stays.
-pub fn put_accepted<W: Write>(
+pub fn put_accepted<M: Maker, W: Write>(
     forms: &[Form],
-    part: &Accepted,
+    part: &Accepted<'_, M>,
     room: &mut Room,
     outs: &mut [W],
 ) -> Result<Sums, Failed>
     ensures { (notes : Option (List ℕ)) → Recorded
-        (accepted forms.now part.now.masker.now.options part.now.least (entry_of part.now.entry.now) part.now.list.now part.now.marks.now)
+        (accepted forms.now (M.options part.now.masker.now) part.now.least (entry_of part.now.entry.now) part.now.list.now part.now.marks.now)
         (map (λ w. W.contents w) outs.old) (map (λ w. W.contents w) outs.new) notes notes result }
 {
     let sums = match accepted_sums(part.entry.letters.as_slice(), part.list) {

@@ -10,29 +10,29 @@ use crate::outputs::Accepted;
 use crate::room::Room;
 use checks::{kmer_outside, window_above};
 use entries::write_whole;
-use masker::TableRoom;
+use masker::{Maker, TableRoom};
 use ranking::{Means, Ranker, Record, Wanted};
 use std::alloc::AllocError;
 use std::io::{Result as IoResult, Write};
 
 // Makes the lines of an entry, by the options and the tables of its masker.
-fn make_lines(
-    part: &Accepted,
+fn make_lines<M: Maker>(
+    part: &Accepted<'_, M>,
     wanted: Wanted,
     tables: &mut TableRoom,
     ranker: &mut Ranker,
     text: &mut Vec<u8>,
 ) -> Result<(), AllocError>
-    ensures { OnOk result (text.new.items ≡ strongest_lines part.now.masker.now.options wanted
+    ensures { OnOk result (text.new.items ≡ strongest_lines (M.options part.now.masker.now) wanted
         (name_of part.now.entry.now.header.items) part.now.entry.now.letters.items part.now.list.now) }
 {
     text.clear();
-    let options = part.masker.options;
+    let options = part.masker.options();
     if kmer_outside(options.kmer) | window_above(options.window_size) {
         return Ok(());
     }
     let letters = part.entry.letters.as_slice();
-    let lent = part.masker.tables_of(letters, tables)?;
+    part.masker.fill_tables(letters, tables)?;
     let contig = Record {
         name: part.entry.name(),
         letters,
@@ -42,21 +42,21 @@ fn make_lines(
         kmer: options.kmer,
         window_size: options.window_size,
         score_threshold: options.score_threshold,
-        ln: lent.ln,
-        f: lent.f,
+        ln: tables.ln.as_slice(),
+        f: tables.f.as_slice(),
     };
     ranker.add_listing(&contig, &means, wanted, text)?;
     Ok(())
 }
 
 // Writes them.
-pub fn write_strongest<W: Write>(
-    part: &Accepted,
+pub fn write_strongest<M: Maker, W: Write>(
+    part: &Accepted<'_, M>,
     wanted: Wanted,
     room: &mut Room,
     out: &mut W,
 ) -> IoResult<()>
-    ensures { Sent (W.contents out.old) (W.contents out.new) (strongest_lines part.now.masker.now.options wanted
+    ensures { Sent (W.contents out.old) (W.contents out.new) (strongest_lines (M.options part.now.masker.now) wanted
         (name_of part.now.entry.now.header.items) part.now.entry.now.letters.items part.now.list.now) result }
 {
     make_lines(

@@ -1,9 +1,10 @@
 -- The checks of a sequence are the first ones of a request.
-use Rattle.std.proofs.Common.{◌≡◌, refl, sym, ◌∙◌, ℕ, ◌<◌, ◌≤◌, Bool, true, false, cond, ltb, List, [], ◌∷◌, ◌++◌, drop, length, arith}
+use Rattle.std.proofs.Common.{◌≡◌, ◌≢◌, refl, sym, ap₂, ◌∙◌, true≢false, ℕ, ◌<◌, ◌≤◌, Bool, true, false, ◌||◌, cond, ltb, List, [], ◌∷◌, ◌++◌, drop, length, arith}
 use borrow.Author.Tests.{ltb-false}
 use Rattle.scans.proofs.Test.{neither}
 use Rattle.checks.specs.Checks.{Check, first}
 use Rattle.checks.specs.Sequence.{sequence_checks}
+use Rattle.checks.specs.Tests.{kmer_outside, window_above}
 use Rattle.checks.proofs.Passing.{passes}
 use Rattle.longdust.specs.declared.LongdustOptions.{LongdustOptions}
 use Rattle.longdust.specs.Checks.{checks, refusal}
@@ -32,6 +33,16 @@ module _ (o : LongdustOptions) (s : List ℕ) where
 
     pub window_high : o.window_size ≤ 65535
     window_high = ltb-false 65535 o.window_size (passes (sequence_checks s o.kmer o.window_size) refl e 5)
+
+  refused_outside : (kmer_outside o.kmer || window_above o.window_size) ≡ true → first (sequence_checks s o.kmer o.window_size) ≢ 0
+  refused_outside h e =
+      let k : kmer_outside o.kmer ≡ false = passes (sequence_checks s o.kmer o.window_size) refl e 0 in
+      let w : window_above o.window_size ≡ false = passes (sequence_checks s o.kmer o.window_size) refl e 5 in
+      true≢false (sym h ∙ ap₂ (λ (x y : Bool). x || y) k w)
+
+  pub refused_early : (kmer_outside o.kmer || window_above o.window_size) ≡ true → (n : ℕ) → n ≡ first (sequence_checks s o.kmer o.window_size)
+      → n ≡ record_refusal o s
+  refused_early h n e = let some : n ≢ 0 = λ z. refused_outside h (sym e ∙ z) in refused_first n (omega (arith, some)) e
 
   pub accepted_bounds : record_refusal o s ≡ 0 → (o.kmer ≤ 12) × (o.window_size ≤ 65535)
   unfolding record_refusal

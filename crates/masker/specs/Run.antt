@@ -40,18 +40,34 @@ record_mask o s = mask o s (ln_of o) (f_of o s)
 unfoldable pub record_marks : LongdustOptions → List ℕ → List ℕ
 record_marks o s = marks_of (marked_mask o s (ln_of o) (f_of o s))
 
+-- What becomes of a record's letters: the number of their refusal, 0 for none; their mask, and its marks.
+pub record Making : Type 0 where
+  pub refusal : List ℕ → ℕ
+  pub mask : List ℕ → List Interval
+  pub marks : List ℕ → List ℕ
+
+abbrev pub by_options : LongdustOptions → Making
+by_options o = record { refusal = record_refusal o; mask = record_mask o; marks = record_marks o }
+
 -- The mask and the marks stand at the front of two lists.
-pub record Held (o : LongdustOptions) (s : List ℕ) (list : List Interval) (marks : List ℕ) (count : ℕ) : Type 0 where
-  pub accepted : record_refusal o s ≡ 0
+pub record Made (m : Making) (s : List ℕ) (list : List Interval) (marks : List ℕ) (count : ℕ) : Type 0 where
+  pub accepted : m.refusal s ≡ 0
   pub list_long : count ≤ length list
   pub marks_long : count ≤ length marks
-  pub list_is : take count list ≡ record_mask o s
-  pub marks_are : take count marks ≡ record_marks o s
+  pub list_is : take count list ≡ m.mask s
+  pub marks_are : take count marks ≡ m.marks s
 
--- What the masker answers, with the lists that it leaves.
+-- What a masker answers, with the lists that it leaves.
+abbrev pub Makes : Making → List ℕ → List Interval → List ℕ → Result ℕ Refusal → Type 0
+Makes m s list marks (Ok count) = Made m s list marks count
+Makes m s list marks (Err r) = m.refusal s ≡ number r
+
+-- The same by options.
+abbrev pub Held : LongdustOptions → List ℕ → List Interval → List ℕ → ℕ → Type 0
+Held o s list marks count = Made (by_options o) s list marks count
+
 abbrev pub Masks : LongdustOptions → List ℕ → List Interval → List ℕ → Result ℕ Refusal → Type 0
-Masks o s list marks (Ok count) = Held o s list marks count
-Masks o s list marks (Err r) = record_refusal o s ≡ number r
+Masks o s list marks r = Makes (by_options o) s list marks r
 
 -- ---- Tables that are filled once.
 -- The GC choice goes by a record's letters.

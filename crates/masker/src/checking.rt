@@ -8,7 +8,7 @@ ghost use Rattle.masker.specs.Run.{listed, record_refusal};
 use checks::Refusal;
 use longdust::{Lent, LongdustOptions};
 
-// The most intervals that a list of n letters can have.
+/// The most intervals that a list of n letters can have.
 pub fn most_rows(n: usize, k: usize) -> usize
     requires { (n < 2 ^ 63) × (k ≤ 12) }
     ensures { result ≡ most_intervals n k }
@@ -41,12 +41,12 @@ fn listed(options: LongdustOptions, n: usize) -> Lent
     }
 }
 
-// The first check that fails.
+/// The first check that a record's letters fail, whatever the buffers.
 pub fn check(options: LongdustOptions, letters: &[u8]) -> Result<(), Refusal>
     ensures { number_of result ≡ record_refusal options letters.now }
 {
-    match checks::check_sequence(letters, options.kmer, options.window_size) {
-        Ok(()) => longdust::check(options, letters, listed(options, letters.len())),
-        Err(refusal) => Err(refusal),
+    if checks::kmer_outside(options.kmer) | checks::window_above(options.window_size) {
+        return checks::check_sequence(letters, options.kmer, options.window_size);
     }
+    longdust::check(options, letters, listed(options, letters.len()))
 }

@@ -1,12 +1,10 @@
 // The tables that a record is masked by.
 
-ghost use Rattle.std.specs.Prelude.{◌≡◌, ◌≤◌, OnOk, IfOk};
+ghost use Rattle.std.specs.Prelude.{◌≡◌, ◌≤◌, OnOk};
 ghost use Rattle.masker.specs.Run.{ln_of, f_of};
 
-use crate::masker::Masker;
-use crate::tables_kept::serves_all;
 use letters::encode_sequence;
-use longdust::{LongdustOptions, Tables};
+use longdust::LongdustOptions;
 use std::alloc::{AllocError, Global};
 
 /// Room for the tables of a record.
@@ -26,9 +24,10 @@ impl TableRoom {
         }
     }
 
-    // Both tables, by the letters where the GC choice goes by them.
-    fn fill(&mut self, options: LongdustOptions, letters: &[u8]) -> Result<(), AllocError>
-        requires bounds { (options.kmer ≤ 12) × (options.window_size ≤ 65535) }
+    /// Puts both tables into the room, by the letters where the GC choice goes by them. Fails where there is no memory.
+    pub fn fill(&mut self, options: LongdustOptions, letters: &[u8]) -> Result<(), AllocError>
+        requires kmer { options.kmer ≤ 12 }
+        requires window { options.window_size ≤ 65535 }
         ensures ln { OnOk result (self.new.ln.items ≡ ln_of options) }
         ensures f { OnOk result (self.new.f.items ≡ f_of options letters.now) }
     {
@@ -46,30 +45,16 @@ impl TableRoom {
         );
         Ok(())
     }
-}
 
-impl Masker {
-    /// The two tables by which a record with these letters is masked: ln of w + 1 entries, f of w + 2. They are the masker's own where one filling
-    /// serves all records, and filled in the room else. Fails where there is no memory.
-    pub fn tables_of<'a>(
-        &'a self,
-        letters: &[u8],
-        room: &'a mut TableRoom,
-    ) -> Result<Tables<'a>, AllocError>
-        requires bounds { (self.now.options.kmer ≤ 12) × (self.now.options.window_size ≤ 65535) }
-        ensures ln { IfOk result (λ t. t.ln.now ≡ ln_of self.now.options) }
-        ensures f { IfOk result (λ t. t.f.now ≡ f_of self.now.options letters.now) }
+    // Puts copies of two tables into the room.
+    pub fn copy(&mut self, ln: &[f64], f: &[f64]) -> Result<(), AllocError>
+        ensures ln { OnOk result (self.new.ln.items ≡ ln.now) }
+        ensures f { OnOk result (self.new.f.items ≡ f.now) }
     {
-        if serves_all(self.options) {
-            return Ok(Tables {
-                ln: self.tables.ln.as_slice(),
-                f: self.tables.f.as_slice(),
-            });
-        }
-        room.fill(self.options, letters)?;
-        Ok(Tables {
-            ln: room.ln.as_slice(),
-            f: room.f.as_slice(),
-        })
+        self.ln.clear();
+        self.ln.extend_from_slice(ln)?;
+        self.f.clear();
+        self.f.extend_from_slice(f)?;
+        Ok(())
     }
 }

@@ -91,9 +91,9 @@ fn write_pair(interval: Interval, out: &mut [u8])
     out[4..].copy_from_slice(&interval.end.to_le_bytes());
 }
 
-// Writes the intervals of the list to the front of the output.
+/// Writes the intervals of the list to the front of the output: eight bytes each, start and end, lowest first.
 #[tactic(auto, using(crate::proofs::Bytes::bytes))]
-fn write_list(list: &[Interval], out: &mut [u8])
+pub fn write_list(list: &[Interval], out: &mut [u8])
     requires { 8 * length list.now ≤ length out.old }
     ensures { out.new ≡ put (bytes_of list.now) out.old }
 {

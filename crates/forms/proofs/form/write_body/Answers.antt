@@ -19,7 +19,7 @@ unfolding bed
 returns-in-Bed g c =
     sent_as _ _ _ _ c.write_each.result
     (ap (λ (n : List ℕ). bed c.args.part.now.least n c.args.part.now.list.now) c.name-name.ensures
-    ∙ ap (λ (f : Form). body c.args.part.now.masker.now.options c.args.part.now.least f (entry_of c.args.part.now.entry.now) c.args.part.now.list.now c.args.part.now.marks.now) (sym c.in-Bed.is))
+    ∙ ap (λ (f : Form). body (g.M.Maker.options c.args.part.now.masker.now) c.args.part.now.least f (entry_of c.args.part.now.entry.now) c.args.part.now.list.now c.args.part.now.marks.now) (sym c.in-Bed.is))
     c.write_each.ensures
 
 pub returns-in-Marks : goal.returns-in-Marks
@@ -27,22 +27,22 @@ unfolding marked_bed
 returns-in-Marks g c =
     sent_as _ _ _ _ c.write_each-in-Marks.result
     (ap (λ (n : List ℕ). marked_bed c.args.part.now.least n c.args.part.now.list.now c.args.part.now.marks.now) c.name-name.ensures
-    ∙ ap (λ (f : Form). body c.args.part.now.masker.now.options c.args.part.now.least f (entry_of c.args.part.now.entry.now) c.args.part.now.list.now c.args.part.now.marks.now) (sym c.in-Marks.is))
+    ∙ ap (λ (f : Form). body (g.M.Maker.options c.args.part.now.masker.now) c.args.part.now.least f (entry_of c.args.part.now.entry.now) c.args.part.now.list.now c.args.part.now.marks.now) (sym c.in-Marks.is))
     c.write_each-in-Marks.ensures
 
 pub returns-in-Soft : goal.returns-in-Soft
 returns-in-Soft g c =
-    sent_as _ _ _ _ c.write_fasta.result (ap (λ (f : Form). body c.args.part.now.masker.now.options c.args.part.now.least f (entry_of c.args.part.now.entry.now) c.args.part.now.list.now c.args.part.now.marks.now) (sym c.in-Soft.is))
+    sent_as _ _ _ _ c.write_fasta.result (ap (λ (f : Form). body (g.M.Maker.options c.args.part.now.masker.now) c.args.part.now.least f (entry_of c.args.part.now.entry.now) c.args.part.now.list.now c.args.part.now.marks.now) (sym c.in-Soft.is))
     c.write_fasta.ensures
 
 pub returns-in-HardN : goal.returns-in-HardN
 returns-in-HardN g c =
-    sent_as _ _ _ _ c.write_fasta-in-HardN.result (ap (λ (f : Form). body c.args.part.now.masker.now.options c.args.part.now.least f (entry_of c.args.part.now.entry.now) c.args.part.now.list.now c.args.part.now.marks.now) (sym c.in-HardN.is))
+    sent_as _ _ _ _ c.write_fasta-in-HardN.result (ap (λ (f : Form). body (g.M.Maker.options c.args.part.now.masker.now) c.args.part.now.least f (entry_of c.args.part.now.entry.now) c.args.part.now.list.now c.args.part.now.marks.now) (sym c.in-HardN.is))
     c.write_fasta-in-HardN.ensures
 
 pub returns-in-HardX : goal.returns-in-HardX
 returns-in-HardX g c =
-    sent_as _ _ _ _ c.write_fasta-in-HardX.result (ap (λ (f : Form). body c.args.part.now.masker.now.options c.args.part.now.least f (entry_of c.args.part.now.entry.now) c.args.part.now.list.now c.args.part.now.marks.now) (sym c.in-HardX.is))
+    sent_as _ _ _ _ c.write_fasta-in-HardX.result (ap (λ (f : Form). body (g.M.Maker.options c.args.part.now.masker.now) c.args.part.now.least f (entry_of c.args.part.now.entry.now) c.args.part.now.list.now c.args.part.now.marks.now) (sym c.in-HardX.is))
     c.write_fasta-in-HardX.ensures
 
 pub returns-in-Summary : goal.returns-in-Summary
@@ -50,7 +50,7 @@ returns-in-Summary g c =
     let e = c.args.part.now.entry.now in
     sent_as _ _ _ _ c.write_summary.result
     (ap (λ (l : List ℕ). summary (name_of e.header.items) (accepted_sums l c.args.part.now.list.now)) (sym (joined_cut (lengths_of e.runs.items) e.letters.items))
-    ∙ ap (λ (f : Form). body c.args.part.now.masker.now.options c.args.part.now.least f (entry_of e) c.args.part.now.list.now c.args.part.now.marks.now) (sym c.in-Summary.is))
+    ∙ ap (λ (f : Form). body (g.M.Maker.options c.args.part.now.masker.now) c.args.part.now.least f (entry_of e) c.args.part.now.list.now c.args.part.now.marks.now) (sym c.in-Summary.is))
     c.write_summary.ensures
 
 pub returns-in-Bedgraph : goal.returns-in-Bedgraph
@@ -58,7 +58,7 @@ returns-in-Bedgraph g c =
     let e = c.args.part.now.entry.now in
     sent_as _ _ _ _ c.write_bedgraph.result
     (ap (λ (l : List ℕ). bedgraph (name_of e.header.items) c.args.part.now.list.now (length l) (max c.in-Bedgraph.size 1)) (sym (joined_cut (lengths_of e.runs.items) e.letters.items))
-    ∙ ap (λ (f : Form). body c.args.part.now.masker.now.options c.args.part.now.least f (entry_of e) c.args.part.now.list.now c.args.part.now.marks.now) (sym c.in-Bedgraph.is))
+    ∙ ap (λ (f : Form). body (g.M.Maker.options c.args.part.now.masker.now) c.args.part.now.least f (entry_of e) c.args.part.now.list.now c.args.part.now.marks.now) (sym c.in-Bedgraph.is))
     c.write_bedgraph.ensures
 
 pub returns-in-Strongest : goal.returns-in-Strongest
@@ -66,8 +66,8 @@ returns-in-Strongest g c =
     let p = c.args.part.now in
     let e = p.entry.now in
     sent_as _ _ _ _ c.write_strongest.result
-    (ap (λ (l : List ℕ). strongest_lines p.masker.now.options c.in-Strongest.wanted (name_of e.header.items) l p.list.now) (sym (joined_cut (lengths_of e.runs.items) e.letters.items))
-    ∙ ap (λ (f : Form). body p.masker.now.options p.least f (entry_of e) p.list.now p.marks.now) (sym c.in-Strongest.is))
+    (ap (λ (l : List ℕ). strongest_lines (g.M.Maker.options p.masker.now) c.in-Strongest.wanted (name_of e.header.items) l p.list.now) (sym (joined_cut (lengths_of e.runs.items) e.letters.items))
+    ∙ ap (λ (f : Form). body (g.M.Maker.options p.masker.now) p.least f (entry_of e) p.list.now p.marks.now) (sym c.in-Strongest.is))
     c.write_strongest.ensures
 
 pub returns-in-Free : goal.returns-in-Free
@@ -76,5 +76,5 @@ returns-in-Free g c =
     let e = p.entry.now in
     sent_as _ _ _ _ c.write_free.result
     (ap (λ (l : List ℕ). free_lines c.in-Free.pad p.least (name_of e.header.items) l p.list.now) (sym (joined_cut (lengths_of e.runs.items) e.letters.items))
-    ∙ ap (λ (f : Form). body p.masker.now.options p.least f (entry_of e) p.list.now p.marks.now) (sym c.in-Free.is))
+    ∙ ap (λ (f : Form). body (g.M.Maker.options p.masker.now) p.least f (entry_of e) p.list.now p.marks.now) (sym c.in-Free.is))
     c.write_free.ensures

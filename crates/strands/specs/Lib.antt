@@ -1,0 +1,4 @@
+pub mod Bytes
+pub mod Strand
+pub mod Joined
+pub mod Terms
