@@ -31,7 +31,11 @@ const FEW: usize = 10000;
 
 // For each letter a code twice; where a list may be long, 16 bytes for each letter that may be an entry, and a line for each eighth.
 fn list_tenths(wanted: Wanted) -> u64 {
-    if wanted.most <= FEW { 30 } else { 30 + 160 + 250 }
+    if wanted.most <= FEW {
+        30
+    } else {
+        30 + 160 + 250
+    }
 }
 
 // Entries and a line each, where they are few.
@@ -46,7 +50,8 @@ fn entry_bytes(most: usize) -> u64 {
 fn list_bytes(form: Form, kmers: u32, window: u16) -> u64 {
     match form {
         Form::Strongest(wanted) => {
-            4 * (kmers as u64) + 56 * (window as u64 + 4096) + entry_bytes(wanted.most)
+            let fixed = 4 * (kmers as u64) + 56 * (window as u64 + 4096);
+            fixed.saturating_add(entry_bytes(wanted.most))
         }
         _ => 0,
     }

@@ -174,12 +174,7 @@ fn add_strongest<'a>(
                 })?;
             }
             None => {
-                wrong(
-                    rt,
-                    "--strongest",
-                    value,
-                    "a whole number from 1 to 1000000",
-                );
+                wrong(rt, "--strongest", value, "a whole number from 1 to 1000000");
                 return Ok(false);
             }
         }

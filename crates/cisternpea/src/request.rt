@@ -218,7 +218,9 @@ fn says_closing(rt: &HostRuntime, matches: &ArgMatches) -> bool {
 // Whether T is small enough for each output; else a line says so. The strongest stretches are listed by T below 16, rounded to units of 2^-32.
 fn threshold_fits(rt: &HostRuntime, outputs: &[Output<'_>], threshold: f64) -> bool {
     for output in outputs {
-        if matches!(output.form, Form::Strongest(_)) & (15.999999999883584678173065185546875 <= threshold) {
+        if matches!(output.form, Form::Strongest(_))
+            & (15.999999999883584678173065185546875 <= threshold)
+        {
             let _ = eprintln!(rt;
                 "cisternpea: --score-threshold {threshold}: it must be below 16 with --strongest"
             );
