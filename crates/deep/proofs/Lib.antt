@@ -11,4 +11,6 @@ pub mod Newest
 pub mod Leaving
 pub mod Starts
 pub mod Finding
+pub mod Falling
+pub mod Entering
 pub mod Fronts

@@ -2,3 +2,4 @@ pub mod Wholes
 pub mod Blocks
 pub mod Cells
 pub mod Told
+pub mod Short

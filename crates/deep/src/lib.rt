@@ -8,7 +8,7 @@
 // | T and the tables in whole numbers | wholes: `scale_of` |
 // | of each cell its count, which a walk along the chain of a k-mer's places raises | cells: `Deep::begin`, `Deep::join` |
 // | of each block the sum of what its places gain, and a bound on the sums of its newest | cells: each cell that is written; blocks: `Deep::refine` |
-// | told: no start can be found | told: `Deep::none_found` |
+// | told: no start can be found | told: `Deep::none_found`; where some may score 0, short: `Deep::none_ends` |
 //
 // A place that leaves changes nothing: the oldest place's number is one more.
 
@@ -16,6 +16,7 @@
 
 mod blocks;
 mod cells;
+mod short;
 mod told;
 mod wholes;
 
@@ -45,6 +46,13 @@ pub struct Block {
     /// At least each of these sums plus 2^60.
     pub top: u64,
     pub phi: u64,
+}
+
+/// The starts that may score 0: from place `from` of the window on, but for its `low` newest places.
+#[derive(Clone, Copy)]
+pub struct Middle {
+    pub from: usize,
+    pub low: usize,
 }
 
 /// The lent memory: 8,192 cells, 1,024 heads of chains, 128 blocks.

@@ -12,7 +12,7 @@ use crate::{Block, Deep, Scale};
 use scans::Ring;
 
 // 2^-10, by which scores must be apart for floats to compare as they do.
-const MU: u64 = 4194304;
+pub const MU: u64 = 4194304;
 
 // What the unevenness of f may come to over a block's places.
 const UNEVEN: u64 = 1024;
