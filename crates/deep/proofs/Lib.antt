@@ -12,5 +12,6 @@ pub mod Leaving
 pub mod Starts
 pub mod Finding
 pub mod Falling
+pub mod Leading
 pub mod Entering
 pub mod Fronts

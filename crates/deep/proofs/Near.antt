@@ -19,7 +19,7 @@ use Rattle.deep.specs.Scores.{whole, order, gain, loss, mu}
 use Rattle.deep.specs.Terms.Wholes.{Scaled}
 use Rattle.deep.proofs.Rounds.{unit, unit_eps, whole_rounds}
 
-margin_unit : margin ≡ 1048576 * unit
+pub margin_unit : margin ≡ 1048576 * unit
 margin_unit = omega (arith, margin_eps, unit_eps)
 
 wider : {x : Float} → Ranged 16 x → Ranged 1048576 x

@@ -3,3 +3,4 @@ pub mod Blocks
 pub mod Cells
 pub mod Told
 pub mod Short
+pub mod Found
