@@ -1,6 +1,6 @@
 -- A start that leads in whole numbers, and whose places score best at the newest one, is what the search finds (`finds_at`).
-use Rattle.std.proofs.Common.{◌≡◌, sym, ap, subst, ℕ, ◌+◌, ◌*◌, ◌-◌, ◌≤◌, ◌<◌, mul-le-mul_left, mul-le-mul_right, arith, inl, refl, List, length, length-take, length-drop, take, drop, Float}
-use Rattle.floats.specs.Terms.Rounded.{Ranged, pos64, neg64}
+use Rattle.std.proofs.Common.{◌≡◌, ap, ℕ, ◌+◌, ◌*◌, ◌-◌, ◌≤◌, ◌<◌, mul-le-mul_right, arith, inl, refl, List, length, length-take, length-drop, take, drop}
+use Rattle.floats.specs.Terms.Rounded.{pos64, neg64}
 use Rattle.letters.specs.Place.{Place, Below}
 use Rattle.scans.specs.Setup.{Setup, kmers}
 use Rattle.scans.specs.Terms.Units.{margin}
@@ -8,7 +8,6 @@ use Rattle.scans.specs.Terms.Units.{gain as exact_gain, loss as exact_loss}
 use Rattle.scans.proofs.Counting.{below_drop, below_take}
 use Rattle.scans.proofs.Gain.{InRange}
 use Rattle.scans.proofs.Shape.{usual_range, usual_shape}
-use Rattle.certificates.proofs.CertainUnits.{CertainUnits}
 use Rattle.certificates.proofs.CertainFind.{units_find}
 use Rattle.deep.specs.declared.Scale.{Scale}
 use Rattle.deep.specs.Scores.{whole, gain, loss, mu}
@@ -94,7 +93,7 @@ module _ (s : Scale) (limit : ℕ) (q : List Place) (j : ℕ) (v : LeadsAt s lim
                   let la = long S R c b h a k ea in
                   let li = long S R c b h i l ei in
                   let r = sure_within s S R c limit d (drop a q) (drop i q) (below S R c b h a) (below S R c b h i) (fits S R c b h a) (fits S R c b h i) (omega (arith, v.low_within)) (omega (arith, v.low_within))
-                      (omega (arith, ap (loss s.threshold s.f.now) la, ap (loss s.threshold s.f.now) li, v.steady a k i l ea ei ji ia al)) in
+                  (omega (arith, ap (loss s.threshold s.f.now) la, ap (loss s.threshold s.f.now) li, v.steady a k i l ea ei ji ia al)) in
                   omega (arith, r, ap (exact_loss S) la, ap (exact_loss S) li);
               above = λ a k e ja al. apart S R c b h a k j (length q - j) e (omega (arith, j_in)) (omega (arith, v.low_within)) (omega (arith, j_in)) (v.above a k e ja al);
               older = λ i l e o ij. apart S R c b h i l j (length q - j) e (omega (arith, j_in)) (omega (arith, j_in)) (omega (arith, j_in)) (v.older i l e ij);
@@ -104,7 +103,7 @@ module _ (s : Scale) (limit : ℕ) (q : List Place) (j : ℕ) (v : LeadsAt s lim
                   let lj = long S R c b h j (length q - j) (omega (arith, j_in)) in
                   let lp : length p ≡ m = omega (arith, length-take m (drop j q)) in
                   let r = sure_apart S R s.threshold ln s.f.now c p (drop j q) (below_take (kmers S) m (drop j q) (below S R c b h j)) (below S R c b h j) (omega arith) (fits S R c b h j) (omega arith) (omega arith)
-                      (omega (arith, ap (loss s.threshold s.f.now) lp, ap (loss s.threshold s.f.now) lj, w.newest m some mj)) in
+                  (omega (arith, ap (loss s.threshold s.f.now) lp, ap (loss s.threshold s.f.now) lj, w.newest m some mj)) in
                   omega (arith, r, ap (exact_loss S) lp, ap (exact_loss S) lj);
               high =
                   let lj = long S R c b h j (length q - j) (omega (arith, j_in)) in

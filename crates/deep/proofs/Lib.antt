@@ -13,5 +13,7 @@ pub mod Starts
 pub mod Finding
 pub mod Falling
 pub mod Leading
+pub mod Compared
+pub mod Backwards
 pub mod Entering
 pub mod Fronts

@@ -9,6 +9,7 @@
 // | of each cell its count, which a walk along the chain of a k-mer's places raises | cells: `Deep::begin`, `Deep::join` |
 // | of each block the sum of what its places gain, and a bound on the sums of its newest | cells: each cell that is written; blocks: `Deep::refine` |
 // | told: no start can be found | told: `Deep::none_found`; where some may score 0, short: `Deep::none_ends` |
+// | told: the start that is found | found: `Deep::finds` |
 //
 // A place that leaves changes nothing: the oldest place's number is one more.
 
@@ -16,6 +17,7 @@
 
 mod blocks;
 mod cells;
+mod found;
 mod short;
 mod told;
 mod wholes;
@@ -53,6 +55,16 @@ pub struct Block {
 pub struct Middle {
     pub from: usize,
     pub low: usize,
+}
+
+/// A start of `size` places that may be what a search finds: what its places gain, how many of the newest places have starts that are low,
+/// and the drop limit in whole numbers.
+#[derive(Clone, Copy)]
+pub struct Lead {
+    pub size: usize,
+    pub gain: u64,
+    pub low: usize,
+    pub limit: u64,
 }
 
 /// The lent memory: 8,192 cells, 1,024 heads of chains, 128 blocks.

@@ -15,7 +15,7 @@ use letters::kmer_of;
 use scans::{Ring, raise_entry};
 
 // What the place of a cell adds to the places of a stretch that are older, the counts being those of the stretch.
-fn added(scale: &Scale, cell: Cell, counts: &[u16]) -> u64
+pub fn added(scale: &Scale, cell: Cell, counts: &[u16]) -> u64
     requires narrow { Narrow scale.now }
     requires kmer_counted { cell.entry % 2 ≡ 0 → cell.entry / 2 < length counts.now }
     requires few { get_or counts.now (cell.entry / 2) 0 ≤ 8064 }
@@ -29,7 +29,7 @@ fn added(scale: &Scale, cell: Cell, counts: &[u16]) -> u64
 }
 
 // Counts the entries from `from` on, from cleared counts.
-fn count_from(ring: &Ring, from: usize, counts: &mut [u16])
+pub fn count_from(ring: &Ring, from: usize, counts: &mut [u16])
     requires kmers_counted { KmersCounted ring.now (length counts.old) }
     requires inside { from ≤ ring.now.len }
     requires clear { counts.old ≡ replicate (length counts.old) 0 }

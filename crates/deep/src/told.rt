@@ -25,7 +25,7 @@ pub struct Part {
 }
 
 // Whether a start of so many places that gain so much scores 2^-10 below 0 or less.
-fn is_low(scale: &Scale, gain: u64, places: usize) -> bool
+pub fn is_low(scale: &Scale, gain: u64, places: usize) -> bool
     requires gain_small { gain < 4611686018427387904 }
     requires few { places ≤ 8064 }
     requires f_long { places < length scale.now.f.now }

@@ -1,5 +1,5 @@
 -- Terms of contracts: the start that the search at the newest place finds, in whole numbers. A start at place j of the window q has length q - j places.
-use Rattle.std.specs.Prelude.{◌≡◌, ℕ, ◌+◌, ◌-◌, ◌<◌, ◌≤◌, List, length, take, drop}
+use Rattle.std.specs.Prelude.{◌≡◌, ℕ, ◌+◌, ◌-◌, ◌*◌, ◌<◌, ◌≤◌, List, length, take, drop}
 use Rattle.floats.specs.Terms.Rounded.{Ranged}
 use Rattle.letters.specs.Place.{Place, Below}
 use Rattle.scans.specs.Setup.{Setup, kmers}
@@ -7,6 +7,7 @@ use Rattle.scans.specs.Scans.{at, dust_backward}
 use Rattle.scans.specs.Terms.Counted.{Counted}
 use Rattle.scans.specs.Terms.Shape.{Usual}
 use Rattle.deep.specs.declared.Scale.{Scale}
+use Rattle.deep.specs.declared.Lead.{Lead}
 use Rattle.deep.specs.Scores.{whole, gain, loss, mu}
 use Rattle.deep.specs.Terms.Wholes.{Scaled}
 
@@ -14,6 +15,21 @@ use Rattle.deep.specs.Terms.Wholes.{Scaled}
 pub record Drops (S : Setup) (limit : ℕ) : Type 0 where
   pub ranged : Ranged 1048576 S.drop_limit
   pub is : limit ≡ whole S.drop_limit
+
+-- What the l newest places of q gain.
+pub record Gains (s : Scale) (q : List Place) (l g : ℕ) : Type 0 where
+  pub gain_is : (a : ℕ) → a + l ≡ length q → g ≡ gain s.ln.now (drop a q)
+  pub small : g ≤ l * 137438953472
+
+-- Of the starts of more than `low` places and up to r each is lower than the lead by 2^-10, and at most by the drop limit less 2^-10 lower than one of fewer places.
+pub record Middling (s : Scale) (q : List Place) (v : Lead) (r : ℕ) : Type 0 where
+  pub above : (a k : ℕ) → a + k ≡ length q → v.low < k → k ≤ r → gain s.ln.now (drop a q) + mu + loss s.threshold s.f.now v.size ≤ v.gain + loss s.threshold s.f.now k
+  pub steady : (a k i l : ℕ) → a + k ≡ length q → i + l ≡ length q → v.low < k → k < l → l ≤ r
+      → gain s.ln.now (drop a q) + mu + loss s.threshold s.f.now l ≤ gain s.ln.now (drop i q) + v.limit + loss s.threshold s.f.now k
+
+-- The starts of more places than the lead, up to r, are lower than it by 2^-10.
+pub record OlderBelow (s : Scale) (q : List Place) (v : Lead) (r : ℕ) : Type 0 where
+  pub older : (i l : ℕ) → i + l ≡ length q → v.size < l → l ≤ r → gain s.ln.now (drop i q) + mu + loss s.threshold s.f.now v.size ≤ v.gain + loss s.threshold s.f.now l
 
 -- The start at j leads: it scores 2^-10 or more, and all others 2^-10 less than it or less; between the first start that is not low and it no score falls from an earlier one by the drop limit, up to 2^-10.
 pub record LeadsAt (s : Scale) (limit : ℕ) (q : List Place) (j : ℕ) : Type 0 where
