@@ -5,7 +5,7 @@
 //
 // | kept | here |
 // |---|---|
-// | T and the tables in whole numbers | wholes: `scale_of` |
+// | T, the tables and the drop limit in whole numbers | wholes: `scale_of`, `limit_of` |
 // | of each cell its count, which a walk along the chain of a k-mer's places raises | cells: `Deep::begin`, `Deep::join` |
 // | of each block the sum of what its places gain, and a bound on the sums of its newest | cells: each cell that is written; blocks: `Deep::refine` |
 // | told: no start can be found | told: `Deep::none_found`; where some may score 0, short: `Deep::none_ends` |
@@ -22,7 +22,7 @@ mod short;
 mod told;
 mod wholes;
 
-pub use wholes::scale_of;
+pub use wholes::{limit_of, scale_of};
 
 /// T and the two tables, in whole numbers of 2^-32.
 #[derive(Clone, Copy)]
