@@ -14,7 +14,7 @@ use Rattle.scans.proofs.Counting.{count_append, count_snoc, hit_self, below_drop
 use Rattle.scans.proofs.Exact.{sums_snoc}
 use Rattle.scans.proofs.Finds.{backward_facts}
 use Rattle.scans.proofs.Shape.{usual_range, usual_shape}
-use Rattle.search.proofs.FallShort.{none_ends}
+use Rattle.search.proofs.FallShort.{without, none_ends}
 use Rattle.deep.specs.declared.Scale.{Scale}
 use Rattle.deep.specs.declared.Middle.{Middle}
 use Rattle.deep.specs.Scores.{order, gain, loss, mu}
@@ -39,10 +39,6 @@ module _ (ln : List ℕ) (n0 : get_or ln 0 0 ≡ 0) (m : ℕ) where
   gain_snoc q e b be ba =
       pos_same (gain ln (q ++ e ∷ [])) (gain ln q + get_or ln (order q e) 0)
       (sym (gain_is ln n0 m (q ++ e ∷ []) ba) ∙ sums_snoc (entry ln) m q e be ∙ rw (gain_is ln n0 m q b, adds_is ln n0 m q e) refl)
-
--- The places of q from a on but for the l newest.
-abbrev pub without : List Place → ℕ → ℕ → List Place
-without q a l = take (length q - a - l) (drop a q)
 
 -- ---- The l newest places were read, all newer than the middle.
 pub record Taken (s : Scale) (q : List Place) (a l sum : ℕ) : Type 0 where
