@@ -6,15 +6,15 @@ use Rattle.scans.specs.Score.{ln_sums, score_by}
 use Rattle.scans.proofs.Exact.{adds, sums_none, sums_cons}
 use Rattle.deep.specs.Scores.{order, gain, loss}
 
-abbrev entry : List ℕ → ℕ → ℤ
+abbrev pub entry : List ℕ → ℕ → ℤ
 entry table i = pos (get_or table i 0)
 
 module _ (ln : List ℕ) (none : get_or ln 0 0 ≡ 0) (m : ℕ) where
-  adds_is : (q : List Place) (e : Place) → adds (entry ln) q e ≡ pos (get_or ln (order q e) 0)
+  pub adds_is : (q : List Place) (e : Place) → adds (entry ln) q e ≡ pos (get_or ln (order q e) 0)
   adds_is q ambiguous = ap pos (sym none)
   adds_is q (plain x) = refl
 
-  gain_is : (q : List Place) → Below m q → ln_sums (entry ln) m q ≡ pos (gain ln q)
+  pub gain_is : (q : List Place) → Below m q → ln_sums (entry ln) m q ≡ pos (gain ln q)
   gain_is [] h = sums_none (entry ln) m
   gain_is (e ∷ q) h =
       sums_cons (entry ln) m q e h.0 ∙ ap₂ (λ (x y : ℤ). x +ℤ y) (gain_is q h.1) (adds_is q e)

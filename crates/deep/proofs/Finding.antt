@@ -66,7 +66,7 @@ module _ (s : Scale) (S : Setup) (u : Usual S) (c : Scaled S s.threshold s.ln.no
       }
 
 -- ---- How large the whole numbers are.
-whole_small : (x : Float) (B limit : ℕ) → Ranged B x → B ≤ 1048576 → B * 4294967296 + 2 < limit → whole x < limit
+pub whole_small : (x : Float) (B limit : ℕ) → Ranged B x → B ≤ 1048576 → B * 4294967296 + 2 < limit → whole x < limit
 whole_small x B limit r h k =
     let w = whole_rounds x (record { ok = r.ok; high = omega (arith, r.high, mul-le-mul_right one h); low = r.low }) in
     let o = one_unit in

@@ -11,4 +11,9 @@ pub mod Newest
 pub mod Leaving
 pub mod Starts
 pub mod Finding
+pub mod Falling
+pub mod Leading
+pub mod Compared
+pub mod Backwards
+pub mod Entering
 pub mod Fronts

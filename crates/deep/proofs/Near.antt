@@ -19,7 +19,7 @@ use Rattle.deep.specs.Scores.{whole, order, gain, loss, mu}
 use Rattle.deep.specs.Terms.Wholes.{Scaled}
 use Rattle.deep.proofs.Rounds.{unit, unit_eps, whole_rounds}
 
-margin_unit : margin ≡ 1048576 * unit
+pub margin_unit : margin ≡ 1048576 * unit
 margin_unit = omega (arith, margin_eps, unit_eps)
 
 wider : {x : Float} → Ranged 16 x → Ranged 1048576 x
@@ -104,16 +104,17 @@ module _ (S : Setup) (R : InRange S) (t : ℕ) (ln f : List ℕ) (c : Scaled S t
       omega (arith, gp.1, gr.0, fy.1, fl.0, low, e)
 
 -- No float decides otherwise: a find's exact score is at least minus what the roundings come to.
+pub low_fails : (S : Setup) (R : InRange S) (q : List Place) → Below (kmers S) q → length q ≤ S.window_size → 0 < length q
+    → (j : ℕ) (m : Float) → ((l : ℕ) → j + l ≡ length q → 0 < l → exact_gain S (drop j q) + margin ≤ exact_loss S l) → (dust_forward S q j m).sums.found ≡ length q → ⊥
+low_fails S R q b l some j m low e =
+    let inside = forward_inside S q j m some e in
+    let long = length-drop j q in
+    let f = forward_find S R q j m b l some e in
+    let k = low (length (drop j q)) (omega (arith, long, inside)) (omega (arith, long, inside)) in
+    let few = mul-le-mul_right eps (let z : length (drop j q) ≤ 65535 = omega (arith, R.window_small) in z) in
+    let o = one_pos in
+    omega (arith, margin_eps, one_eps)
+
 pub no_start : (S : Setup) (R : InRange S) (q : List Place) → Below (kmers S) q → length q ≤ S.window_size → 0 < length q
     → ((a l : ℕ) → a + l ≡ length q → 0 < l → exact_gain S (drop a q) + margin ≤ exact_loss S l) → (dust_backward S q).find ≡ none
-no_start S R q b l some low = backward_facts S q (λ (r : Find) _. r ≡ none) (λ _. refl) (λ j m e. absurd (fails j m e))
-  where
-    fails : (j : ℕ) (m : Float) → (dust_forward S q j m).sums.found ≡ length q → ⊥
-    fails j m e =
-        let inside = forward_inside S q j m some e in
-        let long = length-drop j q in
-        let f = forward_find S R q j m b l some e in
-        let k = low j (length (drop j q)) (omega arith) (omega arith) in
-        let few = mul-le-mul_right eps (let z : length (drop j q) ≤ 65535 = omega (arith, R.window_small) in z) in
-        let o = one_pos in
-        omega (arith, margin_eps, one_eps)
+no_start S R q b l some low = backward_facts S q (λ (r : Find) _. r ≡ none) (λ _. refl) (λ j m e. absurd (low_fails S R q b l some j m (low j) e))

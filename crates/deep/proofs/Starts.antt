@@ -11,7 +11,7 @@ use Rattle.deep.specs.Terms.Cells.{cell, order_at, Ordered}
 use Rattle.deep.specs.Terms.Told.{LowTo, ReadPart, Bends, BlockLow}
 use Rattle.deep.proofs.Sums.{three, total_small}
 
-gain_from : (ln : List ℕ) (q : List Place) (a : ℕ) → a < length q → gain ln (drop a q) ≡ get_or ln (order_at q a) 0 + gain ln (drop (suc a) q)
+pub gain_from : (ln : List ℕ) (q : List Place) (a : ℕ) → a < length q → gain ln (drop a q) ≡ get_or ln (order_at q a) 0 + gain ln (drop (suc a) q)
 gain_from ln [] a h = absurd (let z : ⊥ = omega arith in z)
 gain_from ln (e ∷ q) zero h = refl
 gain_from ln (e ∷ q) (suc a) h = gain_from ln q a (omega arith)
@@ -33,7 +33,7 @@ newest_none s q =
     record { gain_is = λ a e. sym (gain_past s.ln.now q a (omega arith)); small = omega arith; low = record { low = λ a m e some l. absurd (let z : ⊥ = omega arith in z) } }
 
 module _ (s : Scale) (n : Narrow s) (lo : ℕ) (q : List Place) (cells : List Cell) (o : Ordered lo q 0 (length q) cells) where
-  worth_at : (a : ℕ) → a < length q → worth s (cell cells (lo + a)) ≡ get_or s.ln.now (order_at q a) 0
+  pub worth_at : (a : ℕ) → a < length q → worth s (cell cells (lo + a)) ≡ get_or s.ln.now (order_at q a) 0
   worth_at a h = ap (λ (c : ℕ). get_or s.ln.now c 0) (o.count a (omega arith) h)
 
   -- One place more.

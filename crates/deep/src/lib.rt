@@ -5,10 +5,11 @@
 //
 // | kept | here |
 // |---|---|
-// | T and the tables in whole numbers | wholes: `scale_of` |
+// | T, the tables and the drop limit in whole numbers | wholes: `scale_of`, `limit_of` |
 // | of each cell its count, which a walk along the chain of a k-mer's places raises | cells: `Deep::begin`, `Deep::join` |
 // | of each block the sum of what its places gain, and a bound on the sums of its newest | cells: each cell that is written; blocks: `Deep::refine` |
-// | told: no start can be found | told: `Deep::none_found` |
+// | told: no start can be found | told: `Deep::none_found`; where some may score 0, short: `Deep::none_ends` |
+// | told: the start that is found | found: `Deep::finds` |
 //
 // A place that leaves changes nothing: the oldest place's number is one more.
 
@@ -16,10 +17,12 @@
 
 mod blocks;
 mod cells;
+mod found;
+mod short;
 mod told;
 mod wholes;
 
-pub use wholes::scale_of;
+pub use wholes::{limit_of, scale_of};
 
 /// T and the two tables, in whole numbers of 2^-32.
 #[derive(Clone, Copy)]
@@ -45,6 +48,23 @@ pub struct Block {
     /// At least each of these sums plus 2^60.
     pub top: u64,
     pub phi: u64,
+}
+
+/// The starts that may score 0: from place `from` of the window on, but for its `low` newest places.
+#[derive(Clone, Copy)]
+pub struct Middle {
+    pub from: usize,
+    pub low: usize,
+}
+
+/// A start of `size` places that may be what a search finds: what its places gain, how many of the newest places have starts that are low,
+/// and the drop limit in whole numbers.
+#[derive(Clone, Copy)]
+pub struct Lead {
+    pub size: usize,
+    pub gain: u64,
+    pub low: usize,
+    pub limit: u64,
 }
 
 /// The lent memory: 8,192 cells, 1,024 heads of chains, 128 blocks.

@@ -12,7 +12,7 @@ use crate::{Block, Deep, Scale};
 use scans::Ring;
 
 // 2^-10, by which scores must be apart for floats to compare as they do.
-const MU: u64 = 4194304;
+pub const MU: u64 = 4194304;
 
 // What the unevenness of f may come to over a block's places.
 const UNEVEN: u64 = 1024;
@@ -25,7 +25,7 @@ pub struct Part {
 }
 
 // Whether a start of so many places that gain so much scores 2^-10 below 0 or less.
-fn is_low(scale: &Scale, gain: u64, places: usize) -> bool
+pub fn is_low(scale: &Scale, gain: u64, places: usize) -> bool
     requires gain_small { gain < 4611686018427387904 }
     requires few { places ≤ 8064 }
     requires f_long { places < length scale.now.f.now }

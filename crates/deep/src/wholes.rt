@@ -1,11 +1,13 @@
 // T and the tables in whole numbers of 2^-32.
 
-ghost use Rattle.std.specs.Prelude.{◌≡◌, ◌<◌, ◌≤◌, length};
+ghost use Rattle.std.specs.Prelude.{◌≡◌, ◌<◌, ◌≤◌, IfSome, length};
+ghost use Rattle.floats.specs.Terms.Rounded.{Ranged};
 ghost use Rattle.scans.specs.Terms.Run.{as_setup};
 ghost use Rattle.scans.specs.Terms.Shape.{Usual};
 ghost use Rattle.deep.specs.Scores.{whole};
 ghost use Rattle.deep.specs.Terms.Wholes.{Wholes, Scaled};
 ghost use Rattle.deep.specs.Terms.Blocks.{Narrow};
+ghost use Rattle.deep.specs.Terms.Found.{Drops};
 
 use crate::Scale;
 use scans::Setup;
@@ -49,4 +51,25 @@ pub fn scale_of<'a>(setup: &Setup, ln: &'a mut [u64], f: &'a mut [u64]) -> Scale
         ln,
         f,
     }
+}
+
+// A float up to 2^20 in whole numbers; none for another.
+fn whole_in_range(x: f64) -> Option<u64>
+    ensures ranged { IfSome result (λ limit. Ranged 1048576 x × (limit ≡ whole x)) }
+    ensures small { IfSome result (λ limit. limit < 2305843009213693952) }
+{
+    if 0.0 <= x {
+        if x <= 1048576.0 {
+            return Some(whole(x));
+        }
+    }
+    None
+}
+
+/// A run's drop limit in whole numbers, if it is between 0 and 2^20.
+pub fn limit_of(setup: &Setup) -> Option<u64>
+    ensures limit { IfSome result (Drops (as_setup setup.now)) }
+    ensures small { IfSome result (λ limit. limit < 2305843009213693952) }
+{
+    whole_in_range(setup.params.drop_limit)
 }
