@@ -18,6 +18,7 @@ const RUN: &str = "How it runs";
 
 const NOTES: &str =
     "Several forms may be given, each with a file of its own; at most one is written to standard output, or to the file of -o.
+A file whose name ends in .gz is written as bgzip.
 A record has at most 2,147,483,647 letters; its name runs to the first blank. Lines may end in CRLF; the CR is dropped.
 Letters are A to Z in either case, - and *; U counts as T.
 A record that is refused is named on standard error and left out; in FASTA it is passed through as it came. The others are done.

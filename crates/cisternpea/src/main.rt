@@ -18,7 +18,7 @@ mod watched;
 
 use clap::ArgMatches;
 use request::{Request, read_request};
-use std::io::IsTerminal;
+use std::io::{ErrorKind, IsTerminal};
 use std::process::ExitCode;
 
 // Whether there is a file to read, or standard input is no terminal; else a line says so.
@@ -29,6 +29,21 @@ fn has_input(rt: &HostRuntime, matches: &ArgMatches, request: &Request) -> bool 
     if rt.stdin().is_terminal() {
         let _ = eprintln!(rt; "cisternpea: name a FASTA file; --help says more");
         return false;
+    }
+    true
+}
+
+// Whether no output's name ends in .gz, since packing is the driver's; else a line says so.
+fn packs_none(rt: &HostRuntime, request: &Request) -> bool {
+    for output in &request.outputs {
+        if let Some(path) = output.file.or(request.output) {
+            if path.ends_with(".gz") {
+                let _ = eprintln!(rt;
+                    "cisternpea: {path}: this program writes no gzip; cisternpea, the driver, does"
+                );
+                return false;
+            }
+        }
     }
     true
 }
@@ -82,6 +97,7 @@ fn run_words(rt: &HostRuntime, words: &[String], plan: Option<&str>) -> anyhow::
     }
     match plan {
         Some(path) => write_plan(rt, path, &matches, &request),
+        None if !packs_none(rt, &request) => Ok(files::USAGE),
         None => {
             let names = matches.get_raw("FILE").unwrap_or(&["-"]);
             Ok(files::mask(rt, names, &request)?)
@@ -94,8 +110,9 @@ fn run(rt: &HostRuntime) -> anyhow::Result<u8> {
     let words: Vec<String> = match std::env::args(rt) {
         Ok(words) => words.collect(rt.alloc())?,
         Err(e) => {
+            let full = e.kind() == ErrorKind::OutOfMemory;
             saying::say_error(rt, "a word of the command line", e);
-            return Ok(files::USAGE);
+            return Ok(if full { files::FAILED } else { files::USAGE });
         }
     };
     let words = words.as_slice();

@@ -1,5 +1,6 @@
 // Lines on standard error. One that cannot be written is let go.
 
+use clap::error::ErrorKind as WordKind;
 use std::io::{Error, ErrorKind};
 
 // What failed, and why.
@@ -41,6 +42,10 @@ pub fn say_parse(rt: &HostRuntime, error: clap::Error) -> u8 {
                 3
             }
         };
+    }
+    if matches!(error.kind(), WordKind::OutOfMemory) {
+        say(rt, "the command line", "no memory");
+        return 3;
     }
     match format!(in rt.alloc(); "{error}") {
         Ok(text) => {

@@ -18,7 +18,7 @@ module _ (pad : ℕ) (regions mask : List Interval) (s : List ℕ) where
   unfolding free
   free_letters x = stretches_covers (is_free pad regions mask s) (length s) x
 
--- ---- A letter is near a list where at most `pad` letters lie between it and a letter of the list, or it is one of them.
+-- ---- A letter is near a list where it is at most `pad` letters away from one of the list.
 module _ (pad x : ℕ) where
   abbrev hit : Interval → Bool
   hit i = leb i.start (x + pad) && ltb x (i.end + pad)
