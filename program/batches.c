@@ -97,8 +97,8 @@ void take_bytes(const uint8_t *bytes, size_t length) {
     size_t done = 0;
     for (size_t i = find_start(bytes, 0, length); i < length; i = find_start(bytes, i + 1, length)) {
         uint64_t here = current->size + (i - done);
-        if (!missing && (here < batch_size || !begun)) { /* line ends alone are no batch: there is no record in it */
-            current->last = begun ? here : 0;
+        if (!missing && (here < batch_size || !begun)) {
+            current->last = begun ? here : 0; /* line ends before the first one are its own: they alone are no batch */
             begun = true;
             continue;
         }
