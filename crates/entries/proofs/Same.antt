@@ -75,7 +75,10 @@ module _ (cr : Bool) (r q : Entry → Report) (file : List ℕ) (a : Agree r q (
   outcome_same (Err (Writing e)) (done, d, rest, is, (k, t), n, s) =
       let w = of_whole r q _ a _ is in
       let b = front r q done (d ∷ rest) w in (
-        done, d, rest, is,
+        done,
+        d,
+        rest,
+        is,
         (k, stops_same k outs outs' _ _ _ _ (text_same r q done b) (λ i. ap (λ (z : Report). z.text i) (next r q done d rest w)) t),
         notes_of done b n,
         sums_of done b s,
@@ -84,9 +87,12 @@ module _ (cr : Bool) (r q : Entry → Report) (file : List ℕ) (a : Agree r q (
       let w = of_whole r q _ a _ is in
       let b = front r q done (d ∷ rest) w in
       let same = next r q done d rest w in (
-        done, d, rest, is,
+        done,
+        d,
+        rest,
+        is,
         all_same outs outs' _ _ (λ i. ap₂ (λ (x y : List ℕ). x ++ y) (text_same r q done b i) (ap (λ (z : Report). z.text i) same)) t,
         subst (λ (l : List ℕ). FrontAfter notes notes' (notes_on q done) l) (ap (λ (z : Report). z.notes) same)
-        (subst (λ (l : List ℕ). FrontAfter notes notes' l (r d).notes) (notes_same r q done b) n),
+            (subst (λ (l : List ℕ). FrontAfter notes notes' l (r d).notes) (notes_same r q done b) n),
         sums_of done b s,
       )
