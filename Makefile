@@ -73,7 +73,7 @@ check: ## tests the program, the C examples and the documents
 prove: ## the whole gate: the check, every proof and wrong edit, dist/ made again, the comparison (Rattle kit)
 	.ci/run
 
-compare: $(DRIVERS) target/bin/contigs target/bin/track ## runs the masker and the original Rust side by side (cargo, the original's source, the kit)
+compare: $(DRIVERS) $(ARCHIVE) target/bin/contigs target/bin/track ## runs the masker and the original Rust side by side (cargo, the original's source, the kit)
 	LONGDUST_ARCHIVE=$(abspath $(dir $(ARCHIVE))) compare/run $(WHAT)
 
 bench: target/driver/cisternpea ## measures the speed, on made letters or on a FASTA file: FILE=genome.fa
