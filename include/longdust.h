@@ -210,6 +210,15 @@ int64_t longdust_merge_strands(
     uint32_t (*list)[2], size_t list_len,
     uint8_t *marks, size_t marks_len);
 
+/* C90 has no `inline`. */
+#if defined(__GNUC__)
+#define LONGDUST_INLINE static __inline__
+#elif defined(__cplusplus) || (defined(__STDC_VERSION__) && __STDC_VERSION__ >= 199901L)
+#define LONGDUST_INLINE static inline
+#else
+#define LONGDUST_INLINE static
+#endif
+
 /* The same calls with their arguments in two structs, named as above: options, and slices with their lengths. */
 struct longdust_options {
     size_t kmer, window_size;
@@ -234,7 +243,7 @@ struct longdust_buffers {
 };
 
 /* longdust_process_tables. */
-static inline int64_t longdust_mask(
+LONGDUST_INLINE int64_t longdust_mask(
     const struct longdust_options *o, const uint8_t *sequence, size_t sequence_len, const struct longdust_buffers *b,
     uint32_t *in_range) {
     return longdust_process_tables(
@@ -247,7 +256,7 @@ static inline int64_t longdust_mask(
 }
 
 /* longdust_process: it fills the tables. */
-static inline int64_t longdust_fill_and_mask(
+LONGDUST_INLINE int64_t longdust_fill_and_mask(
     const struct longdust_options *o, const uint8_t *sequence, size_t sequence_len, const struct longdust_buffers *b,
     uint32_t *in_range) {
     return longdust_process(
@@ -260,7 +269,7 @@ static inline int64_t longdust_fill_and_mask(
 }
 
 /* longdust_fill_tables. */
-static inline int64_t longdust_fill(
+LONGDUST_INLINE int64_t longdust_fill(
     const struct longdust_options *o, const uint8_t *sequence, size_t sequence_len, const struct longdust_buffers *b,
     uint32_t *in_range) {
     return longdust_fill_tables(
@@ -269,7 +278,7 @@ static inline int64_t longdust_fill(
 }
 
 /* longdust_strand: its list goes to `list`; forward_only is not read. */
-static inline int64_t longdust_mask_strand(
+LONGDUST_INLINE int64_t longdust_mask_strand(
     const struct longdust_options *o, const uint8_t *sequence, size_t sequence_len, uint32_t reverse,
     const struct longdust_buffers *b, uint32_t *in_range) {
     return longdust_strand(

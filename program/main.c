@@ -1,8 +1,11 @@
 #include "driver.h"
 
+static bool no_output; /* standard output is closed */
+
 /* A file of ours must not get the number of a standard one that is closed, nor one that workers write to. To use a closed one
  * fails as before. */
 static void hold_numbers(void) {
+    no_output = fcntl(STDOUT_FILENO, F_GETFD) < 0;
     for (int file = STDIN_FILENO; file < STDERR_FILENO + MOST_OUTPUTS + STRANDS; file++) {
         int how = file == STDIN_FILENO ? O_WRONLY : file <= STDERR_FILENO ? O_RDONLY : O_CLOEXEC;
         if (fcntl(file, F_GETFD) < 0) open("/dev/null", how);
@@ -25,6 +28,7 @@ static void become_proved(int argc, char **argv) {
     words[0] = argv[0];
     words[1] = memory;
     memcpy(words + 2, argv + 1, (size_t)argc * sizeof *words); /* and the null behind them */
+    signal(SIGXFSZ, SIG_IGN); /* a file that grows too large is an error, with its message and status */
     execv(worker, words);
     fail(FAILED, "cannot start %s", worker);
 }
@@ -48,6 +52,7 @@ int main(int argc, char **argv) {
     check_processor();
     read_plan(argc, argv);
     refuse_own_input();
+    if (no_output && plan.outputs[0] == NULL) fail(FAILED, "cannot write: %s", strerror(EBADF));
     size_workers();
     if (needs_no_driver()) become_proved(argc, argv);
     check_memory();

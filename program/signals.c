@@ -11,9 +11,11 @@ static sigset_t before;
 
 void hold_signals(void) {
     static const int ours[] = {SIGCHLD, SIGINT, SIGTERM, SIGHUP, SIGQUIT};
+    struct sigaction set_before;
     sigset_t set;
     sigemptyset(&set);
-    for (size_t i = 0; i < sizeof ours / sizeof *ours; i++) sigaddset(&set, ours[i]);
+    for (size_t i = 0; i < sizeof ours / sizeof *ours; i++) /* one that is ignored, as by nohup, stays so */
+        if (sigaction(ours[i], NULL, &set_before) == 0 && set_before.sa_handler != SIG_IGN) sigaddset(&set, ours[i]);
     signal(SIGPIPE, SIG_IGN);
     signal(SIGXFSZ, SIG_IGN);
     sigprocmask(SIG_BLOCK, &set, &before);

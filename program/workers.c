@@ -25,7 +25,8 @@ void size_workers(void) {
     if (plan.memory == 0) plan.memory = bytes / 2;
     memory = plan.memory > OWN_MEMORY ? plan.memory - OWN_MEMORY : 0;
     threads = plan.threads != 0 ? plan.threads : cores;
-    struct rlimit files; /* each worker takes some */
+    struct rlimit files, size; /* each worker takes some; anonymous files are held to the size of a file too */
+    if (getrlimit(RLIMIT_FSIZE, &size) != 0) size.rlim_cur = RLIM_INFINITY;
     if (getrlimit(RLIMIT_NOFILE, &files) == 0) {
         files.rlim_cur = files.rlim_max;
         setrlimit(RLIMIT_NOFILE, &files);
@@ -35,7 +36,7 @@ void size_workers(void) {
     most = memory / (of_worker(SMALLEST_BATCH) + 1);
     if (threads > most) threads = most > 0 ? most : 1;
     for (batch_size = BATCH; batch_size > SMALLEST_BATCH; batch_size /= 2)
-        if (of_worker(3 * batch_size) <= memory / (threads + 1)) break;
+        if (of_worker(3 * batch_size) <= memory / (threads + 1) && 4 * batch_size <= size.rlim_cur) break;
 }
 
 void check_memory(void) {

@@ -1,3 +1,4 @@
 pub mod Bytes
 pub mod Passing
+pub mod Next
 pub mod Refusing

@@ -2,3 +2,4 @@ pub mod Checks
 pub mod Tests
 pub mod Refusal
 pub mod Sequence
+pub mod Terms

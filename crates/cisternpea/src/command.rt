@@ -33,7 +33,7 @@ fn value<'a>(alloc: Global, name: &'a str, shown: &'a str, help: &'a str) -> Arg
         .help(help)
 }
 
-// An option of the masker with a value.
+// An option of the masker with a value. Each value that is given must be right, and the last one counts.
 fn masker_value<'a>(
     alloc: Global,
     name: &'a str,
@@ -42,6 +42,7 @@ fn masker_value<'a>(
     help: &'a str,
 ) -> Arg<'a> {
     value(alloc, name, shown, help)
+        .action(ArgAction::Append)
         .default_value(default)
         .help_heading(MASKER)
 }
@@ -259,8 +260,13 @@ fn running<'a>(alloc: Global, command: Command<'a>) -> Result<Command<'a>, Alloc
     );
     command
         .arg(output.short('o').help_heading(RUN))?
-        .arg(threads.short('t').help_heading(RUN))?
-        .arg(memory.help_heading(RUN))?
+        .arg(
+            threads
+                .action(ArgAction::Append)
+                .short('t')
+                .help_heading(RUN),
+        )?
+        .arg(memory.action(ArgAction::Append).help_heading(RUN))?
         .arg(quiet.short('q').help_heading(RUN))
 }
 

@@ -9,8 +9,9 @@ use crate::saying;
 use crate::sink::{Sink, Target, open_file, settle};
 use crate::watched::{Place, Watched};
 use command_line::{Kind, kind_of};
-use entries::{Failed, Sums, read_sums, write_sums};
-use forms::{Form, Room};
+use entries::{Failed, Sums, put_records, read_sums, write_sums};
+use forms::{Form, FormRecorder, Room};
+use masker::Masker;
 use std::fs::File;
 use std::io::{BufRead, BufReader, BufWriter, Write};
 use strands::Joining;
@@ -108,11 +109,27 @@ fn read_lists(
     }
 }
 
+// What writes the records of all files: its tables are filled once. None where there is no memory for them, or a part of the work is asked for.
+fn recorder_of<'a>(
+    rt: &HostRuntime,
+    forms: &'a [Form],
+    request: &Request,
+) -> Option<FormRecorder<'a, Masker>> {
+    match request.strands {
+        Strands::Both => match FormRecorder::new(rt.alloc(), forms, request.settings) {
+            Ok(recorder) => Some(recorder),
+            Err(_) => None,
+        },
+        _ => None,
+    }
+}
+
 // Writes what is asked for of the records that the reader gives.
 fn put_reader<R: BufRead>(
     rt: &HostRuntime,
     reader: &mut Watched<R>,
     request: &Request,
+    recorder: &mut Option<FormRecorder<'_, Masker>>,
     outs: &mut Outs,
 ) -> Result<(), Failed> {
     let alloc = rt.alloc();
@@ -122,7 +139,10 @@ fn put_reader<R: BufRead>(
     let sums = &mut outs.sums;
     let mut notes = Notes { inner: rt.stderr() };
     match request.strands {
-        Strands::Both => forms::put_file(alloc, reader, forms, settings, writers, &mut notes, sums),
+        Strands::Both => match recorder {
+            Some(recorder) => put_records(alloc, reader, true, recorder, writers, &mut notes, sums),
+            None => Err(Failed::NoMemory),
+        },
         Strands::One(reverse) => {
             let options = settings.options;
             strands::put_strand(alloc, reader, options, reverse, writers, &mut notes, sums)
@@ -146,10 +166,11 @@ fn mask_reader<R: BufRead>(
     name: &str,
     reader: &mut Watched<R>,
     request: &Request,
+    recorder: &mut Option<FormRecorder<'_, Masker>>,
     outs: &mut Outs,
 ) -> u8 {
     let refused = outs.sums.refused;
-    match put_reader(rt, reader, request, outs) {
+    match put_reader(rt, reader, request, recorder, outs) {
         Ok(()) => {
             if !reader.place.some & is_begin(request) {
                 saying::say(rt, name, "there is no record in it");
@@ -202,6 +223,7 @@ fn mask_input<R: BufRead + Drop>(
     name: &str,
     mut reader: R,
     request: &Request,
+    recorder: &mut Option<FormRecorder<'_, Masker>>,
     outs: &mut Outs,
 ) -> u8 {
     if is_begin(request) {
@@ -221,7 +243,7 @@ fn mask_input<R: BufRead + Drop>(
         place: Place::new(),
         most: most_bytes(request),
     };
-    mask_reader(rt, name, &mut reader, request, outs)
+    mask_reader(rt, name, &mut reader, request, recorder, outs)
 }
 
 // Masks the records of the file with this name; `-` is standard input.
@@ -229,6 +251,7 @@ fn mask_file(
     rt: &HostRuntime,
     name: &str,
     request: &Request,
+    recorder: &mut Option<FormRecorder<'_, Masker>>,
     outs: &mut Outs,
 ) -> std::io::Result<u8> {
     if name == "-" {
@@ -237,12 +260,12 @@ fn mask_file(
             _ => "standard input",
         };
         let reader = BufReader::with_capacity(rt.alloc(), ROOM, rt.stdin())?;
-        return Ok(mask_input(rt, shown, reader, request, outs));
+        return Ok(mask_input(rt, shown, reader, request, recorder, outs));
     }
     match File::open(rt, name) {
         Ok(file) => {
             let reader = BufReader::with_capacity(rt.alloc(), ROOM, file)?;
-            Ok(mask_input(rt, name, reader, request, outs))
+            Ok(mask_input(rt, name, reader, request, recorder, outs))
         }
         Err(e) => {
             saying::say_error(rt, name, e);
@@ -258,9 +281,14 @@ fn mask_files(
     request: &Request,
     outs: &mut Outs,
 ) -> std::io::Result<u8> {
+    let mut forms = Vec::new(rt.alloc());
+    for form in &outs.forms {
+        forms.push(*form)?;
+    }
+    let mut recorder = recorder_of(rt, forms.as_slice(), request);
     let mut status = DONE;
     for name in names {
-        status = status.max(mask_file(rt, name, request, outs)?);
+        status = status.max(mask_file(rt, name, request, &mut recorder, outs)?);
         if FAILED <= status {
             break;
         }

@@ -1,4 +1,4 @@
-// The program: the command line, a plan of it or the files, and a status. What is written for a file is `forms::put_file`'s.
+// The program: the command line, a plan of it or the files, and a status. What is written for a file is said by `forms::FormRecorder`.
 
 #![tactic(auto)]
 
@@ -75,9 +75,28 @@ fn write_plan(
     }
 }
 
+// The first word that asks for help or for the version, wherever it stands before a `--`.
+fn asked(words: &[String]) -> Option<&'static str> {
+    for word in words {
+        match word.as_str() {
+            "--" => return None,
+            "--help" => return Some("--help"),
+            "--version" => return Some("--version"),
+            _ => {}
+        }
+    }
+    None
+}
+
 // The status of a run with these words; with a file for its plan, the plan alone is made.
 fn run_words(rt: &HostRuntime, words: &[String], plan: Option<&str>) -> anyhow::Result<u8> {
     let alloc = rt.alloc();
+    if let Some(word) = asked(words) {
+        return match command::command(alloc)?.try_get_matches_from(&["cisternpea", word]) {
+            Ok(_) => Ok(files::DONE),
+            Err(error) => Ok(saying::say_parse(rt, error)),
+        };
+    }
     let matches = match command::command(alloc)?.try_get_matches_from(words) {
         Ok(matches) => matches,
         Err(error) => return Ok(saying::say_parse(rt, error)),

@@ -91,7 +91,7 @@ fn add_forms(
     Ok(number)
 }
 
-// An option of the masker as it was given, or by its default.
+// An option of the masker as it was given last, or by its default.
 fn add_option(
     alloc: Global,
     text: &mut Vec<u8>,
@@ -99,7 +99,7 @@ fn add_option(
     matches: &ArgMatches<'_>,
     name: &str,
 ) -> Result<(), AllocError> {
-    if let Some(value) = matches.get_str(name) {
+    if let Some(value) = matches.get_raw(name).unwrap_or(&[]).last() {
         let words = format!(in alloc; "--{name}={value}")?;
         add_line(text, what, words.as_bytes())?;
     }

@@ -61,20 +61,22 @@ fn wrong(rt: &HostRuntime, name: &str, value: &str, need: &str) {
     let _ = eprintln!(rt; "cisternpea: --{name} {value}: it must be {need}");
 }
 
-// An option's whole number from low to high.
+// An option's whole number from low to high: the last one that is given, where each is right.
 fn number(rt: &HostRuntime, matches: &ArgMatches, name: &str, low: u64, high: u64) -> Option<u64> {
-    let text = matches.get_str(name)?;
-    let number = whole(text, low, high);
-    if number.is_none() {
-        let _ = eprintln!(rt;
-            "cisternpea: --{name} {text}: it must be a whole number from {low} to {high}"
-        );
+    let mut last = None;
+    for text in matches.get_raw(name)? {
+        last = whole(text, low, high);
+        if last.is_none() {
+            let _ = eprintln!(rt;
+                "cisternpea: --{name} {text}: it must be a whole number from {low} to {high}"
+            );
+            return None;
+        }
     }
-    number
+    last
 }
 
-fn threshold(rt: &HostRuntime, matches: &ArgMatches) -> Option<f64> {
-    let text = matches.get_str("score-threshold")?;
+fn threshold_of(rt: &HostRuntime, text: &str) -> Option<f64> {
     match fraction(text) {
         Some(x) if 0.0 < x => Some(x),
         _ => {
@@ -84,8 +86,16 @@ fn threshold(rt: &HostRuntime, matches: &ArgMatches) -> Option<f64> {
     }
 }
 
-fn gc(rt: &HostRuntime, matches: &ArgMatches) -> Option<GcOption> {
-    let text = matches.get_str("gc")?;
+// The last one, where each is right; so below.
+fn threshold(rt: &HostRuntime, matches: &ArgMatches) -> Option<f64> {
+    let mut last = None;
+    for text in matches.get_raw("score-threshold")? {
+        last = Some(threshold_of(rt, text)?);
+    }
+    last
+}
+
+fn gc_of(rt: &HostRuntime, text: &str) -> Option<GcOption> {
     if text == "uniform" {
         return Some(GcOption::Uniform);
     }
@@ -101,8 +111,15 @@ fn gc(rt: &HostRuntime, matches: &ArgMatches) -> Option<GcOption> {
     }
 }
 
-fn xdrop(rt: &HostRuntime, matches: &ArgMatches) -> Option<Option<u32>> {
-    let text = matches.get_str("xdrop")?;
+fn gc(rt: &HostRuntime, matches: &ArgMatches) -> Option<GcOption> {
+    let mut last = None;
+    for text in matches.get_raw("gc")? {
+        last = Some(gc_of(rt, text)?);
+    }
+    last
+}
+
+fn xdrop_of(rt: &HostRuntime, text: &str) -> Option<Option<u32>> {
     if text == "none" {
         return Some(None);
     }
@@ -118,6 +135,14 @@ fn xdrop(rt: &HostRuntime, matches: &ArgMatches) -> Option<Option<u32>> {
             None
         }
     }
+}
+
+fn xdrop(rt: &HostRuntime, matches: &ArgMatches) -> Option<Option<u32>> {
+    let mut last = None;
+    for text in matches.get_raw("xdrop")? {
+        last = Some(xdrop_of(rt, text)?);
+    }
+    last
 }
 
 fn masker_options(rt: &HostRuntime, matches: &ArgMatches) -> Option<LongdustOptions> {
@@ -154,19 +179,15 @@ fn settings(rt: &HostRuntime, matches: &ArgMatches) -> Option<Settings> {
 
 // An option that may be left out: its number, as `read` reads it.
 fn threads(rt: &HostRuntime, matches: &ArgMatches) -> Option<Option<u64>> {
-    if matches.get_str("threads").is_none() {
+    if matches.get_raw("threads").is_none() {
         return Some(None);
     }
     Some(Some(number(rt, matches, "threads", 1, 1024)?))
 }
 
-fn memory(rt: &HostRuntime, matches: &ArgMatches) -> Option<Option<u64>> {
-    let text = match matches.get_str("memory") {
-        Some(text) => text,
-        None => return Some(None),
-    };
+fn memory_of(rt: &HostRuntime, text: &str) -> Option<u64> {
     match command_line::size(text.as_bytes()) {
-        Some(n) if 1 <= n => Some(Some(n)),
+        Some(n) if 1 <= n => Some(n),
         _ => {
             wrong(
                 rt,
@@ -177,6 +198,14 @@ fn memory(rt: &HostRuntime, matches: &ArgMatches) -> Option<Option<u64>> {
             None
         }
     }
+}
+
+fn memory(rt: &HostRuntime, matches: &ArgMatches) -> Option<Option<u64>> {
+    let mut last = None;
+    for text in matches.get_raw("memory").unwrap_or(&[]) {
+        last = Some(memory_of(rt, text)?);
+    }
+    Some(last)
 }
 
 fn asked_part<'a>(rt: &HostRuntime, matches: &ArgMatches<'a>) -> Option<Option<Part<'a>>> {

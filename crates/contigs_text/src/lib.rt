@@ -6,7 +6,7 @@ mod lines;
 mod listing;
 mod printing;
 
-pub use printing::{print_file, print_limited};
+pub use printing::{LIMITS, print_file, print_limited};
 
 /// The most that is taken.
 #[derive(Clone, Copy)]

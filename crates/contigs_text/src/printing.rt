@@ -13,7 +13,8 @@ use masker::Masker;
 use std::alloc::Global;
 use std::io::{Error, ErrorKind, Read, Result as IoResult, Write};
 
-const LIMITS: Limits = Limits {
+/// The limits of `contigs`.
+pub const LIMITS: Limits = Limits {
     bytes: 65536,
     letters: 32768,
 };

@@ -1,6 +1,6 @@
 // The forms, and the masker that writes some of them.
 
-ghost use Rattle.std.specs.Prelude.{◌≡◌, ◌≤◌, true, map, length, IfSome};
+ghost use Rattle.std.specs.Prelude.{◌≡◌, ◌≤◌, true, map, length, IfSome, IfOk};
 ghost use Rattle.fasta.specs.Lines.{name_of};
 ghost use Rattle.entries.specs.Held.{entry_of};
 ghost use Rattle.entries.specs.Outcome.{Sent, AllSent, Recorded, Outcome};
@@ -23,7 +23,7 @@ use longdust::LongdustOptions;
 use masked_copy::Masking;
 use masker::{Maker, Masker};
 use ranking::Wanted;
-use std::alloc::Global;
+use std::alloc::{AllocError, Global};
 use std::io::{BufRead, Result as IoResult, Write};
 
 /// What is written for each record.
@@ -160,6 +160,27 @@ pub struct FormRecorder<'a, M: Maker> {
     pub room: Room,
 }
 
+impl<'a> FormRecorder<'a, Masker> {
+    /// For any number of files, one after the other: the tables are filled once. Fails where there is no memory for them.
+    pub fn new(alloc: Global, forms: &'a [Form], settings: Settings) -> Result<Self, AllocError>
+        ensures forms { IfOk result (λ r. r.forms.now ≡ forms.now) }
+        ensures options { IfOk result (λ r. r.masker.options ≡ settings.options) }
+        ensures skip_short { IfOk result (λ r. r.skip_short ≡ settings.skip_short) }
+        ensures min_length { IfOk result (λ r. r.min_length ≡ settings.min_length) }
+    {
+        let masker = Masker::new(alloc, settings.options)?;
+        Ok(FormRecorder {
+            forms,
+            masker,
+            skip_short: settings.skip_short,
+            min_length: settings.min_length,
+            list: Vec::new(alloc),
+            marks: Vec::new(alloc),
+            room: Room::new(alloc),
+        })
+    }
+}
+
 // Whether a refused record may pass without a mask.
 fn passes(skip: bool, refusal: Refusal) -> bool
     ensures { result ≡ passes skip (number refusal) }
@@ -224,18 +245,9 @@ pub fn put_file<R: BufRead, W: Write, N: Write>(
     ensures { IfSome (R.remaining reader.old) (λ file. Outcome true (report_of forms.now settings) file (map (λ w. W.contents w) outs.old)
         (map (λ w. W.contents w) outs.new) (N.contents notes.old) (N.contents notes.new) sums.old sums.new result) }
 {
-    let masker = match Masker::new(alloc, settings.options) {
-        Ok(masker) => masker,
+    let mut recorder = match FormRecorder::new(alloc, forms, settings) {
+        Ok(recorder) => recorder,
         Err(_) => return Err(Failed::NoMemory),
-    };
-    let mut recorder = FormRecorder {
-        forms,
-        masker,
-        skip_short: settings.skip_short,
-        min_length: settings.min_length,
-        list: Vec::new(alloc),
-        marks: Vec::new(alloc),
-        room: Room::new(alloc),
     };
     put_records(alloc, reader, true, &mut recorder, outs, notes, sums)
 }

@@ -31,6 +31,6 @@ pub extern "C" fn longdust_refusal_text(number: u32, text: &mut [u8]) -> i64
     if text.len() < words.len() {
         return minus_number(Refusal::ShortSlice);
     }
-    text[..words.len()].copy_from_slice(words);
+    masked_copy::copy_letters(words, text);
     words.len() as i64
 }

@@ -6,6 +6,7 @@ use Rattle.std.proofs.lemmas.List.Edits.{map_over_more}
 use Rattle.std.proofs.lemmas.List.{get_or_default}
 use borrow.Rule.Slice.PartMut.{put_mid}
 use Rattle.buffers.proofs.At.{default_free}
+use Rattle.buffers.proofs.Filling.{part, part_turn, part_end}
 use Rattle.buffers.proofs.Tabulate.{tabulate_length, tabulate_at}
 use Rattle.intervals.specs.declared.Interval.{Interval}
 use Rattle.intervals.specs.Interval.{interval, covered}
@@ -167,6 +168,12 @@ pub letter_masked : (m : Masking) (s l : List ℕ) (i v : ℕ) → i < length s 
     → set l i v ≡ map (shown m) (take (i + 1) s) ++ drop (i + 1) s
 letter_masked m s l i v h e q = let k : length l ≡ length s = ap length e ∙ omega (arith, length-append (map (shown m) (take i s)) (drop i s), length-map (take i s) (shown m), length-take-le i s, length-drop i s) in
     rw q (map_over_more (shown m) s l i (get_or l i 0) h e (get_or_default l i 0 (get_or l i 0) (omega arith)))
+
+-- A loop that copies the letters s over the front of d, which is then l.
+pub letter_copied : (s d l : List ℕ) (i v : ℕ) → i < length s → length s ≤ length d → l ≡ part s d i → v ≡ get_or s i 0 → set l i v ≡ part s d (i + 1)
+letter_copied s d l i v h fits e q = part_turn s d l i 0 v e h fits q
+
+pub ruleset of_letters = (letter_copied, part_end)
 
 pub ruleset of_part = (letter_masked)
 

@@ -19,7 +19,8 @@ use Rattle.longdust.specs.Checks.{refusal}
 use Rattle.longdust.specs.Mask.{mask, mask_by}
 use Rattle.longdust.specs.Buffers.{lent_sizes}
 use Rattle.short_sequences.specs.Tallies.{short_options, refusal_of, mask_of, is_refused, masked_letters}
-use Rattle.short_sequences.specs.Terms.Outcome.{Filled, outcome_of}
+use Rattle.short_sequences.specs.Run.{Filled}
+use Rattle.short_sequences.specs.Terms.Outcome.{outcome_of}
 
 -- For uniform GC the tables do not go by the sequence.
 same_density : (s : List ℕ) → density 1 short_options.gc s ≡ uniform 1

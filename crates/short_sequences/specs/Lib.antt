@@ -1,3 +1,4 @@
 pub mod Sequences
 pub mod Tallies
+pub mod Run
 pub mod Terms

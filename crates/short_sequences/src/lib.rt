@@ -9,7 +9,8 @@ ghost use Rattle.short_sequences.specs.Tallies.{short_options, refusal_of, mask_
 ghost use Rattle.buffers.specs.Fill.{put};
 ghost use Rattle.checks.specs.Refusal.{number_of, count_by, count_unless};
 ghost use Rattle.short_sequences.specs.declared.Tallied.{Tallied};
-ghost use Rattle.short_sequences.specs.Terms.Outcome.{letter_at, Filled, Short, outcome_of, counted, one_if_refused};
+ghost use Rattle.short_sequences.specs.Run.{Filled, Short};
+ghost use Rattle.short_sequences.specs.Terms.Outcome.{letter_at, outcome_of, counted, one_if_refused};
 
 use checks::{Refusal, below_sum};
 use intervals::Interval;
@@ -102,9 +103,13 @@ fn short_options() -> LongdustOptions
     }
 }
 
-// Masks the letters by filled tables, in work buffers that have exactly the paper's sizes for 8 letters.
-// The intervals go to the front of the list; returns their number.
-fn mask_letters(letters: &[u8], tables: &Tables, list: &mut [Interval]) -> Result<usize, Refusal>
+/// Masks at most 8 letters by filled tables for k = 1 and w = 8, in work buffers that have exactly the paper's sizes for 8 letters.
+/// The intervals go to the front of the list, which has 4 entries; returns their number, or refusal 2, 3 or 13.
+pub fn mask_letters(
+    letters: &[u8],
+    tables: &Tables,
+    list: &mut [Interval],
+) -> Result<usize, Refusal>
     requires { Short letters.now tables.now.ln.now tables.now.f.now list.old }
     ensures refusal { number_of result ≡ refusal_of letters.now }
     ensures list { IfOk result (Wrote (mask_of letters.now) list.old list.new) }

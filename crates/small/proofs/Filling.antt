@@ -20,7 +20,8 @@ use Rattle.longdust.specs.Mask.{mask}
 use Rattle.longdust.proofs.Agreeing.{mask_agree}
 use Rattle.small.specs.Profile.{not_uniform}
 use Rattle.small.specs.Call.{filled_mask}
-use Rattle.small.specs.Terms.Run.{Asked, Serve}
+use Rattle.small.specs.Run.{Asked}
+use Rattle.small.specs.Terms.Run.{Serve}
 use Rattle.small.proofs.Profile.{window_some, twice}
 use Rattle.small.proofs.Profile.{kmer_fits, window_fits}
 

@@ -14,7 +14,7 @@ use Rattle.longdust.specs.Checks.{refusal as call_refusal}
 use Rattle.longdust.specs.Terms.Inner.{Bounds, Enough}
 use Rattle.longdust.proofs.Accept.{admitted}
 use Rattle.small.specs.Profile.{not_uniform, outside, checks, refusal}
-use Rattle.small.specs.Terms.Run.{lent, Asked}
+use Rattle.small.specs.Run.{lent, Asked}
 use Rattle.checks.proofs.Passing.{passes}
 
 uniform_passes : (gc : GcOption) → not_uniform gc ≡ false → gc_bad gc ≡ false

@@ -23,7 +23,7 @@ use Rattle.longdust.specs.Mask.{setup, mask}
 use Rattle.mask.specs.Mask.{mask_of}
 use Rattle.small.specs.Bytes.{bytes_of}
 use Rattle.small.specs.Call.{filled_mask}
-use Rattle.small.specs.Terms.Run.{Asked}
+use Rattle.small.specs.Run.{Asked}
 use Rattle.small.specs.Terms.Quiet.{Few, Counting}
 use Rattle.small.proofs.Profile.{window_some}
 use Rattle.small.proofs.Profile.{kmer_fits, kmers_fit, letters_fit, twice}

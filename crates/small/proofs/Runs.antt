@@ -16,7 +16,7 @@ use Rattle.longdust.specs.Buffers.{Buffers}
 use Rattle.longdust.specs.Call.{ln_read, f_read, listed, Filled, Answered}
 use Rattle.small.specs.Profile.{refusal as small_refusal}
 use Rattle.small.specs.Call.{filled_mask}
-use Rattle.small.specs.Terms.Run.{Ran}
+use Rattle.small.specs.Run.{Ran}
 use Rattle.small.proofs.Profile.{output_room}
 
 -- The mask by the tables that the filling call fills, whatever its buffers are.

@@ -1,4 +1,5 @@
 pub mod Profile
 pub mod Bytes
 pub mod Call
+pub mod Run
 pub mod Terms

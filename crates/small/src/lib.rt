@@ -9,7 +9,8 @@ ghost use Rattle.small.specs.Profile.{not_uniform, outside, refusal};
 ghost use Rattle.small.specs.Bytes.{bytes_of, pair_bytes};
 ghost use Rattle.checks.specs.Refusal.{number_of, count_of, count_unless};
 ghost use Rattle.small.specs.Call.{filled_mask};
-ghost use Rattle.small.specs.Terms.Run.{Asked, Serve, Ran};
+ghost use Rattle.small.specs.Run.{Asked, Ran};
+ghost use Rattle.small.specs.Terms.Run.{Serve};
 
 mod quiet;
 
@@ -125,8 +126,9 @@ fn fill_read(letters: &[u8], options: LongdustOptions, ln: &mut [f64], f: &mut [
     tables::fill_uniform(ln, f, k, w);
 }
 
-// Masks the letters by tables of its own, filled as far as they are read; the intervals go to the front of the list. Answers how many there are.
-fn mask_letters(letters: &[u8], options: LongdustOptions, list: &mut [Interval]) -> usize
+/// Masks the letters by tables of its own, filled as far as they are read; the intervals go to the front of the list, which has 2,048 entries.
+/// Returns how many there are. The request is one that `write_mask` accepts; it needs 220 KB of stack.
+pub fn mask_letters(letters: &[u8], options: LongdustOptions, list: &mut [Interval]) -> usize
     requires asked { Asked options letters.now }
     requires list_len { length list.old ≡ 2048 }
     ensures { Ran options letters.now list.old list.new result }

@@ -3,7 +3,7 @@
 ghost use Rattle.std.specs.Prelude.{◌≡◌, true, false, [], ◌^◌, ◌≤◌, ◌<◌, length};
 ghost use Rattle.letters.specs.Place.{places};
 ghost use Rattle.small.specs.Call.{filled_mask};
-ghost use Rattle.small.specs.Terms.Run.{Asked};
+ghost use Rattle.small.specs.Run.{Asked};
 ghost use Rattle.small.specs.Terms.Quiet.{Few};
 
 use crate::MOST_LETTERS;

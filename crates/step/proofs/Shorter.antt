@@ -1,5 +1,5 @@
 -- Tables in range: a stretch that a run finds by a scan has no better shorter one from the same first place.
-use Rattle.std.proofs.Common.{◌≡◌, sym, subst, ℕ, suc, ◌+◌, arith, Bool, true, false, cond, not, ◌&&◌, List, ◌∷◌, length, drop, length-drop, T}
+use Rattle.std.proofs.Common.{◌≡◌, sym, ap, ◌∙◌, subst, ℕ, suc, ◌+◌, ◌-◌, pos, arith, Bool, true, false, cond, not, ◌&&◌, List, ◌∷◌, length, drop, length-drop, T}
 use Rattle.letters.specs.Place.{Place, plain, Below}
 use Rattle.scans.specs.Setup.{Setup, kmers}
 use Rattle.scans.specs.Counts.{raise}
@@ -7,8 +7,9 @@ use Rattle.scans.specs.Score.{stretch, NoBetterShorter}
 use Rattle.scans.specs.Scans.{none, at, Outcome, extends, if_backward, dust_backward}
 use Rattle.scans.proofs.Gain.{InRange}
 use Rattle.scans.proofs.Shorter.{scan_no_better_shorter}
-use Rattle.step.specs.Step.{Run, extend_tried, search, run}
+use Rattle.step.specs.Step.{Run, extend_tried, search, first_letter, run}
 use Rattle.step.specs.ScanFind.{looked_from, FoundByScan}
+use Rattle.step.proofs.Shape.{first_is}
 use Rattle.step.proofs.Placing.{Placed, placed_below, placed_stretch, joined_placed, run_placed}
 
 -- A find without an extension is the backward scan's.
@@ -21,6 +22,12 @@ by_scan S i a x j t e =
     go true back o r t e = absurd t
     go false true o r t e = e
     go false false o r t e = let z : ◌≡◌ {A = ℕ} 0 1 = cc in absurd (omega arith)
+
+-- The run takes its letters from first - (k - 1) on, or from 0.
+pub found_start : (S : Setup) (ps : List Place) (first size : ℕ) (f : FoundByScan S ps first size)
+    → first_letter S.kmer (length f.before) (length f.state.window) f.index ≡ pos (first + 1 - S.kmer)
+found_start S ps first size f =
+    first_is S.kmer (length f.before) (length f.state.window) f.index ∙ ap pos (omega (arith, f.size_is, f.first_is))
 
 pub found_no_better_shorter : (S : Setup) → InRange S → (ps : List Place) → Below (kmers S) ps → (first size : ℕ) → FoundByScan S ps first size → NoBetterShorter S (stretch ps first size)
 unfolding looked_from

@@ -83,7 +83,7 @@ density_reverse_complement k Auto s = ap (by_gc k) (gc_reverse_complement s)
 -- The laws by which `fill_ln` is proved.
 pub ruleset ln_filled = (ln_stored, part_end, ln_table_length)
 
--- The laws by which `fill_f` is proved.
+-- The laws by which `fill_f_of` is proved.
 pub ruleset f_filled = (f_stored, part_end, f_table_length, ln_taken, ln_lent)
 
 -- The laws by which `fill_tables` is proved.

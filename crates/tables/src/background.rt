@@ -6,21 +6,30 @@ ghost use Rattle.tables.specs.Density.{thirteen, ratio_at, count_at, uniform, by
 use crate::exponential::powi;
 use crate::{Density, GcOption};
 
-// The class of `calculate_f`: all k-mers, each expected 1 in 4^k times.
+// No class, which the functions below set.
+pub fn no_classes() -> Density
+    ensures { result.classes ≡ 0 }
+{
+    Density {
+        ratio: [0.0f64; 13],
+        count: [0.0f64; 13],
+        classes: 0,
+    }
+}
+
+// Sets the class of `calculate_f`: all k-mers, each expected 1 in 4^k times.
 #[tactic(auto, using(crate::proofs::Densities::made))]
-fn calculate_f(k: usize) -> Density
+fn calculate_f(k: usize, d: &mut Density)
     requires { k ≤ 12 }
-    ensures { result ≡ uniform k }
+    ensures { d.new ≡ uniform k }
 {
     let mut ratio = [0.0f64; 13];
     let mut count = [0.0f64; 13];
     ratio[0] = 1.0;
     count[0] = std::num::nearest_u64_to_f64(letters::n_kmers(k) as u64);
-    Density {
-        ratio,
-        count,
-        classes: 1,
-    }
+    d.ratio = ratio;
+    d.count = count;
+    d.classes = 1;
 }
 
 // For i letters C or G, how much more often than 1 in 4^k such a k-mer is expected.
@@ -51,30 +60,36 @@ fn counts(k: usize) -> [f64; 13]
     count
 }
 
-// The classes of `calculate_f_gc`: one for each number of letters C or G.
+// Sets the classes of `calculate_f_gc`: one for each number of letters C or G.
 #[tactic(auto, using(crate::proofs::Densities::made))]
-fn calculate_f_gc(k: usize, gc: f64) -> Density
+fn calculate_f_gc(k: usize, gc: f64, d: &mut Density)
     requires { k ≤ 12 }
-    ensures { result ≡ by_gc k gc }
+    ensures { d.new ≡ by_gc k gc }
 {
-    let ratio = ratios(k, gc);
-    let count = counts(k);
-    Density {
-        ratio,
-        count,
-        classes: k + 1,
+    d.ratio = ratios(k, gc);
+    d.count = counts(k);
+    d.classes = k + 1;
+}
+
+// Sets the classes of k-mers for a GC choice in place: with no copy of them the C archive needs no `memcpy` from outside.
+#[tactic(auto, unfolding(crate::specs::Density::density))]
+pub fn set_classes(k: usize, gc: GcOption, codes: &[u8], d: &mut Density)
+    requires { k ≤ 12 }
+    ensures { d.new ≡ density k gc codes.now }
+{
+    match gc {
+        GcOption::Uniform => calculate_f(k, d),
+        GcOption::Fixed(x) => calculate_f_gc(k, x, d),
+        GcOption::Auto => calculate_f_gc(k, letters::compute_gc_content(codes), d),
     }
 }
 
 /// The classes of k-mers for a GC choice; the codes count for GC auto alone.
-#[tactic(auto, unfolding(crate::specs::Density::density))]
 pub fn classes(k: usize, gc: GcOption, codes: &[u8]) -> Density
     requires { k ≤ 12 }
     ensures { result ≡ density k gc codes.now }
 {
-    match gc {
-        GcOption::Uniform => calculate_f(k),
-        GcOption::Fixed(x) => calculate_f_gc(k, x),
-        GcOption::Auto => calculate_f_gc(k, letters::compute_gc_content(codes)),
-    }
+    let mut d = no_classes();
+    set_classes(k, gc, codes, &mut d);
+    d
 }

@@ -80,10 +80,10 @@ fn f_class(lambda: f64, ln: LnTable) -> f64
 
 /// f at length l, in places: the score that so many places have by chance, over the classes of k-mers. 0.0 for l = 0.
 #[tactic(auto, using(crate::proofs::Terms::of_classes))]
-pub fn calculate_f_internal(k: usize, l: u32, d: Density, ln: LnTable) -> f64
+pub fn calculate_f_internal(k: usize, l: u32, d: &Density, ln: LnTable) -> f64
     requires k_bound { k ≤ 12 }
-    requires classes_bound { d.classes ≤ 13 }
-    ensures { result ≡ f_of k d l }
+    requires classes_bound { d.now.classes ≤ 13 }
+    ensures { result ≡ f_of k d.now l }
 {
     if l == 0 {
         return 0.0;

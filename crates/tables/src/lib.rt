@@ -53,7 +53,6 @@ pub fn fill_ln(ln: &mut [f64], w: usize)
 }
 
 /// Writes f of l places for l = 0 .. w + 1 to the front of `f`, w + 2 entries, by the classes; `ln` is filled up to w.
-#[tactic(auto, using(crate::proofs::Tables::f_filled))]
 pub fn fill_f(f: &mut [f64], ln: &[f64], k: usize, w: usize, d: Density)
     requires k_bound { k ≤ 12 }
     requires w_bound { w ≤ 65535 }
@@ -61,6 +60,19 @@ pub fn fill_f(f: &mut [f64], ln: &[f64], k: usize, w: usize, d: Density)
     requires f_room { w + 2 ≤ length f.old }
     requires ln_filled { take (w + 1) ln.now ≡ ln_table w }
     ensures { f.new ≡ put (f_table k w d) f.old }
+{
+    fill_f_of(f, ln, k, w, &d);
+}
+
+// The same by classes that are lent, so that no copy of them is made.
+#[tactic(auto, using(crate::proofs::Tables::f_filled))]
+fn fill_f_of(f: &mut [f64], ln: &[f64], k: usize, w: usize, d: &Density)
+    requires k_bound { k ≤ 12 }
+    requires w_bound { w ≤ 65535 }
+    requires classes_bound { d.now.classes ≤ 13 }
+    requires f_room { w + 2 ≤ length f.old }
+    requires ln_filled { take (w + 1) ln.now ≡ ln_table w }
+    ensures { f.new ≡ put (f_table k w d.now) f.old }
 {
     let ln = LnTable {
         entries: &ln[..w + 1],
@@ -81,7 +93,9 @@ pub fn fill_tables(ln: &mut [f64], f: &mut [f64], k: usize, w: usize, gc: GcOpti
     ensures f_after { f.new ≡ put (f_table k w (density k gc codes.now)) f.old }
 {
     fill_ln(ln, w);
-    fill_f(f, ln, k, w, classes(k, gc, codes));
+    let mut d = background::no_classes();
+    background::set_classes(k, gc, codes, &mut d);
+    fill_f_of(f, ln, k, w, &d);
 }
 
 /// Fills both tables for uniform GC, whose one class no letter changes.

@@ -9,4 +9,6 @@ returns-in-Err g c =
     (going_start (report_of c.args.forms.now c.args.settings) true _ _ _ (g.R.Read.remaining c.args.reader.now))
 
 pub returns : goal.returns
-returns g c = rw c.in-Ok.ensures at c.put_records.ensures.outcome
+returns g c =
+    let made = c.in-Ok.ensures in
+    rw (made.forms, made.options, made.skip_short, made.min_length) at c.put_records.ensures.outcome
