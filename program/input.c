@@ -4,7 +4,7 @@
 #include "driver.h"
 
 const char *input_name, *input_fault;
-uint64_t bytes_read;
+uint64_t input_size, bytes_read;
 static int file;
 static uint8_t raw[CHUNK];
 static z_stream z; /* its input, in raw, is what is read and not yet taken */
@@ -14,6 +14,12 @@ static uint8_t extra[3];
 static bool block, empty; /* the last member is a block of bgzip; it has no bytes */
 
 static bool is_gzip(const uint8_t *bytes) { return bytes[0] == 0x1f && bytes[1] == 0x8b; }
+
+void find_size(void) {
+    struct stat kind;
+    for (size_t i = 0; i < plan.inputs_len; i++)
+        if (tell(plan.inputs[i], STDIN_FILENO, &kind) && S_ISREG(kind.st_mode)) input_size += (uint64_t)kind.st_size;
+}
 
 bool is_plain(const char *path) {
     uint8_t first[2] = {0, 0};

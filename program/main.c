@@ -25,7 +25,7 @@ static void become_proved(int argc, char **argv) {
     char memory[32], **words = calloc((size_t)argc + 2, sizeof *words);
     if (words == NULL) fail(FAILED, "no memory");
     snprintf(memory, sizeof memory, "--memory=%" PRIu64, plan.memory);
-    words[0] = argv[0];
+    words[0] = NAME;
     words[1] = memory;
     memcpy(words + 2, argv + 1, (size_t)argc * sizeof *words); /* and the null behind them */
     signal(SIGXFSZ, SIG_IGN); /* a file that grows too large is an error, with its message and status */
@@ -52,14 +52,16 @@ int main(int argc, char **argv) {
     check_processor();
     read_plan(argc, argv);
     refuse_own_input();
-    if (no_output && plan.outputs[0] == NULL) fail(FAILED, "cannot write: %s", strerror(EBADF));
+    if (no_output && plan.standard && plan.outputs[0] == NULL) fail(FAILED, "cannot write: %s", strerror(EBADF));
     size_workers();
     if (needs_no_driver()) become_proved(argc, argv);
     check_memory();
+    find_size();
     hold_signals();
     begin_progress();
     open_outputs();
     for (size_t i = 0; i < plan.inputs_len; i++) read_file(plan.inputs[i]);
+    end_files();
     drain();
     if (plan.numbers) run_last();
     keep_outputs();

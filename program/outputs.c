@@ -4,7 +4,7 @@
 
 #include "driver.h"
 
-int numbers;
+struct batch *numbers;
 static struct {
     int file;
     char *path, *beside; /* null for standard output, numbers and what is no file */
@@ -59,7 +59,7 @@ void open_outputs(void) {
     outputs[0].file = STDOUT_FILENO;
     for (size_t i = 0; i < named; i++)
         if (plan.outputs[i] != NULL) open_output(i, plan.outputs[i]);
-    if (plan.numbers) outputs[named].file = numbers = memfd_create("numbers", MFD_CLOEXEC);
+    if (plan.numbers) numbers = new_batch(NULL, 0);
     for (size_t i = 0; i < named; i++)
         if (plan.heads[i] != NULL) put_output(i, plan.heads[i], strlen(plan.heads[i]));
 }
@@ -92,6 +92,11 @@ static void cut(size_t length) {
     if (ftruncate(STDOUT_FILENO, here - (off_t)length) != 0) say("the end of the output may be half a record");
 }
 
+void cut_output(int64_t place) {
+    off_t here = lseek(STDOUT_FILENO, 0, SEEK_CUR);
+    if (place >= 0 && here > place) cut((size_t)(here - place));
+}
+
 static void put_whole(size_t i, const char *bytes, size_t length) {
     size_t done = put(outputs[i].file, bytes, length);
     int error = errno;
@@ -111,6 +116,10 @@ static void put_block(size_t i) {
 }
 
 void put_output(size_t i, const char *bytes, size_t length) {
+    if (i == plan.outputs_len - plan.numbers) {
+        hold(numbers, bytes, length);
+        return;
+    }
     if (outputs[i].block == NULL) {
         put_whole(i, bytes, length);
         return;
@@ -130,7 +139,7 @@ void keep_outputs(void) {
         if (outputs[i].length > 0) put_block(i);
         if (outputs[i].block != NULL) put_block(i);
     }
-    for (size_t i = 0; i < plan.outputs_len; i++) {
+    for (size_t i = 0; i < plan.outputs_len - plan.numbers; i++) {
         bool kept = close(outputs[i].file) == 0;
         if (kept && outputs[i].beside != NULL) kept = rename(outputs[i].beside, outputs[i].path) == 0;
         if (!kept) fail(FAILED, "%s: %s", plan.outputs[i] == NULL ? "cannot write" : plan.outputs[i], strerror(errno));

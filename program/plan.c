@@ -13,13 +13,28 @@ static void find_worker(void) {
     worker = path;
 }
 
+/* All that comes from a pipe, and a zero byte. */
+static char *read_all(int pipe, size_t *length) {
+    char *text = NULL;
+    for (size_t room = 4096;; room *= 2) {
+        if ((text = realloc(text, room + 1)) == NULL) fail(FAILED, "no memory");
+        while (*length < room) {
+            ssize_t got = read(pipe, text + *length, room - *length);
+            if (got < 0 && errno == EINTR) continue;
+            if (got > 0) *length += (size_t)got;
+            text[*length] = 0;
+            if (got <= 0) return text;
+        }
+    }
+}
+
 /* Runs `cisternpea-proved --plan FILE WORD..`: what it wrote to the file; if that is nothing, this program ends too. */
 static char *ask(int argc, char **argv, size_t *length) {
     char **asked = calloc((size_t)argc + 3, sizeof *asked), name[32];
-    int file = memfd_create("plan", 0), status; /* not closed on exec: it is opened by its number */
-    if (asked == NULL || file < 0) fail(FAILED, "no memory");
-    snprintf(name, sizeof name, "/dev/fd/%d", file);
-    asked[0] = argv[0];
+    int ends[2], status;
+    if (asked == NULL || pipe(ends) != 0) fail(FAILED, "no memory or no files left"); /* opened by its number, so not closed */
+    snprintf(name, sizeof name, "/dev/fd/%d", ends[1]);
+    asked[0] = NAME;
     asked[1] = "--plan";
     asked[2] = name;
     memcpy(asked + 3, argv + 1, (size_t)argc * sizeof *asked); /* and the null behind them */
@@ -29,17 +44,23 @@ static char *ask(int argc, char **argv, size_t *length) {
         execv(worker, asked);
         _exit(127);
     }
+    close(ends[1]);
+    *length = 0;
+    char *text = read_all(ends[0], length);
+    close(ends[0]);
     while (pid > 0 && waitpid(pid, &status, 0) < 0 && errno == EINTR) {
     }
     if (pid < 0 || !WIFEXITED(status) || WEXITSTATUS(status) == 127) fail(FAILED, "cannot start %s", worker);
-    off_t size = lseek(file, 0, SEEK_END);
-    if (WEXITSTATUS(status) != 0 || size == 0) _exit(WEXITSTATUS(status)); /* it has said why, or helped */
-    char *text = calloc((size_t)size + 1, 1);
-    if (text == NULL || pread(file, text, (size_t)size, 0) != size) fail(FAILED, "no memory");
-    close(file);
+    if (WEXITSTATUS(status) != 0 || *length == 0) _exit(WEXITSTATUS(status)); /* it has said why, or helped */
     free(asked);
-    *length = (size_t)size;
     return text;
+}
+
+/* A form that has no file of its own ends in - behind its name or value. */
+static void take_word(char *word) {
+    size_t length = strlen(word);
+    if (length > 2 && word[length - 1] == '-' && strchr("=:", word[length - 2]) != NULL) plan.standard = true;
+    plan.words[plan.words_len++] = word;
 }
 
 /* Takes a line of the plan: a letter that says what it is, and the value. */
@@ -52,7 +73,7 @@ static void take_line(char kind, char *value) {
     else if (kind == 'q') plan.quiet = true;
     else if (kind == 'n') plan.numbers = true;
     else if (kind == 's') plan.strands = true;
-    else if (kind == 'w') plan.words[plan.words_len++] = value;
+    else if (kind == 'w') take_word(value);
     else if (kind == 'F') plan.last[plan.last_len++] = value;
     else if (kind == 'i') plan.inputs[plan.inputs_len++] = strcmp(value, "-") == 0 ? NULL : value;
     else if (kind == 'h') plan.heads[output] = value;
@@ -70,7 +91,7 @@ void read_plan(int argc, char **argv) {
     char **room = calloc(3 * (length + 8), sizeof *room);
     if (room == NULL) fail(FAILED, "no memory");
     plan = (struct plan){.words = room, .last = room + length + 8, .inputs = room + 2 * (length + 8), .outputs_len = 1};
-    plan.words[plan.words_len++] = plan.last[plan.last_len++] = argv[0];
+    plan.words[plan.words_len++] = plan.last[plan.last_len++] = NAME;
     for (char *line = text; line < text + length; line += strlen(line) + 1) take_line(*line, line + (*line != 0));
     if (plan.inputs_len == 0) fail(FAILED, "%s is of another version", worker);
     if (plan.numbers) plan.outputs_len++;
