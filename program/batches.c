@@ -3,17 +3,20 @@
 #include "driver.h"
 
 enum { SHARES = 4 }; /* batches for each thread at least, so that none waits long for the last ones */
+enum { TIMES = BATCH / 262144 }; /* the window in a batch at least */
 
 static struct batch *current, *gathered; /* of the file that is read; of whole files before it, or null */
 static uint8_t before; /* the byte before those that come next */
 static bool missing; /* a record is too large: its bytes are counted alone */
 static bool begun, blank; /* a record of the file has; all that came of it are line ends */
 
-/* Bytes of a batch: for several threads a share of what the input has at least. */
+/* Bytes of a batch: for several threads a share of what the input has at least, but many times the window, since each
+ * worker fills tables for that. */
 static uint64_t wanted(void) {
     uint64_t known = input_size > bytes_read ? input_size : bytes_read, share = known / (SHARES * parallel);
-    if (threads == 1 || share > batch_size) return batch_size;
-    return share < SMALLEST_BATCH ? SMALLEST_BATCH : share;
+    uint64_t least = plan.window * TIMES > SMALLEST_BATCH ? plan.window * TIMES : SMALLEST_BATCH;
+    if (share < least) share = least;
+    return threads > 1 && share < batch_size ? share : batch_size;
 }
 
 static void copy_bytes(struct batch *to, const struct batch *batch, uint64_t from, uint64_t end) {

@@ -32,6 +32,7 @@ enum { BLOCK = 65280, PACKED = 1 << 16 }; /* of bgzip: its text, and the most th
 /* What the proved program makes of the command line. */
 struct plan {
     uint64_t threads, memory; /* 0 if none is given */
+    uint64_t window; /* letters */
     uint64_t fixed, tenths; /* bytes that a worker holds, and tenths of a byte for each byte of its input */
     bool quiet, numbers; /* the last output is numbers, which the last run reads */
     bool named; /* an output is */

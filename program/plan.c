@@ -56,10 +56,11 @@ static char *ask(int argc, char **argv, size_t *length) {
     return text;
 }
 
-/* A form that has no file of its own ends in - behind its name or value. */
+/* Of a worker. A form that has no file of its own ends in - behind its name or value. */
 static void take_word(char *word) {
     size_t length = strlen(word);
     if (length > 2 && word[length - 1] == '-' && strchr("=:", word[length - 2]) != NULL) plan.standard = true;
+    sscanf(word, "--window-size=%" SCNu64, &plan.window);
     plan.words[plan.words_len++] = word;
 }
 
